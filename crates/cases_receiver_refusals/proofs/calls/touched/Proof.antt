@@ -1,0 +1,50 @@
+-- `touched` is safe and ends: the measure is the number of places that are left. Assumes nothing.
+use borrow.Author.Needs.{needs}
+use Prim.Native.Nat.{_-_}
+use Rattle.cases_receiver_refusals.proofs.calls.touched.Statement.{statement}
+use Rattle.cases_receiver_refusals.proofs.calls.touched.Tie as tie
+
+abbrev Inv-loop : tie.InvT-loop
+Inv-loop room from to count₀ i₀ count i = Unit {0}
+
+abbrev μ-loop : tie.MeasureT-loop
+μ-loop room from to count₀ i₀ count i = to - i
+
+loop-holds : tie.Need-loop-holds Inv-loop μ-loop
+loop-holds c = search needs
+
+mul-if2 : tie.Need-mul-if2 Inv-loop μ-loop
+mul-if2 c = search needs
+
+shared-slice-read-if2 : tie.Need-shared-slice-read-if2 Inv-loop μ-loop
+shared-slice-read-if2 c = search needs
+
+wrapping-add-u64-requires : tie.Need-wrapping-add-u64-requires Inv-loop μ-loop
+wrapping-add-u64-requires c κs = search needs
+
+add-i : tie.Need-add-i Inv-loop μ-loop
+add-i c = search needs
+
+loop-less : tie.Need-loop-less Inv-loop μ-loop
+loop-less c = search needs
+
+loop-again : tie.Need-loop-again Inv-loop μ-loop
+loop-again c = search needs
+
+returns : tie.Need-returns Inv-loop μ-loop
+returns c = search needs
+
+pub touched-spec : {M : Type 1} → statement M
+touched-spec =
+    tie.close
+    (tie.spec
+    Inv-loop
+    μ-loop
+    loop-holds
+    mul-if2
+    shared-slice-read-if2
+    wrapping-add-u64-requires
+    add-i
+    loop-less
+    loop-again
+    returns)

@@ -1,0 +1,34 @@
+-- `put_places` is safe and ends: the measure is the number of places that are left. Assumes nothing.
+use borrow.Author.Needs.{needs}
+use Prim.Native.Nat.{_-_}
+use Rattle.cases_refusals.proofs.put_places.Statement.{statement}
+use Rattle.cases_refusals.proofs.put_places.Tie as tie
+
+abbrev Inv-loop : tie.InvT-loop
+Inv-loop name value place₀ place = Unit {0}
+
+abbrev μ-loop : tie.MeasureT-loop
+μ-loop name value place₀ place = 8 - place
+
+loop-holds : tie.Need-loop-holds Inv-loop μ-loop
+loop-holds c = search needs
+
+put-place-requires : tie.Need-put-place-requires Inv-loop μ-loop
+put-place-requires c κs = search needs
+
+add-place : tie.Need-add-place Inv-loop μ-loop
+add-place c = search needs
+
+loop-less : tie.Need-loop-less Inv-loop μ-loop
+loop-less c = search needs
+
+loop-again : tie.Need-loop-again Inv-loop μ-loop
+loop-again c = search needs
+
+returns : tie.Need-returns Inv-loop μ-loop
+returns c = search needs
+
+pub put-places-spec : {M : Type 1} → statement M
+put-places-spec =
+    tie.close
+    (tie.spec Inv-loop μ-loop loop-holds put-place-requires add-place loop-less loop-again returns)

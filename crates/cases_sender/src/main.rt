@@ -1,0 +1,60 @@
+// Replays the list `sender`: reads the calls of its sessions, makes them on the sender, and writes each line again with the answer and what the sender keeps.
+mod answers;
+mod calls;
+
+use modulator::ModulatorFrame;
+use modulator::SoftModulator;
+
+fn answer(m: SoftModulator, line: &[u8]) -> SoftModulator {
+    let name = cases_text::word(line, 0);
+    if check::same(name, b"none") {
+        calls::provided(m, ModulatorFrame::Nothing, line)
+    } else if check::same(name, b"preamble") {
+        calls::preamble(m, line)
+    } else if check::same(name, b"symbols") {
+        calls::provided(m, ModulatorFrame::Symbols, line)
+    } else if check::same(name, b"end") {
+        calls::provided(m, ModulatorFrame::EndOfTransmission, line)
+    } else if check::same(name, b"read") {
+        calls::read(m, line)
+    } else if check::same(name, b"update") {
+        calls::updated(m, line)
+    } else if check::same(name, b"run") {
+        calls::ran(m)
+    } else if check::same(name, b"look") {
+        answers::put_window(m);
+        m
+    } else {
+        calls::windowed(m, line)
+    }
+}
+
+// A line that names a session starts afresh.
+fn answer_line(m: SoftModulator, line: &[u8]) -> SoftModulator {
+    io::write_all(1, line);
+    if check::same(cases_text::word(line, 0), b"session") {
+        cases_text::end_line();
+        return SoftModulator::new();
+    }
+    io::write_all(1, b" =");
+    let next = answer(m, line);
+    answers::put_kept(next);
+    cases_text::end_line();
+    next
+}
+
+fn replay(text: &[u8]) {
+    let mut m = SoftModulator::new();
+    let mut at: usize = 0;
+    while at < text.len() {
+        let end = bytes::scan::find(text, at, text.len(), b'\n');
+        m = answer_line(m, &text[at..end]);
+        at = end + 1;
+    }
+}
+
+fn main() {
+    let mut text = io::large_buffer();
+    let length = io::read_full(0, &mut text);
+    replay(&text[..length]);
+}

@@ -1,0 +1,45 @@
+// Writes the lists `taps`, `bursts` and `frames` from the port's tables.
+use protocol::Kind;
+use protocol::SyncBurst;
+
+fn put_tap(i: usize, tap: f32) {
+    io::print_decimal(1, i as u64);
+    cases_text::put_float(tap);
+    cases_text::end_line();
+}
+
+fn put_taps() {
+    let taps = shaping::rrc_48k();
+    for i in 0..81 {
+        put_tap(i, taps[i]);
+    }
+}
+
+fn put_burst(name: &[u8], burst: SyncBurst) {
+    io::write_all(1, name);
+    let signs = burst.target();
+    for i in 0..8 {
+        cases_text::put_signed(signs[i] as i16);
+    }
+    cases_text::end_line();
+}
+
+fn put_frame(name: &[u8], symbols: [f32; 192]) {
+    io::write_all(1, name);
+    for i in 0..192 {
+        cases_text::put_float(symbols[i]);
+    }
+    cases_text::end_line();
+}
+
+fn main() {
+    put_taps();
+    put_burst(b"preamble", SyncBurst::Preamble);
+    put_burst(b"end", SyncBurst::EndOfTransmission);
+    put_burst(b"lsf", SyncBurst::Frame(Kind::Lsf));
+    put_burst(b"bert", SyncBurst::Frame(Kind::Bert));
+    put_burst(b"stream", SyncBurst::Frame(Kind::Stream));
+    put_burst(b"packet", SyncBurst::Frame(Kind::Packet));
+    put_frame(b"preamble", encode::generate_preamble());
+    put_frame(b"end", encode::generate_end_of_transmission());
+}

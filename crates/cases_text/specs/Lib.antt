@@ -1,0 +1,3 @@
+-- What the cases read.
+pub mod Places
+pub mod Numbers

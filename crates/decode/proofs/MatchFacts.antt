@@ -1,0 +1,62 @@
+-- What the values of a match are worth: diff, gain and shift within limits, and the shift strictly between the lowest and the highest value as heard, since every burst has
+-- both signs. Assumes nothing.
+use mathlib.Core.Bool.{Bool, true, false}
+use Prim.Native.Nat.{ℕ, _≤_, _<_}
+use native.Mathlib.Omega.{arith}
+use lib.Dec.{T}
+use lib.Ieee.{Float, binary32, ofBits, lt, le}
+use Rattle.numbers.proofs.Order.{lt→le}
+use Rattle.numbers.proofs.Bounds.{within-between}
+use Rattle.protocol.specs.declared.SyncBurst.{SyncBurst}
+use Rattle.decode.specs.declared.Correlation.{Correlation}
+use Rattle.decode.specs.Correlator.{zero32, leastGain, threshold, highest, lowest, correlation, matches, inRange}
+use Rattle.decode.proofs.Direction.{Beyond, beyond-toward}
+use Rattle.decode.proofs.Side.{side-of}
+use Rattle.decode.proofs.Signs.{sign-held}
+use Rattle.decode.proofs.Opened.{heardAt, gainAt, shiftAt, Opened, opened}
+use Rattle.decode.proofs.Heard.{within-range, range-le, value-heard, extreme, extreme-heard, toward-extreme, gain-within, gain-le, scale}
+use Rattle.decode.proofs.Diff.{diff-least, diff-below}
+
+pub record MatchFacts (c : Correlation) (low high : Float) : Type 0 where
+  pub diff-least : T (le zero32 (c .diff))
+  pub diff-below : T (lt (c .diff) threshold)
+  pub gain-least : T (le leastGain (c .gain))
+  pub gain-most : T (le (c .gain) (ofBits binary32 0x4974_2400))
+  pub shift-above : T (lt low (c .shift))
+  pub shift-below : T (lt (c .shift) high)
+  pub shift-range : T (inRange (c .shift))
+
+module _ (v : ℕ → Float) (range : (i : ℕ) → i < 8 → T (inRange (v i))) (b : SyncBurst) (o : Opened b v) where
+  -- the extreme in each direction is on that side of the shift
+  shift-inside : (s : Bool) → Beyond s (shiftAt v) (extreme s (heardAt v) 7)
+  shift-inside s =
+      let S = scale v range (o .strong) in
+      let r = sign-held s b in
+      let i = r .0 in
+      let l : i ≤ 7 = omega (arith, r .1) in
+      let K = value-heard v range i l .0 in
+      beyond-toward s (shiftAt v) (heardAt v i) (extreme s (heardAt v) 7) (S .shift-finite) K (extreme-heard v range s .0)
+      (side-of (gainAt v) (shiftAt v) S s (heardAt v i) K (rw (r .2) at (o .near i (r .1))))
+      (toward-extreme s (heardAt v) _ 7 (value-heard v range) i l)
+
+  shift-fits : T (inRange (shiftAt v))
+  shift-fits =
+      let F = scale v range (o .strong) .shift-finite in
+      let hi = extreme-heard v range false in
+      let lo = extreme-heard v range true in
+      within-range (shiftAt v)
+      (within-between (extreme true (heardAt v) 7) (shiftAt v) (extreme false (heardAt v) 7) _ lo hi (lt→le _ _ (lo .0) F (shift-inside true)) (lt→le _ _ F (hi .0) (shift-inside false)))
+
+pub match-facts : (v : ℕ → Float) → ((i : ℕ) → i < 8 → T (inRange (v i))) → (b : SyncBurst) → T (matches b v) → MatchFacts (correlation b v) (lowest (heardAt v) 7) (highest (heardAt v) 7)
+unfolding correlation
+match-facts v range b m =
+    let o = opened b v m in
+    record {
+      diff-least = diff-least b v o range;
+      diff-below = diff-below b v o range;
+      gain-least = gain-le v range (o .strong);
+      gain-most = range-le (gainAt v) (gain-within v range);
+      shift-above = shift-inside v range b o true;
+      shift-below = shift-inside v range b o false;
+      shift-range = shift-fits v range b o;
+    }

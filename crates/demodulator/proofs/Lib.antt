@@ -1,0 +1,45 @@
+-- The laws of the receiver's record, of its search and of its calls. Assumes nothing.
+-- the ring's reader, and what a store does to it
+pub mod Readers
+-- a fit control, clause by clause
+pub mod Clauses
+-- what a fit record is known to be
+pub mod Fitness
+-- small instances: what the laws ask can be met
+pub mod RecordInstances
+-- readers that agree lead to the same search
+pub mod Searching
+-- an age rises by one at most
+pub mod Passing
+-- six bursts from one hearing
+pub mod Sensing
+-- a candidate fit but for its age
+pub mod Grown
+-- a search leaves a fit control fit, but for one age
+pub mod SearchFits
+-- small instances of the search's laws
+pub mod SearchInstances
+-- what a sample comes to, by the wait
+pub mod Turning
+-- what comes before a search leaves a fit control fit
+pub mod TurnFits
+-- a call by what applies
+pub mod Demodulating
+-- what a record's type says of its window
+pub mod Samples
+-- what follows from a stored sample
+pub mod Stepping
+-- rings may be lent again
+pub mod LentAgain
+-- what a reply hands to a search
+pub mod Replying
+-- each promise fixes its answer
+pub mod OnlyAnswer
+-- a stretch of samples, one by one
+pub mod Feeding
+-- an accepted call leaves a fit record fit
+pub mod SampleFits
+pub mod FitAgain
+-- small instances of the laws of the calls
+pub mod CallInstances
+pub mod StepInstances

@@ -1,0 +1,20 @@
+-- `demod` meets its contract. Assumes nothing.
+use mir.Facts.{toZ-ofZ}
+use Rattle.demodulator.proofs.Samples.{sample-fits}
+use borrow.Author.Needs.{needs}
+use Rattle.demodulator.proofs.SoftDemodulator.demod.Statement.{statement}
+use Rattle.demodulator.proofs.SoftDemodulator.demod.Tie as tie
+
+step-requires : tie.Need-step-requires
+step-requires c κs = record { samples = λ i. search sample-fits; places = search needs }
+
+same-length : tie.Need-same-length
+same-length c = search needs
+
+returns : tie.Need-returns
+returns c =
+    let s = c .before .before .before .before in
+    rw (toZ-ofZ (s .before .before .before .before .before .before .before .before .fits .sample)) at (s .step .ensures)
+
+pub demod-spec : {M : Type 1} → statement M
+demod-spec = tie.close (tie.spec step-requires same-length returns)

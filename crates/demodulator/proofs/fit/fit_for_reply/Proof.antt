@@ -1,0 +1,27 @@
+-- `fit_for_reply` meets its contract: the ring is read once its cursor is known to lie inside. Assumes nothing.
+use native.Mathlib.Nat.{add-zero}
+use lib.Dec.{lit≤}
+use Rattle.demodulator.specs.Fit.{fitForReply}
+use Rattle.demodulator.proofs.Fitness.{tested-unfit, tested-fit, tested-inside}
+use borrow.Author.Needs.{needs}
+use Rattle.demodulator.proofs.fit.fit_for_reply.Statement.{statement}
+use Rattle.demodulator.proofs.fit.fit_for_reply.Tie as tie
+
+record-fit-requires : tie.Need-record-fit-requires
+record-fit-requires c κs = search needs
+
+returns : tie.Need-returns
+unfolding fitForReply
+returns c = λ window. rw (tested-unfit _ _ _ _ (c .before .record-fit .ensures) (c .if1 .taken) window (c .before .before .args .rx-win .now))
+
+places-in-range-requires : tie.Need-places-in-range-requires
+places-in-range-requires c κs = (tested-inside _ _ _ _ (c .before .record-fit .ensures) (c .if1 .left), lit≤ tt, lit≤ tt)
+
+returns-2 : tie.Need-returns-2
+unfolding fitForReply
+returns-2 c =
+    λ window. rw (tested-fit _ _ _ _ (c .before .before .record-fit .ensures) (c .before .if1 .left) window (c .before .before .before .args .rx-win .now), c .places-in-range .ensures) (simp add-zero)
+
+pub fit-for-reply-spec : {M : Type 1} → statement M
+fit-for-reply-spec =
+    tie.close (tie.spec record-fit-requires returns places-in-range-requires returns-2)

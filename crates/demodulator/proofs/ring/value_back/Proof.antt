@@ -1,0 +1,27 @@
+-- `value_back` meets its contract. Assumes nothing.
+use borrow.Author.Needs.{needs}
+use Rattle.demodulator.proofs.ring.value_back.Statement.{statement}
+use Rattle.demodulator.proofs.ring.value_back.Tie as tie
+
+sub-wrapped : tie.Need-sub-wrapped
+sub-wrapped c = search needs
+
+add-wrapped : tie.Need-add-wrapped
+add-wrapped c = search needs
+
+wrapped-requires : tie.Need-wrapped-requires
+wrapped-requires c κs = search needs
+
+mul-result : tie.Need-mul-result
+mul-result c = search needs
+
+element-copy-out-result : tie.Need-element-copy-out-result
+element-copy-out-result c = search needs
+
+returns : tie.Need-returns
+returns c = rw (c .before .wrapped .ensures)
+
+pub value-back-spec : {M : Type 1} → statement M
+value-back-spec =
+    tie.close
+    (tie.spec sub-wrapped add-wrapped wrapped-requires mul-result element-copy-out-result returns)

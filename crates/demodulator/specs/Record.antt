@@ -1,0 +1,69 @@
+-- The receiver's record: its two rings, and how the rules read them. Places and cursors are here, and in the first clause of fitness. Assumes nothing.
+use mathlib.Core.List.{List}
+use mathlib.Core.Bool.{false}
+use Prim.Native.Nat.{ℕ, _+_, _-_, _%_}
+use lib.IntN.{ℤ, pos}
+use lib.ListN.{getD, set, replicate}
+use lib.Ieee.{Float, nan, binary32, ofBits}
+use Rattle.shaping.specs.Taps.{taps}
+use Rattle.shaping.specs.Sum.{dot, sampleAt}
+use Rattle.demodulator.specs.declared.Candidate.the-variants.{Nothing}
+use Rattle.demodulator.specs.declared.Wait.the-variants.{Free}
+use Rattle.demodulator.specs.declared.Timer.the-variants.{Off}
+use Rattle.demodulator.specs.declared.Control.{Control}
+use Rattle.demodulator.specs.declared.SoftDemodulator.{SoftDemodulator}
+
+abbrev pub freshControl : Control
+freshControl = record { candidate = Nothing; wait = Free; dcd = Off; owed = false; sample = 0 }
+
+-- "Samples before the first are 0. F(k) is 0.0 for k below 1."
+unfoldable pub fresh : SoftDemodulator
+fresh = record {
+  «filter_win» = replicate 81 (pos 0);
+  «filter_cursor» = 0;
+  «rx_win» = replicate 1920 (ofBits binary32 0);
+  «rx_cursor» = 0;
+  control = freshControl;
+}
+
+abbrev pub withControl : Control → SoftDemodulator → SoftDemodulator
+withControl c m = record {
+  «filter_win» = m .«filter_win»;
+  «filter_cursor» = m .«filter_cursor»;
+  «rx_win» = m .«rx_win»;
+  «rx_cursor» = m .«rx_cursor»;
+  control = c;
+}
+
+-- a record by its parts, for functions that are lent the two rings
+abbrev pub assembled : List ℤ → ℕ → List Float → ℕ → Control → SoftDemodulator
+assembled window windowCursor ring ringCursor c = record {
+  «filter_win» = window;
+  «filter_cursor» = windowCursor;
+  «rx_win» = ring;
+  «rx_cursor» = ringCursor;
+  control = c;
+}
+
+-- the filtered value j samples ago, 0 the newest, for j below 1,920: the newest lies before the ring's cursor (what `getD` gives past the end is never read)
+abbrev pub ringBack : List Float → ℕ → ℕ → Float
+ringBack ring cursor j = getD ring ((cursor + (1919 - j)) % 1920) nan
+
+abbrev pub back : SoftDemodulator → ℕ → Float
+back m = ringBack (m .«rx_win») (m .«rx_cursor»)
+
+-- "store": the sample goes to the window's cursor, and the window's tap sum to the ring's
+abbrev pub windowAfter : SoftDemodulator → ℤ → List ℤ
+windowAfter m x = set (m .«filter_win») (m .«filter_cursor») x
+
+abbrev pub filteredAfter : SoftDemodulator → ℤ → Float
+filteredAfter m x = dot taps (sampleAt (windowAfter m x) ((m .«filter_cursor» + 1) % 81))
+
+unfoldable pub stored : SoftDemodulator → ℤ → SoftDemodulator
+stored m x = record {
+  «filter_win» = windowAfter m x;
+  «filter_cursor» = (m .«filter_cursor» + 1) % 81;
+  «rx_win» = set (m .«rx_win») (m .«rx_cursor») (filteredAfter m x);
+  «rx_cursor» = (m .«rx_cursor» + 1) % 1920;
+  control = m .control;
+}

@@ -1,0 +1,195 @@
+// The receiver: SoftDemodulator of the Rust's modem.rs as a record by value. Samples go in one by one, and windows of 192 symbols are offered to the caller, who replies.
+use protocol::Kind;
+use protocol::Refusal;
+use step::Places;
+ghost use Rattle.demodulator.specs.Calls.{new-says, demod-says, reply-says, data-carrier-detect-says};
+
+mod feed;
+mod fit;
+mod ring;
+mod search;
+mod step;
+mod turn;
+
+// A place that may be decoded, or none.
+pub enum Candidate {
+    Nothing,
+    Held {
+        kind: Kind,
+        age: u8,
+        diff: f32,
+        gain: f32,
+        shift: f32,
+    },
+}
+
+// How many samples are still to come before a frame is due.
+pub struct Waiting {
+    pub left: u16,
+}
+
+// No frame is awaited, or one is.
+pub enum Wait {
+    Free,
+    Due(Waiting),
+}
+
+// The carrier timer: not held, or held to the end of a sample.
+pub enum Timer {
+    Off,
+    Until(u64),
+}
+
+// All but the two rings, so that a search takes and gives back no array.
+pub struct Control {
+    pub candidate: Candidate,
+    pub wait: Wait,
+    pub dcd: Timer,
+    pub owed: bool,
+    pub sample: u64,
+}
+
+pub struct SoftDemodulator {
+    pub filter_win: [i16; 81],
+    pub filter_cursor: usize,
+    pub rx_win: [f32; 1920],
+    pub rx_cursor: usize,
+    pub control: Control,
+}
+
+// A frame that is due: its kind, and the number of the sample at which it is. Its symbols are in the caller's room.
+pub struct Offer {
+    pub kind: Kind,
+    pub sample: u64,
+}
+
+// What a sample is answered with.
+pub enum Heard {
+    Refused(Refusal),
+    Quiet,
+    Offered(Offer),
+}
+
+// What an offer is replied with.
+pub enum Reply {
+    Accepted,
+    Rejected,
+}
+
+// What a reply is answered with.
+pub enum Replied {
+    Refused(Refusal),
+    Done,
+}
+
+pub enum Carrier {
+    Refused(Refusal),
+    Detected(bool),
+}
+
+// An answer, and the record that the next call is given.
+pub struct AfterSample {
+    pub answer: Heard,
+    pub demodulator: SoftDemodulator,
+}
+
+// `taken` counts the samples that were not refused, the one that brought an offer among them.
+pub struct AfterStretch {
+    pub answer: Heard,
+    pub taken: usize,
+    pub demodulator: SoftDemodulator,
+}
+
+pub struct AfterReply {
+    pub answer: Replied,
+    pub demodulator: SoftDemodulator,
+}
+
+impl SoftDemodulator {
+    pub fn new() -> Self
+        ensures { λ r. ⌜ new-says r ⌝ }
+    {
+        SoftDemodulator {
+            filter_win: [0i16; 81],
+            filter_cursor: 0,
+            rx_win: [0.0f32; 1920],
+            rx_cursor: 0,
+            control: Control {
+                candidate: Candidate::Nothing,
+                wait: Wait::Free,
+                dcd: Timer::Off,
+                owed: false,
+                sample: 0,
+            },
+        }
+    }
+
+    // A sample: refused, quiet, or a frame offered, whose symbols are then the room's first 192. The rings are copied, lent to the step, and built into the record again.
+    pub fn demod(self, sample: i16, room: &mut [f32]) -> AfterSample
+        ensures { λ r. ⌜ demod-says self sample (now (room .entry)) r (now (room .exit)) ⌝ }
+    {
+        let mut filter_win = self.filter_win;
+        let mut rx_win = self.rx_win;
+        let control = self.control;
+        let places = Places {
+            filter_cursor: self.filter_cursor,
+            rx_cursor: self.rx_cursor,
+        };
+        let stepped = step::step(&mut filter_win, &mut rx_win, places, control, sample, room);
+        let next = stepped.places;
+        let control = stepped.control;
+        let answer = stepped.answer;
+        AfterSample {
+            answer,
+            demodulator: SoftDemodulator {
+                filter_win,
+                filter_cursor: next.filter_cursor,
+                rx_win,
+                rx_cursor: next.rx_cursor,
+                control,
+            },
+        }
+    }
+
+    // The reply to an offer: accepted, the sample is finished; rejected, it is searched.
+    pub fn reply(self, reply: Reply) -> AfterReply
+        ensures { λ r. ⌜ reply-says self reply r ⌝ }
+    {
+        let control = self.control;
+        if !fit::fit_for_reply(&self.rx_win, self.filter_cursor, self.rx_cursor, control) {
+            return AfterReply {
+                answer: Replied::Refused(Refusal::RecordUnfit),
+                demodulator: self,
+            };
+        }
+        if !control.owed {
+            return AfterReply {
+                answer: Replied::Refused(Refusal::NoReplyOwed),
+                demodulator: self,
+            };
+        }
+        let values = ring::eight(&self.rx_win, self.rx_cursor);
+        let settled = turn::replied(control, reply, values);
+        let mut demodulator = self;
+        demodulator.control = settled;
+        AfterReply {
+            answer: Replied::Done,
+            demodulator,
+        }
+    }
+
+    // Whether the carrier timer is held. The Rust always says no.
+    pub fn data_carrier_detect(self) -> Carrier
+        ensures { λ r. ⌜ data-carrier-detect-says self r ⌝ }
+    {
+        let control = self.control;
+        if !fit::record_fit(self.filter_cursor, self.rx_cursor, control) {
+            return Carrier::Refused(Refusal::RecordUnfit);
+        }
+        let timer = control.dcd;
+        match timer {
+            Timer::Off => Carrier::Detected(false),
+            Timer::Until(_) => Carrier::Detected(true),
+        }
+    }
+}

@@ -1,0 +1,118 @@
+// One sample, over rings that the caller lends: nothing large is copied.
+use crate::Control;
+use crate::Heard;
+use crate::Offer;
+use crate::fit;
+use crate::ring;
+use crate::search;
+use crate::turn;
+use crate::turn::Turn;
+use protocol::Refusal;
+ghost use mathlib.Core.Path.{_≡_};
+ghost use Rattle.demodulator.specs.Steps.{Rings, Accepts, Steps, unmoved};
+
+// Where the two rings are written next.
+pub(crate) struct Places {
+    pub filter_cursor: usize,
+    pub rx_cursor: usize,
+}
+
+// An answer, with all of the record that is not lent.
+pub(crate) struct Stepped {
+    pub answer: Heard,
+    pub places: Places,
+    pub control: Control,
+}
+
+// The sample is taken: nothing refuses it.
+fn advance(
+    filter_win: &mut [i16; 81],
+    rx_win: &mut [f32; 1920],
+    places: Places,
+    control: Control,
+    sample: i16,
+    room: &mut [f32],
+) -> Stepped
+    requires { ⌜ Accepts (now «filter_win») (now «rx_win») places control (now room) ⌝ }
+    ensures { λ r. ⌜ Steps (now («filter_win» .entry)) (now («rx_win» .entry)) places control sample (now (room .entry)) r (now («filter_win» .exit)) (now («rx_win» .exit)) (now (room .exit)) ⌝ }
+{
+    let filter_cursor = places.filter_cursor;
+    let rx_cursor = places.rx_cursor;
+    ring::store(filter_win, filter_cursor, rx_win, rx_cursor, sample);
+    let filter_next = (filter_cursor + 1) % 81;
+    let rx_next = (rx_cursor + 1) % 1920;
+    let places = Places {
+        filter_cursor: filter_next,
+        rx_cursor: rx_next,
+    };
+    let turn = turn::turn_of(control);
+    match turn {
+        Turn::Rest(rested) => Stepped {
+            answer: Heard::Quiet,
+            places,
+            control: rested,
+        },
+        Turn::Offer {
+            kind,
+            gain,
+            shift,
+            control: owing,
+        } => {
+            ring::write_window(&*rx_win, rx_next, gain, shift, room);
+            Stepped {
+                answer: Heard::Offered(Offer {
+                    kind,
+                    sample: owing.sample,
+                }),
+                places,
+                control: owing,
+            }
+        }
+        Turn::Look(looking) => {
+            let values = ring::eight(&*rx_win, rx_next);
+            let found = search::searched(looking, values);
+            Stepped {
+                answer: Heard::Quiet,
+                places,
+                control: found,
+            }
+        }
+    }
+}
+
+fn refused(why: Refusal, places: Places, control: Control) -> Stepped
+    ensures { λ r. ⌜ r ≡ unmoved why places control ⌝ }
+{
+    Stepped {
+        answer: Heard::Refused(why),
+        places,
+        control,
+    }
+}
+
+// All that can refuse a sample is tested before anything is written.
+pub(crate) fn step(
+    filter_win: &mut [i16; 81],
+    rx_win: &mut [f32; 1920],
+    places: Places,
+    control: Control,
+    sample: i16,
+    room: &mut [f32],
+) -> Stepped
+    requires { ⌜ Rings (now «filter_win») (now «rx_win») ⌝ }
+    ensures { λ r. ⌜ Steps (now («filter_win» .entry)) (now («rx_win» .entry)) places control sample (now (room .entry)) r (now («filter_win» .exit)) (now («rx_win» .exit)) (now (room .exit)) ⌝ }
+{
+    if !fit::fit_for_sample(&*rx_win, places.filter_cursor, places.rx_cursor, control) {
+        return refused(Refusal::RecordUnfit, places, control);
+    }
+    if control.owed {
+        return refused(Refusal::ReplyOwed, places, control);
+    }
+    if room.len() < 192 {
+        return refused(Refusal::RoomTooSmall, places, control);
+    }
+    if control.sample == fit::LAST {
+        return refused(Refusal::CountAtItsEnd, places, control);
+    }
+    advance(filter_win, rx_win, places, control, sample, room)
+}

@@ -1,0 +1,108 @@
+-- A caller that gives one sample after the other and accepts at once whatever is offered: each of its samples is heard. Assumes nothing.
+use mathlib.Core.Path.{_≡_, refl, sym, ap, _∙_}
+use mathlib.Core.Bool.{Bool, true, false, not, cond}
+use mathlib.Core.List.{List, [], _∷_, _++_, append-nil, append-assoc}
+use Prim.Native.Nat.{ℕ, _+_, _^_, _≤_, _<_}
+use native.Mathlib.Omega.{arith}
+use lib.Dec.{not-T, eqb, eqb→eq}
+use lib.IntN.{ℤ}
+use lib.ListN.{length}
+use lib.Ieee.{Float}
+use lib.Ieee.Bits.{is-false}
+use mir.Syntax.{w16}
+use mir.Val.{SFits}
+use Rattle.shaping.specs.Taps.{taps}
+use Rattle.demodulator.specs.declared.Reply.the-variants.{Accepted}
+use Rattle.demodulator.specs.Turn.{Outcome, quiet, offer, eight, owing, sampled, replied}
+use Rattle.demodulator.specs.Calls.{done}
+use Rattle.demodulator.proofs.SampleFits.{controlOf}
+use Rattle.demodulator_run.specs.Filter.{ago}
+use Rattle.demodulator_run.specs.Rules.{Call, sample, reply, Heard, After, refused, settled, accepted, given, answered, called, heardFrom}
+use Rattle.demodulator_run.specs.Run.{Callable, Sampled}
+use Rattle.demodulator_run.proofs.Count.{sampled-count}
+use Rattle.demodulator_run.proofs.Worked.{room}
+
+-- ---- the calls
+unfoldable pub fed : List ℤ → List Call
+fed [] = []
+fed (x ∷ xs) = sample x room ∷ reply Accepted ∷ fed xs
+
+pub fed-append : (xs ys : List ℤ) → fed (xs ++ ys) ≡ fed xs ++ fed ys
+unfolding fed
+fed-append [] ys = refl
+fed-append (x ∷ xs) ys = ap (λ (l : List Call). sample x room ∷ reply Accepted ∷ l) (fed-append xs ys)
+
+pub fed-split : (xs : List ℤ) (x : ℤ) (ys : List ℤ) → fed (xs ++ (x ∷ ys)) ≡ fed xs ++ (sample x room ∷ reply Accepted ∷ fed ys)
+unfolding fed
+fed-split xs x ys = fed-append xs (x ∷ ys)
+
+-- ---- i16s
+unfoldable pub Sixteen : List ℤ → Type 0
+Sixteen [] = Unit {0}
+Sixteen (x ∷ xs) = SFits w16 x × Sixteen xs
+
+pub sixteen-append : (xs ys : List ℤ) → Sixteen xs → Sixteen ys → Sixteen (xs ++ ys)
+unfolding Sixteen
+sixteen-append [] ys s t = t
+sixteen-append (x ∷ xs) ys s t = (s .0, sixteen-append xs ys (s .1) t)
+
+pub fed-sampled : (xs : List ℤ) → Sixteen xs → Sampled (fed xs)
+unfolding fed Sixteen Sampled Callable
+fed-sampled [] s = tt
+fed-sampled (x ∷ xs) s = (s .0, (tt, fed-sampled xs (s .1)))
+
+-- ---- one sample and its reply
+abbrev pub next : Heard → ℤ → Heard
+next h x = called taps 10 (called taps 10 h (sample x room) .heard) (reply Accepted) .heard
+
+-- what is heard when the newest is x
+abbrev pub eightAt : List ℤ → ℕ → Float
+eightAt xs = eight 10 (ago taps 10 xs)
+
+pub not-full : (n : ℕ) → n < 2 ^ 63 → eqb n (2 ^ 63) ≡ false
+not-full n l = is-false (eqb n (2 ^ 63)) (not-T (eqb n (2 ^ 63)) (λ u. let e : n ≡ 2 ^ 63 = eqb→eq n (2 ^ 63) u in omega arith))
+
+pub taken-in : (h : Heard) (x : ℤ) → h .control .owed ≡ false → h .control .sample < 2 ^ 63 → called taps 10 h (sample x room) ≡ accepted taps 10 h x room
+unfolding called given
+taken-in h x o l = rw (o, not-full (h .control .sample) l)
+
+replied-in : (h : Heard) → called taps 10 h (reply Accepted) .heard ≡ record { samples = h .samples; control = owing false (h .control) }
+unfolding called answered replied
+replied-in h = go (h .control .owed) refl
+  where
+    go : (b : Bool) → h .control .owed ≡ b
+        → (cond (not b) (refused 3 [] h) (record {
+          said = record { answer = done; room = [] };
+          heard = record { samples = h .samples; control = owing false (h .control) };
+        })) .heard ≡ record { samples = h .samples; control = owing false (h .control) }
+    go true e = refl
+    go false e = ap (λ (b : Bool). record { samples = h .samples; control = owing b (h .control) }) e
+
+settled-heard : (xs : List ℤ) (o : Outcome) → settled taps 10 xs room o .heard ≡ record { samples = xs; control = controlOf o }
+unfolding settled
+settled-heard xs (quiet c) = refl
+settled-heard xs (offer kind gain shift c) = refl
+
+pub next-is : (h : Heard) (x : ℤ) → h .control .owed ≡ false → h .control .sample < 2 ^ 63
+    → next h x ≡ record { samples = h .samples ++ (x ∷ []); control = owing false (controlOf (sampled 10 (eightAt (h .samples ++ (x ∷ []))) (h .control))) }
+next-is h x o l =
+    replied-in (called taps 10 h (sample x room) .heard)
+    ∙ ap (λ (g : Heard). record { samples = g .samples; control = owing false (g .control) })
+    (ap (λ (a : After). a .heard) (taken-in h x o l) ∙ settled-heard (h .samples ++ (x ∷ [])) (sampled 10 (eightAt (h .samples ++ (x ∷ []))) (h .control)))
+
+-- ---- all of them
+pub heard-append : (cs ds : List Call) (h : Heard) → heardFrom taps 10 h (cs ++ ds) ≡ heardFrom taps 10 (heardFrom taps 10 h cs) ds
+unfolding heardFrom
+heard-append [] ds h = refl
+heard-append (c ∷ cs) ds h = heard-append cs ds (called taps 10 h c .heard)
+
+pub fed-heard : (xs : List ℤ) (h : Heard) → h .control .owed ≡ false → h .control .sample + length xs ≤ 2 ^ 63 → heardFrom taps 10 h (fed xs) .samples ≡ h .samples ++ xs
+unfolding heardFrom fed
+fed-heard [] h o l = sym (append-nil (h .samples))
+fed-heard (x ∷ xs) h o l =
+    let e = next-is h x o (omega arith) in
+    let count : next h x .control .sample ≡ h .control .sample + 1 =
+    ap (λ (g : Heard). g .control .sample) e ∙ sampled-count 10 (eightAt (h .samples ++ (x ∷ []))) (h .control) in
+    fed-heard xs (next h x) (ap (λ (g : Heard). g .control .owed) e) (omega arith)
+    ∙ ap (λ (g : Heard). g .samples ++ xs) e
+    ∙ append-assoc (h .samples) (x ∷ []) xs

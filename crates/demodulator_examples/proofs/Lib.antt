@@ -1,0 +1,23 @@
+-- Samples that meet what the theorems on the receiver ask, and what the theorems then say of them. Assumes nothing.
+-- a caller that accepts at once
+pub mod Fed
+-- one fed sample, and many
+pub mod Steps
+-- a burst that ends at sample 71
+pub mod Burst
+-- what is heard, from a table
+pub mod Table
+-- demand 3 on 72 samples and zeros
+pub mod Sketch
+-- three lists of samples
+pub mod OneBurst
+pub mod EarlierLarger
+pub mod LaterSmaller
+-- their due frames: the rule, its corner, a replacement
+pub mod DueFrames
+-- a list given twice
+pub mod Again
+-- its second frame
+pub mod SecondFrame
+-- document 01's impostors
+pub mod Impostors

@@ -1,0 +1,197 @@
+-- The same burst once more, after the first frame was offered and accepted: a second frame is offered. Assumes nothing.
+use mathlib.Core.Path.{_≡_, refl, sym, ap, _∙_, subst}
+use mathlib.Core.Logic.{inl, inr}
+use mathlib.Core.Bool.{Bool, true, false}
+use mathlib.Core.List.{List, [], _∷_, _++_, append-assoc}
+use Prim.Native.Nat.{ℕ, _+_, _-_, _*_, _^_, _≤_, _<_}
+use native.Mathlib.Nat.{le-refl}
+use native.Mathlib.Omega.{arith}
+use lib.Dec.{T, lit≤, lit<}
+use lib.IntN.{ℤ, pos}
+use lib.ListN.{length, length-append}
+use lib.Ieee.Bits.{is-true}
+use Rattle.numbers.proofs.Below.{all-below}
+use Rattle.shaping.specs.Taps.{taps}
+use Rattle.protocol.specs.declared.Kind.{Kind}
+use Rattle.decode.specs.declared.Correlation.{Correlation}
+use Rattle.demodulator.specs.declared.Candidate.the-variants.{Nothing, Held}
+use Rattle.demodulator.specs.declared.Wait.the-variants.{Free}
+use Rattle.demodulator.specs.declared.Timer.{Timer}
+use Rattle.demodulator.specs.declared.Timer.the-variants.{Until}
+use Rattle.demodulator.specs.Search.{sameKind}
+use Rattle.demodulator.specs.Turn.{counted, offered}
+use Rattle.demodulator_run.specs.Rules.{Heard, start, heardFrom, heardAll}
+use Rattle.demodulator_run.specs.Run.{Sampled}
+use Rattle.demodulator_run.specs.Marks.{First, logAll}
+use Rattle.demodulator_run.specs.Demands.{Ear, earOf, at, In, Shown, shownAt, dueMark, Cause, Matches}
+use Rattle.demodulator_run.specs.Exact.{OfferedAt, lastSample}
+use Rattle.demodulator_run.proofs.Listing.{yes→T, no→⊥, same-self, same→≡}
+use Rattle.demodulator_run.proofs.Demand.{fedAll}
+use Rattle.demodulator_run.proofs.Demand48.{due-cause-48, due-offered-48}
+use Rattle.demodulator_run.proofs.Pass.{Step, controlled, pass-lost}
+use Rattle.demodulator_examples.proofs.Fed.{fed, fed-append, fed-sampled, Sixteen, sixteen-append, next, heard-append}
+use Rattle.demodulator_examples.proofs.Steps.{standing, Hits, none, next-due, quiet-run}
+use Rattle.demodulator_examples.proofs.Table.{pause, pause-split, pause-suc, pause-length, listed, silent, silent-none, hits-listed, silent-listed}
+use Rattle.demodulator_examples.proofs.Burst.{one-more, ear-all, fed-all, marked-after, part72, length71, before-due, falls-due}
+use Rattle.demodulator_examples.proofs.Sketch.{Sketch, samples, sixteen, number, part, long, lt-or-le}
+use Rattle.demodulator_examples.proofs.Again.{twice, begun, hits-again}
+
+module _ (S : Sketch) (gives : offered (S .kind) ≡ true) (fades : Hits (listed (S .table) 72) none) where
+  -- all the samples
+  abbrev pub both : List ℤ
+  both = S .front ++ (S .x ∷ S .y ∷ (pause 1900 ++ samples S))
+
+  abbrev hear : Ear
+  hear = earOf taps 10 both
+
+  same : both ≡ twice S
+  same = sym (append-assoc (S .front) (S .x ∷ S .y ∷ pause 1900) (samples S))
+
+  both-sixteen : Sixteen both
+  both-sixteen = subst Sixteen (sym same) (sixteen-append (samples S) (samples S) (sixteen S) (sixteen S))
+
+  pub both-sampled : Sampled (fed both)
+  both-sampled = fed-sampled both both-sixteen
+
+  both-number : length both ≡ 3944
+  both-number = ap length same ∙ length-append (samples S) (samples S) ∙ (let n = number S in omega arith)
+
+  few : length both ≤ 2 ^ 63
+  few = let n = both-number in omega arith
+
+  -- ---- the first time
+  begins : both ≡ begun S ++ (pause 1899 ++ samples S)
+  begins = same ∙ ap (λ (l : List ℤ). l ++ samples S) (part S) ∙ append-assoc (begun S) (pause 1899) (samples S)
+
+  none-before : (n : ℕ) → n ≤ 70 → Hits (hear n) none
+  none-before = silent-listed both (begun S) (pause 1899 ++ samples S) begins 73 (long S) (S .table) (S .tabled) 70 (lit≤ tt) (S .quiet)
+
+  at-71 : Hits (hear 71) (sameKind (S .kind))
+  at-71 = hits-listed both (begun S) (pause 1899 ++ samples S) begins 73 (long S) (S .table) (S .tabled) 71 (lit≤ tt) (sameKind (S .kind)) (S .first)
+
+  at-72 : Hits (hear 72) none
+  at-72 = hits-listed both (begun S) (pause 1899 ++ samples S) begins 73 (long S) (S .table) (S .tabled) 72 (lit≤ tt) none fades
+
+  goes : pause 1900 ++ samples S ≡ pause 1838 ++ (pos 0 ∷ (pause 61 ++ samples S))
+  goes = ap (λ (l : List ℤ). l ++ samples S) (pause-split 1838 62 ∙ ap (λ (l : List ℤ). pause 1838 ++ l) (pause-suc 61)) ∙ append-assoc (pause 1838) (pos 0 ∷ pause 61) (samples S)
+
+  abbrev m : Correlation
+  m = at hear (S .kind) 71
+
+  abbrev first72 : List ℤ
+  first72 = (S .front ++ (S .x ∷ [])) ++ (S .y ∷ [])
+
+  abbrev upToDue : List ℤ
+  upToDue = first72 ++ pause 1838
+
+  waits : (t : Timer) × (heardAll taps 10 (fed upToDue) ≡ standing upToDue (Held (S .kind) 1 (m .diff) (m .gain) (m .shift)) lastSample t 1910)
+  waits =
+      before-due (S .front) (S .x) (S .y) (pause 1900 ++ samples S) (S .seventy) both-sixteen few none-before (S .kind) at-71 none at-72 (Held (S .kind) 1 (m .diff) (m .gain) (m .shift)) 1839
+      (λ t. (Until (72 + 384 * 10), ap (λ (s : Step). s .control) (pass-lost 10 (λ i. at hear i 72) t false 72 1 (m .diff) (m .gain) (m .shift) (S .kind))))
+      (pause 1838) (pos 0) (pause 61 ++ samples S) goes (let n = pause-length 1838 in omega arith) (lit≤ tt)
+
+  -- ---- the frame is offered and accepted; nothing is held until the burst comes again
+  abbrev offered1911 : List ℤ
+  offered1911 = upToDue ++ (pos 0 ∷ [])
+
+  after-offer : (t : Timer) × (heardAll taps 10 (fed offered1911) ≡ standing offered1911 Nothing Free t 1911)
+  after-offer =
+      let (t, e) = waits in
+      (_, one-more upToDue (pos 0) ∙ ap (λ (h : Heard). next h (pos 0)) e ∙ next-due upToDue (pos 0) 1910 (lit< tt) (S .kind) 1 (m .diff) (m .gain) (m .shift) t gives)
+
+  length-offered : length offered1911 ≡ 1911
+  length-offered =
+      length-append upToDue (pos 0 ∷ []) ∙ ap (λ (n : ℕ). n + 1) (length-append first72 (pause 1838) ∙ ap (λ (n : ℕ). n + length (pause 1838)) (length-append (S .front ++ (S .x ∷ [])) (S .y ∷ [])))
+      ∙ (let a = pause-length 1838 in let b = length71 (S .front) (S .x) (S .y) (pause 1900 ++ samples S) (S .seventy) both-sixteen few in omega arith)
+
+  rest : both ≡ offered1911 ++ (pause 61 ++ samples S)
+  rest =
+      part72 (S .front) (S .x) (S .y) (pause 1900 ++ samples S) (S .seventy) both-sixteen few
+      ∙ ap (λ (l : List ℤ). first72 ++ l) goes
+      ∙ sym (append-assoc first72 (pause 1838) (pos 0 ∷ (pause 61 ++ samples S)))
+      ∙ sym (append-assoc upToDue (pos 0 ∷ []) (pause 61 ++ samples S))
+
+  abbrev between : List ℤ
+  between = pause 61 ++ S .front
+
+  rest-split : both ≡ offered1911 ++ (between ++ (S .x ∷ S .y ∷ pause 1900))
+  rest-split = rest ∙ ap (λ (l : List ℤ). offered1911 ++ l) (sym (append-assoc (pause 61) (S .front) (S .x ∷ S .y ∷ pause 1900)))
+
+  length-between : length between ≡ 131
+  length-between = length-append (pause 61) (S .front) ∙ (let a = pause-length 61 in let b = S .seventy in omega arith)
+
+  heard-again : (n : ℕ) → 223 ≤ n → n ≤ 2045 → (hit : Kind → Bool) → Hits (listed (S .table) (n - 1972)) hit → Hits (hear n) hit
+  heard-again n a b hit h = subst (λ (l : List ℤ). Hits (earOf taps 10 l n) hit) (sym same) (hits-again S n a b hit h)
+
+  silent-again : (n : ℕ) → 1911 < n → n ≤ 2042 → Hits (hear n) none
+  silent-again n a b = heard-again n (omega arith) (omega arith) none (silent-none (S .table) (n - 1972) (all-below 71 (silent (S .table)) (S .quiet) (n - 1972) (omega arith)))
+
+  abbrev upTo2042 : List ℤ
+  upTo2042 = offered1911 ++ between
+
+  rests : (t : Timer) × (heardAll taps 10 (fed upTo2042) ≡ standing upTo2042 Nothing Free t 2042)
+  rests =
+      let (t, e) = after-offer in
+      let (u, f) = quiet-run both between offered1911 (S .x ∷ S .y ∷ pause 1900) t 1911 length-offered rest-split (let n = length-between in omega arith) (λ n a b. silent-again n a (let l = length-between in omega arith)) in (
+        u,
+        ap (heardFrom taps 10 start) (fed-append offered1911 between) ∙ heard-append (fed offered1911) (fed between) start ∙ ap (λ (h : Heard). heardFrom taps 10 h (fed between)) e ∙ f
+            ∙ ap (λ (n : ℕ). standing upTo2042 Nothing Free u (1911 + n)) length-between,
+      )
+
+  -- ---- the second take, and its frame
+  at-2043 : Hits (hear 2043) (sameKind (S .kind))
+  at-2043 = heard-again 2043 (lit≤ tt) (lit≤ tt) (sameKind (S .kind)) (S .first)
+
+  at-2044 : Hits (hear 2044) none
+  at-2044 = heard-again 2044 (lit≤ tt) (lit≤ tt) none fades
+
+  pub takes-again : In (First 2043 (S .kind)) (logAll taps 10 (fed both))
+  takes-again =
+      let (t, e) = rests in
+      marked-after both both-sixteen few (First 2043 (S .kind)) upTo2042 (S .x) (S .y ∷ pause 1900) (rest-split ∙ sym (append-assoc offered1911 between (S .x ∷ S .y ∷ pause 1900)))
+      (standing upTo2042 Nothing Free t 2042) e refl (lit< tt)
+      (counted (controlled Nothing Free t false 2042), inl (refl, refl), (refl, refl, yes→T (at-2043 (S .kind) ∙ is-true (sameKind (S .kind) (S .kind)) (same-self (S .kind)))))
+
+  both-fed : fedAll taps 10 (fed both) ≡ 3944
+  both-fed = fed-all both both-sixteen few ∙ both-number
+
+  -- both frames are offered
+  pub first-frame : OfferedAt taps 10 1911 (shownAt hear (S .kind) 71) (fed both)
+  first-frame =
+      due-offered-48 (fed both) both-sampled 1911 (shownAt hear (S .kind) 71) gives
+      (falls-due (S .front) (S .x) (S .y) (pause 1900 ++ samples S) (S .seventy) both-sixteen few none-before (S .kind) at-71 none at-72 (Held (S .kind) 1 (m .diff) (m .gain) (m .shift)) 1839
+      (λ t. (Until (72 + 384 * 10), ap (λ (s : Step). s .control) (pass-lost 10 (λ i. at hear i 72) t false 72 1 (m .diff) (m .gain) (m .shift) (S .kind))))
+      (pause 1838) (pos 0) (pause 61 ++ samples S) goes (let n = pause-length 1838 in omega arith) (lit≤ tt) (S .kind) 1 (m .diff) (m .gain) (m .shift) refl)
+
+  module _ (d : ℕ) (w : Shown) (C : Cause hear 10 (logAll taps 10 (fed both)) d w) (late : 2043 ≤ C .b) (lasts : (j : ℕ) → 2043 ≤ j → j < C .s → (k : Kind) × Matches hear k j) where
+    fails-2044 : C .s ≡ 2044
+    fails-2044 = elim (lt-or-le 2044 (C .s)) [
+      | inl l ↦ absurd (let (k, t) = lasts 2044 (lit≤ tt) l in no→⊥ (at-2044 k) t)
+      | inr l ↦ let o = C .fails .later in omega arith
+    ]
+
+    from-2043 : C .b ≡ 2043
+    from-2043 = let o = C .fails .later in let e = fails-2044 in omega arith
+
+    second-kind : S .kind ≡ C .kind
+    second-kind = same→≡ (S .kind) (C .kind) (subst T (at-2043 (C .kind)) (subst (Matches hear (C .kind)) from-2043 (C .fails .matched (C .b) (le-refl _) (C .fails .later))))
+
+    shows : w .kind ≡ S .kind
+    shows = elim (C .due .shown) [
+      | inl r ↦ absurd (no→⊥ (at-2044 (r .0)) (subst (Matches hear (r .0)) fails-2044 (r .1 .1)))
+      | inr r ↦ ap (λ (v : Shown). v .kind) (r .1) ∙ sym second-kind
+    ]
+
+    due-then : d ≡ 3883
+    due-then = elim (C .due .sample) [
+      | inl c ↦ absurd (no→⊥ (at-2044 (c .0 .0)) (subst (Matches hear (c .0 .0)) fails-2044 (c .0 .2)))
+      | inr c ↦ let f = c .1 in let e = from-2043 in omega arith
+    ]
+
+  pub second-frame : (w : Shown) × (w .kind ≡ S .kind) × OfferedAt taps 10 3883 w (fed both)
+  second-frame =
+      let (d, w, i, C, late, lasts) = subst (λ (e : Ear). (d : ℕ) × (w : Shown) × In (dueMark d w) (logAll taps 10 (fed both)) × (C : Cause e 10 (logAll taps 10 (fed both)) d w) × (2043 ≤ C .b)
+      × ((j : ℕ) → 2043 ≤ j → j < C .s → (k : Kind) × Matches e k j)) (sym (ear-all both both-sixteen few))
+      (due-cause-48 (fed both) both-sampled 2043 (S .kind, takes-again) (let n = both-fed in omega arith)) in
+      let k : w .kind ≡ S .kind = shows d w C late lasts in
+      (w, k, subst (λ (n : ℕ). OfferedAt taps 10 n w (fed both)) (due-then d w C late lasts) (due-offered-48 (fed both) both-sampled d w (ap offered k ∙ gives) i))

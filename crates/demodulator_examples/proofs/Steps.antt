@@ -1,0 +1,145 @@
+-- What the rules make of a fed sample: where no kind matches nothing is held, one that matches is taken, a wait runs down. Assumes nothing.
+use mathlib.Core.Path.{_≡_, refl, sym, ap, _∙_, fun-ext}
+use mathlib.Core.Bool.{Bool, true, false}
+use mathlib.Core.List.{List, [], _∷_, _++_, append-nil, append-assoc}
+use Prim.Native.Nat.{ℕ, _+_, _-_, _^_, _≤_, _<_}
+use native.Mathlib.Omega.{arith}
+use lib.Dec.{ltb, lt→ltb}
+use lib.IntN.{ℤ}
+use lib.ListN.{length, length-append}
+use lib.Ieee.{Float}
+use lib.Ieee.Bits.{is-true}
+use Rattle.shaping.specs.Taps.{taps}
+use Rattle.protocol.specs.declared.Kind.{Kind}
+use Rattle.protocol.specs.declared.SyncBurst.the-variants.{Frame}
+use Rattle.decode.specs.Correlator.{correlation, matches}
+use Rattle.demodulator.specs.declared.Candidate.{Candidate}
+use Rattle.demodulator.specs.declared.Candidate.the-variants.{Nothing, Held}
+use Rattle.demodulator.specs.declared.Wait.{Wait}
+use Rattle.demodulator.specs.declared.Wait.the-variants.{Free, Due}
+use Rattle.demodulator.specs.declared.Timer.{Timer}
+use Rattle.demodulator.specs.declared.Control.{Control}
+use Rattle.demodulator.specs.Search.{withTimer, sameKind, taken, searched}
+use Rattle.demodulator.specs.Turn.{counted, cleared, offered, owing, due, waited, sampled}
+use Rattle.demodulator_run.specs.Rules.{Heard, heardFrom}
+use Rattle.demodulator_run.specs.Demands.{earOf}
+use Rattle.demodulator_run.specs.Exact.{lastSample}
+use Rattle.demodulator_run.proofs.Calling.{ear-now}
+use Rattle.demodulator_run.proofs.Pass.{Step, controlled, passBy, search-pass, pass-quiet, pass-first}
+use Rattle.demodulator_examples.proofs.Fed.{fed, next, next-is, eightAt}
+
+-- n samples have come, and no reply is owed
+abbrev pub standing : List ℤ → Candidate → Wait → Timer → ℕ → Heard
+standing xs held wait t n = record { samples = xs; control = controlled held wait t false n }
+
+abbrev pub waiting : ℕ → Wait
+waiting left = Due (record { left = left })
+
+-- the kinds that match are those of the test
+abbrev pub Hits : (ℕ → Float) → (Kind → Bool) → Type 0
+Hits v hit = (k : Kind) → matches (Frame k) v ≡ hit k
+
+abbrev pub none : Kind → Bool
+none k = false
+
+-- ---- one sample
+searched-as : (v : ℕ → Float) (c : Control) (hit : Kind → Bool) → Hits v hit → (t : Timer) × (searched 10 v c ≡ passBy 10 hit (λ k. correlation (Frame k) v) (withTimer t c) .control)
+searched-as v c hit e =
+    let (t, f) = search-pass 10 v c in
+    (t, ap (λ (s : Step). s .control) f ∙ ap (λ (g : Kind → Bool). passBy 10 g (λ k. correlation (Frame k) v) (withTimer t c) .control) (fun-ext e))
+
+-- what is heard at the newest of some samples, in a run that goes on
+newest : (all xs more : List ℤ) (n : ℕ) → length xs ≡ n → all ≡ xs ++ more → earOf taps 10 all n ≡ eightAt xs
+newest all xs more n l e = ap (λ (zs : List ℤ). earOf taps 10 zs n) e ∙ ap (earOf taps 10 (xs ++ more)) (sym l) ∙ ear-now taps 10 xs more
+
+module _ (all : List ℤ) (xs : List ℤ) (x : ℤ) (more : List ℤ) (n : ℕ) (long : length xs ≡ n) (part : all ≡ xs ++ (x ∷ more)) (few : n < 2 ^ 63) where
+  one-more : length (xs ++ (x ∷ [])) ≡ n + 1
+  one-more = length-append xs (x ∷ []) ∙ omega arith
+
+  hears : earOf taps 10 all (n + 1) ≡ eightAt (xs ++ (x ∷ []))
+  hears = newest all (xs ++ (x ∷ [])) more (n + 1) one-more (part ∙ sym (append-assoc xs (x ∷ []) more))
+
+  -- the search runs
+  pub next-search : (held : Candidate) (t : Timer) (hit : Kind → Bool) → Hits (earOf taps 10 all (n + 1)) hit
+      → (u : Timer) × (next (standing xs held Free t n) x ≡ record {
+        samples = xs ++ (x ∷ []);
+        control = owing false (passBy 10 hit (λ k. correlation (Frame k) (earOf taps 10 all (n + 1))) (controlled held Free u false (n + 1)) .control);
+      })
+  unfolding sampled waited
+  next-search held t hit h =
+      let (u, e) = searched-as (earOf taps 10 all (n + 1)) (counted (controlled held Free t false n)) hit h in (
+        u,
+        next-is (standing xs held Free t n) x refl few
+            ∙ ap (λ (w : ℕ → Float). record { samples = xs ++ (x ∷ []); control = owing false (searched 10 w (counted (controlled held Free t false n))) }) (sym hears)
+            ∙ ap (λ (c : Control). record { samples = xs ++ (x ∷ []); control = owing false c }) e,
+      )
+
+  pub next-quiet : (t : Timer) → Hits (earOf taps 10 all (n + 1)) none → (u : Timer) × (next (standing xs Nothing Free t n) x ≡ standing (xs ++ (x ∷ [])) Nothing Free u (n + 1))
+  next-quiet t h =
+      let (u, e) = next-search Nothing t none h in (
+        u,
+        e ∙ ap (λ (s : Step). record { samples = xs ++ (x ∷ []); control = owing false (s .control) })
+            (pass-quiet 10 (λ k. correlation (Frame k) (earOf taps 10 all (n + 1))) u false (n + 1)),
+      )
+
+  pub next-first : (t : Timer) (j : Kind) → Hits (earOf taps 10 all (n + 1)) (sameKind j)
+      → (u : Timer) × (next (standing xs Nothing Free t n) x ≡ standing (xs ++ (x ∷ [])) (taken j (correlation (Frame j) (earOf taps 10 all (n + 1)))) Free u (n + 1))
+  next-first t j h =
+      let (u, e) = next-search Nothing t (sameKind j) h in (
+        u,
+        e ∙ ap (λ (s : Step). record { samples = xs ++ (x ∷ []); control = owing false (s .control) })
+            (pass-first 10 (λ k. correlation (Frame k) (earOf taps 10 all (n + 1))) u false (n + 1) j),
+      )
+
+-- ---- a wait
+module _ (xs : List ℤ) (x : ℤ) (n : ℕ) (few : n < 2 ^ 63) where
+  next-waits : (held : Candidate) (t : Timer) (left : ℕ) → 1 < left
+      → next (standing xs held (waiting left) t n) x ≡ standing (xs ++ (x ∷ [])) held (waiting (left - 1)) (cleared (n + 1) t) (n + 1)
+  unfolding sampled waited
+  next-waits held t left l = rw (is-true (ltb 1 left) (lt→ltb 1 left l)) at (next-is (standing xs held (waiting left) t n) x refl few)
+
+  -- a frame is due, is offered, and is accepted
+  pub next-due : (kind : Kind) (age : ℕ) (diff gain shift : Float) (t : Timer) → offered kind ≡ true
+      → next (standing xs (Held kind age diff gain shift) lastSample t n) x ≡ standing (xs ++ (x ∷ [])) Nothing Free (cleared (n + 1) t) (n + 1)
+  unfolding sampled waited due
+  next-due kind age diff gain shift t o = rw o at (next-is (standing xs (Held kind age diff gain shift) lastSample t n) x refl few)
+
+-- ---- many
+pub quiet-run : (all zs xs more : List ℤ) (t : Timer) (n : ℕ) → length xs ≡ n → all ≡ xs ++ (zs ++ more) → n + length zs ≤ 2 ^ 63
+    → ((m : ℕ) → n < m → m ≤ n + length zs → Hits (earOf taps 10 all m) none)
+    → (u : Timer) × (heardFrom taps 10 (standing xs Nothing Free t n) (fed zs) ≡ standing (xs ++ zs) Nothing Free u (n + length zs))
+unfolding heardFrom fed
+quiet-run all [] xs more t n l p f s =
+    let count : n ≡ n + 0 = omega arith in
+    (t, ap (λ (ys : List ℤ). standing ys Nothing Free t n) (sym (append-nil xs)) ∙ ap (standing (xs ++ []) Nothing Free t) count)
+quiet-run all (x ∷ zs) xs more t n l p f s =
+    let (u, e) = next-quiet all xs x (zs ++ more) n l p (omega arith) t (s (n + 1) (omega arith) (omega arith)) in
+    let (w, g) = quiet-run all zs (xs ++ (x ∷ [])) more u (n + 1) (length-append xs (x ∷ []) ∙ omega arith) (p ∙ sym (append-assoc xs (x ∷ []) (zs ++ more))) (omega arith) (λ m a b. s m (omega arith) (omega arith)) in
+    let count : (n + 1) + length zs ≡ n + length (x ∷ zs) = omega arith in (
+      w,
+      ap (λ (h : Heard). heardFrom taps 10 h (fed zs)) e ∙ g
+          ∙ ap (λ (ys : List ℤ). standing ys Nothing Free w ((n + 1) + length zs)) (append-assoc xs (x ∷ []) zs)
+          ∙ ap (standing (xs ++ (x ∷ zs)) Nothing Free w) count,
+    )
+
+pub wait-run : (zs xs : List ℤ) (held : Candidate) (t : Timer) (n left : ℕ) → n + length zs ≤ 2 ^ 63 → length zs < left
+    → (u : Timer) × (heardFrom taps 10 (standing xs held (waiting left) t n) (fed zs) ≡ standing (xs ++ zs) held (waiting (left - length zs)) u (n + length zs))
+unfolding heardFrom fed
+wait-run [] xs held t n left f l =
+    let count : n ≡ n + 0 = omega arith in
+    let rest : left ≡ left - 0 = omega arith in (
+      t,
+      ap (λ (ys : List ℤ). standing ys held (waiting left) t n) (sym (append-nil xs)) ∙ ap (λ (m : ℕ). standing (xs ++ []) held (waiting m) t n) rest
+          ∙ ap (standing (xs ++ []) held (waiting (left - 0)) t) count,
+    )
+wait-run (x ∷ zs) xs held t n left f l =
+    let e = next-waits xs x n (omega arith) held t left (omega arith) in
+    let (w, g) = wait-run zs (xs ++ (x ∷ [])) held (cleared (n + 1) t) (n + 1) (left - 1) (omega arith) (omega arith) in
+    let count : (n + 1) + length zs ≡ n + length (x ∷ zs) = omega arith in
+    let rest : (left - 1) - length zs ≡ left - length (x ∷ zs) = omega arith in (
+      w,
+      ap (λ (h : Heard). heardFrom taps 10 h (fed zs)) e ∙ g
+          ∙ ap (λ (ys : List ℤ). standing ys held (waiting ((left - 1) - length zs)) w ((n + 1) + length zs)) (append-assoc xs (x ∷ []) zs)
+          ∙ ap (λ (m : ℕ). standing (xs ++ (x ∷ zs)) held (waiting m) w ((n + 1) + length zs)) rest
+          ∙ ap (standing (xs ++ (x ∷ zs)) held (waiting (left - length (x ∷ zs))) w) count,
+    )

@@ -1,0 +1,107 @@
+-- What is heard in a run, read from a table of its first filtered values: so that each is worked out once. Assumes nothing.
+use mathlib.Core.Path.{_≡_, refl, sym, ap, _∙_}
+use mathlib.Core.Bool.{Bool, true, false, not, _&&_}
+use mathlib.Core.List.{List, [], _∷_, _++_}
+use Prim.Native.Nat.{ℕ, zero, suc, _+_, _-_, _*_, _^_, _≤_}
+use native.Mathlib.Omega.{arith}
+use lib.Dec.{T, ltb, ltb→lt}
+use lib.IntN.{ℤ, pos}
+use lib.ListN.{length, getD, replicate, length-replicate, replicate-append-replicate}
+use lib.Seq.{take-at}
+use lib.Signed.{mag}
+use lib.Ieee.{Float}
+use lib.Ieee.Bits.{is-false}
+use lib.Ieee.Fits.{and-l, and-r}
+use mir.Syntax.{w16}
+use mir.Val.{hbits}
+use Rattle.numbers.specs.Sum.{nought}
+use Rattle.numbers.specs.Firsts.{firsts}
+use Rattle.numbers.specs.Below.{allBelow}
+use Rattle.numbers.proofs.Firsts.{firsts-at}
+use Rattle.numbers.proofs.Below.{all-below}
+use Rattle.shaping.specs.Taps.{taps}
+use Rattle.protocol.specs.declared.Kind.{Kind}
+use Rattle.protocol.specs.declared.Kind.the-variants.{Lsf, Bert, Stream, Packet}
+use Rattle.protocol.specs.declared.SyncBurst.the-variants.{Frame}
+use Rattle.decode.specs.Correlator.{correlation, matches}
+use Rattle.decode.proofs.Same.{correlation-same, matches-same}
+use Rattle.demodulator_run.specs.Filter.{filtered}
+use Rattle.demodulator_run.specs.Demands.{earOf, at}
+use Rattle.demodulator_run.proofs.Hearing.{filtered-taken}
+use Rattle.demodulator_run.proofs.Sixteen.{taps-size}
+use Rattle.demodulator_examples.proofs.Fed.{Sixteen}
+use Rattle.demodulator_examples.proofs.Steps.{Hits, none}
+
+-- ---- zeros, and i16s
+unfoldable pub pause : ℕ → List ℤ
+pause n = replicate n (pos 0)
+
+pub pause-split : (m n : ℕ) → pause (m + n) ≡ pause m ++ pause n
+unfolding pause
+pause-split m n = sym (replicate-append-replicate m n (pos 0))
+
+pub pause-suc : (n : ℕ) → pause (suc n) ≡ pos 0 ∷ pause n
+unfolding pause
+pause-suc n = refl
+
+pub pause-length : (n : ℕ) → length (pause n) ≡ n
+unfolding pause
+pause-length n = length-replicate n (pos 0)
+
+unfoldable pub allSixteen : List ℤ → Bool
+allSixteen [] = true
+allSixteen (x ∷ xs) = ltb (mag x) (2 ^ hbits w16) && allSixteen xs
+
+pub sixteen-test : (xs : List ℤ) → T (allSixteen xs) → Sixteen xs
+unfolding allSixteen Sixteen
+sixteen-test [] t = tt
+sixteen-test (x ∷ xs) t =
+    let b = ltb (mag x) (2 ^ hbits w16) in
+    (record { sfits = ltb→lt (mag x) (2 ^ hbits w16) (and-l b (allSixteen xs) t) }, sixteen-test xs (and-r b (allSixteen xs) t))
+
+pub sixteen-pause : (n : ℕ) → Sixteen (pause n)
+unfolding pause Sixteen
+sixteen-pause zero = tt
+sixteen-pause (suc n) = (record { sfits = ltb→lt 0 (2 ^ hbits w16) tt }, sixteen-pause n)
+
+-- ---- the eight values at sample k, from F(0), F(1), ..
+abbrev pub listed : List Float → ℕ → ℕ → Float
+listed table k i = getD table (k - 10 * (7 - i)) nought
+
+unfoldable pub silent : List Float → ℕ → Bool
+silent table k =
+    not (matches (Frame Lsf) (listed table k))
+    && (not (matches (Frame Bert) (listed table k)) && (not (matches (Frame Stream) (listed table k)) && not (matches (Frame Packet) (listed table k))))
+
+four : (m : Kind → Bool) → T (not (m Lsf) && (not (m Bert) && (not (m Stream) && not (m Packet)))) → (k : Kind) → m k ≡ false
+four m t = let rest : Bool = not (m Bert) && (not (m Stream) && not (m Packet)) in go (and-l (not (m Lsf)) rest t) (and-r (not (m Lsf)) rest t)
+  where
+    go : T (not (m Lsf)) → T (not (m Bert) && (not (m Stream) && not (m Packet))) → (k : Kind) → m k ≡ false
+    go a b Lsf = is-false (m Lsf) a
+    go a b Bert = is-false (m Bert) (and-l (not (m Bert)) (not (m Stream) && not (m Packet)) b)
+    go a b Stream = is-false (m Stream) (and-l (not (m Stream)) (not (m Packet)) (and-r (not (m Bert)) (not (m Stream) && not (m Packet)) b))
+    go a b Packet = is-false (m Packet) (and-r (not (m Stream)) (not (m Packet)) (and-r (not (m Bert)) (not (m Stream) && not (m Packet)) b))
+
+pub silent-none : (table : List Float) (k : ℕ) → T (silent table k) → Hits (listed table k) none
+unfolding silent
+silent-none table k t = four (λ j. matches (Frame j) (listed table k)) t
+
+module _ (all ys more : List ℤ) (part : all ≡ ys ++ more) (n : ℕ) (long : length ys ≡ n) (table : List Float) (tabled : firsts (filtered taps 10 ys) (suc n) ≡ table) where
+  pub listens : (k : ℕ) → k ≤ n → (i : ℕ) → earOf taps 10 all k i ≡ listed table k i
+  listens k l i =
+      let m : ℕ = k - 10 * (7 - i) in
+      filtered-taken taps 10 taps-size k all m (omega arith)
+      ∙ ap (λ (zs : List ℤ). filtered taps 10 zs m) part
+      ∙ sym (filtered-taken taps 10 taps-size n (ys ++ more) m (omega arith))
+      ∙ ap (λ (zs : List ℤ). filtered taps 10 zs m) (take-at ys more n long)
+      ∙ sym (firsts-at (filtered taps 10 ys) (suc n) m nought (omega arith))
+      ∙ ap (λ (t : List Float). getD t m nought) tabled
+
+  pub hits-listed : (k : ℕ) → k ≤ n → (hit : Kind → Bool) → Hits (listed table k) hit → Hits (earOf taps 10 all k) hit
+  hits-listed k l hit h j = matches-same (Frame j) (earOf taps 10 all k) (listed table k) (λ i b. listens k l i) ∙ h j
+
+  pub at-listed : (k : ℕ) → k ≤ n → (j : Kind) → at (earOf taps 10 all) j k ≡ correlation (Frame j) (listed table k)
+  at-listed k l j = correlation-same (Frame j) (earOf taps 10 all k) (listed table k) (λ i b. listens k l i)
+
+  pub silent-listed : (m : ℕ) → m ≤ n → T (allBelow (suc m) (silent table)) → (k : ℕ) → k ≤ m → Hits (earOf taps 10 all k) none
+  silent-listed m l t k h = hits-listed k (omega arith) none (silent-none table k (all-below (suc m) (silent table) t k (omega arith)))

@@ -1,0 +1,77 @@
+-- What is proved of the receiver over whole runs: demand 3 of the rules, then demand 2, of the rules and the record. Assumes nothing.
+-- the kinds in the order of the search
+pub mod Listing
+-- the pass over them in closed form
+pub mod Pass
+-- a log with one mark more
+pub mod Log
+-- what a log tells of each frame and each take
+pub mod Account
+-- the invariant
+pub mod Phase
+-- a first take keeps it
+pub mod Begin
+-- a candidate that stays or is taken anew
+pub mod Hold
+-- one that fails
+pub mod Fail
+-- a frame that falls due
+pub mod Falling
+-- a search
+pub mod Searching
+-- a sample and a reply
+pub mod Turning
+-- the count
+pub mod Count
+-- a call
+pub mod Calling
+-- all calls
+pub mod Run
+-- the due sample, from the invariant
+pub mod Rule
+-- the span and the age, from the invariant
+pub mod Span
+-- demand 3 over p
+pub mod Demand
+-- what can be heard in range
+pub mod Hearing
+-- samples of 16 bits
+pub mod Sixteen
+-- a search's marks
+pub mod SearchExact
+-- a sample's and a reply's marks
+pub mod StepExact
+-- the log's marks
+pub mod LogExact
+-- a due frame's window
+pub mod Window
+-- the control that a run leaves
+pub mod Reached
+-- demand 3 at 48,000 samples in a second
+pub mod Demand48
+-- a ring of any length
+pub mod Ring
+-- one more sample
+pub mod Causal
+-- F of samples of 16 bits
+pub mod InRange
+-- the control stays fit in a run
+pub mod RunFits
+-- the record's rings after a sample
+pub mod Stored
+-- when the record is fit
+pub mod RecordFit
+-- readers that agree
+pub mod SameWindow
+-- one call, the record's and the rules'
+pub mod Step
+-- all calls
+pub mod Whole
+-- demand 2
+pub mod ReceiverRun
+-- a refused call changes nothing
+pub mod Refused
+-- examples, computed
+pub mod Worked
+-- instances that meet what the laws ask
+pub mod RunInstances

@@ -1,0 +1,160 @@
+-- Demand 3: what is asked of the frames that fall due, offered or not. Over what is heard at each sample, `ear k i` for the value i of the eight at sample k, and over a log of marks.
+-- Assumes nothing.
+use mathlib.Core.Path.{_≡_}
+use mathlib.Core.Logic.{_⊎_, _↔_}
+use mathlib.Core.Bool.{not}
+use mathlib.Core.List.{List, List·Memᴰ}
+use Prim.Native.Nat.{ℕ, _+_, _-_, _*_, _≤_, _<_}
+use lib.Dec.{T}
+use lib.IntN.{ℤ}
+use lib.ListN.{take}
+use lib.Ieee.{Float, lt}
+use Rattle.protocol.specs.declared.Kind.{Kind}
+use Rattle.protocol.specs.declared.SyncBurst.the-variants.{Frame}
+use Rattle.decode.specs.declared.Correlation.{Correlation}
+use Rattle.decode.specs.Correlator.{symbolOf, correlation, matches}
+use Rattle.demodulator.specs.declared.Candidate.{Candidate}
+use Rattle.demodulator.specs.declared.Candidate.the-variants.{Nothing, Held}
+use Rattle.demodulator.specs.Search.{rank}
+use Rattle.demodulator.specs.Turn.{eight, symbolAt}
+use Rattle.demodulator_run.specs.Filter.{filtered, ago}
+use Rattle.demodulator_run.specs.Marks.{Mark, First, Anew, FellDue}
+
+-- ---- what is heard
+abbrev pub Ear : Type 0
+Ear = ℕ → ℕ → Float
+
+-- "Correlate at k: the eight values F(k-70), F(k-60), .. F(k)": of the samples up to k
+abbrev pub earOf : List Float → ℕ → List ℤ → Ear
+earOf table p xs k = eight p (λ (j : ℕ). filtered table p (take k xs) (k - j))
+
+module _ (ear : Ear) where
+  abbrev pub at : Kind → ℕ → Correlation
+  at kind k = correlation (Frame kind) (ear k)
+
+  -- the kind matches at sample k
+  abbrev pub Matches : Kind → ℕ → Type 0
+  Matches kind k = T (matches (Frame kind) (ear k))
+
+  abbrev pub Unmatched : Kind → ℕ → Type 0
+  Unmatched kind k = T (not (matches (Frame kind) (ear k)))
+
+  -- kind j's diff at sample m is above kind k's at sample n
+  abbrev pub Above : Kind → ℕ → Kind → ℕ → Type 0
+  Above j m k n = T (lt (at k n .diff) (at j m .diff))
+
+  -- at most one kind matches at a sample
+  abbrev pub Alone : Type 0
+  Alone = (j k : Kind) (n : ℕ) → Matches j n → Matches k n → j ≡ k
+
+  -- "one kind cannot match at k and at k+10"
+  abbrev pub NotAgain : ℕ → Type 0
+  NotAgain p = (k : Kind) (n : ℕ) → Matches k n → Matches k (n + p) → ⊥
+
+  -- nor can two
+  abbrev pub Apart : ℕ → Type 0
+  Apart p = (j k : Kind) (n : ℕ) → Matches j n → Matches k (n + p) → ⊥
+
+-- ---- what the log tells
+abbrev pub In : Mark → List Mark → Type 0
+In y l = List·Memᴰ y l
+
+-- a candidate was taken at sample n while none was held
+abbrev pub Started : List Mark → ℕ → Type 0
+Started l n = (k : Kind) × In (First n k) l
+
+-- a candidate of kind k was taken at sample b
+abbrev pub Taken : List Mark → ℕ → Kind → Type 0
+Taken l b k = In (First b k) l ⊎ ((j : Kind) × In (Anew b j k) l)
+
+-- .. and not in place of an earlier-listed kind, whose own failure on that sample had set the wait
+abbrev pub Standing : List Mark → ℕ → Kind → Type 0
+Standing l b k = In (First b k) l ⊎ ((j : Kind) × In (Anew b j k) l × (rank k ≤ rank j))
+
+-- a frame fell due at sample d
+abbrev pub DueAt : List Mark → ℕ → Type 0
+DueAt l d = (k : Kind) × (gain : Float) × (shift : Float) × In (FellDue d k gain shift) l
+
+-- ---- the span and the age
+-- "a candidate taken at n while none was held": once n + (up - 1) samples are fed, a frame falls due at some d from n + (184p - 1) to n + (up - 1)
+abbrev pub DueSpan : ℕ → ℕ → ℕ → List Mark → Type 0
+DueSpan p up fed l = (n : ℕ) → Started l n → n + (up - 1) ≤ fed → (d : ℕ) × DueAt l d × (n + (184 * p - 1) ≤ d) × (d ≤ n + (up - 1))
+
+-- and each due frame comes so from a candidate
+abbrev pub DueFrom : ℕ → ℕ → List Mark → Type 0
+DueFrom p up l = (d : ℕ) → DueAt l d → (n : ℕ) × Started l n × (n + (184 * p - 1) ≤ d) × (d ≤ n + (up - 1))
+
+-- no two samples from lo to hi have a due frame
+abbrev pub AtMostOne : List Mark → ℕ → ℕ → Type 0
+AtMostOne l lo hi = (d e : ℕ) → DueAt l d → DueAt l e → lo ≤ d → d ≤ hi → lo ≤ e → e ≤ hi → d ≡ e
+
+abbrev pub DueOnce : ℕ → List Mark → Type 0
+DueOnce p l = (n : ℕ) → AtMostOne l (n + (184 * p - 1)) (n + (188 * p - 1))
+
+abbrev pub AgeAtMost : ℕ → Candidate → Type 0
+AgeAtMost limit Nothing = Unit {0}
+AgeAtMost limit (Held kind age diff gain shift) = age ≤ limit
+
+-- ---- the due sample
+-- "let b be the sample where the candidate whose failure set the wait was last taken"; s is the sample where it failed
+pub record Fails (ear : Ear) (l : List Mark) (b : ℕ) (k : Kind) (s : ℕ) : Type 0 where
+  pub standing : Standing l b k
+  pub later : b < s
+  pub matched : (j : ℕ) → b ≤ j → j < s → Matches ear k j
+  pub larger : (j : ℕ) → b < j → j < s → Above ear k j k b
+  -- nothing was taken between: on no sample between, and on s by no kind whose turn comes first
+  pub last : (j : ℕ) (i : Kind) → b < j → j < s → Taken l j i → ⊥
+  pub kept : (i : Kind) → rank i < rank k → Taken l s i → ⊥
+  pub lost : Unmatched ear k s
+
+-- "if on the sample that set the wait an earlier-listed kind matched with a larger diff"
+abbrev pub Corner : Ear → ℕ → Kind → ℕ → Type 0
+Corner ear b k s = (j : Kind) × (rank j < rank k) × Matches ear j s × Above ear j s k b
+
+-- "If a later-listed kind replaced the candidate there": it matched, and its diff was not above
+abbrev pub Replaces : Ear → ℕ → Kind → ℕ → Kind → Type 0
+Replaces ear b k s j = (rank k < rank j) × Matches ear j s × (Above ear j s k b → ⊥)
+
+-- what a due frame shows
+pub record Shown : Type 0 where
+  pub kind : Kind
+  pub gain : Float
+  pub shift : Float
+
+abbrev pub shownAt : Ear → Kind → ℕ → Shown
+shownAt ear k n = record { kind = k; gain = at ear k n .gain; shift = at ear k n .shift }
+
+abbrev pub dueMark : ℕ → Shown → Mark
+dueMark d x = FellDue d (x .kind) (x .gain) (x .shift)
+
+-- "The frame is due at b+1,840 .. One corner .. it is b+1,839. If a later-listed kind replaced the candidate there, kind, gain and shift are the new one's."
+pub record DueBy (ear : Ear) (p : ℕ) (b : ℕ) (k : Kind) (s : ℕ) (d : ℕ) (x : Shown) : Type 0 where
+  pub sample : (Corner ear b k s × (d + 1 ≡ b + 184 * p)) ⊎ ((Corner ear b k s → ⊥) × (d ≡ b + 184 * p))
+  pub shown : ((j : Kind) × Replaces ear b k s j × (x ≡ shownAt ear j s)) ⊎ (((j : Kind) → Replaces ear b k s j → ⊥) × (x ≡ shownAt ear k b))
+
+-- symbol i of the window that is given once xs are the samples is made of F(m)
+abbrev pub LiesAt : List Float → ℕ → List ℤ → Shown → ℕ → ℕ → Type 0
+LiesAt table p xs x i m = symbolAt p (x .gain) (x .shift) (ago table p xs) i ≡ symbolOf (x .gain) (x .shift) (filtered table p xs m)
+
+-- a candidate whose failure makes a frame due at d, showing x
+pub record Cause (ear : Ear) (p : ℕ) (l : List Mark) (d : ℕ) (x : Shown) : Type 0 where
+  pub b : ℕ
+  pub kind : Kind
+  pub s : ℕ
+  pub fails : Fails ear l b kind s
+  pub due : DueBy ear p b kind s d x
+
+-- the frame that a candidate taken at n while none was held leads to: its own candidate was taken from n on, and some kind matched at every sample from n until it failed
+abbrev pub DueCause : Ear → ℕ → ℕ → ℕ → List Mark → Type 0
+DueCause ear p up fed l =
+    (n : ℕ) → Started l n → n + (up - 1) ≤ fed
+    → (d : ℕ) × (x : Shown) × In (dueMark d x) l × (C : Cause ear p l d x) × (n ≤ C .b) × ((j : ℕ) → n ≤ j → j < C .s → (k : Kind) × Matches ear k j)
+
+pub record DueRule (ear : Ear) (p : ℕ) (fed : ℕ) (l : List Mark) : Type 0 where
+  -- both ways: a frame falls due exactly where there is such a candidate, once fed
+  pub exact : (d : ℕ) (x : Shown) → In (dueMark d x) l ↔ ((d ≤ fed) × Cause ear p l d x)
+  -- one candidate alone
+  pub only : (d : ℕ) (x y : Shown) → d ≤ fed → (A : Cause ear p l d x) (B : Cause ear p l d y) → (A .b ≡ B .b) × (A .kind ≡ B .kind) × (A .s ≡ B .s) × (x ≡ y)
+  -- b, its kind and s leave no choice of d and of what is shown, and always leave one
+  pub settled : (b : ℕ) (k : Kind) (s : ℕ) → (d : ℕ) × (x : Shown) × DueBy ear p b k s d x
+  pub decided : (b : ℕ) (k : Kind) (s : ℕ) (d e : ℕ) (x y : Shown) → DueBy ear p b k s d x → DueBy ear p b k s e y → (d ≡ e) × (x ≡ y)

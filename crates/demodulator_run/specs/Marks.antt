@@ -1,0 +1,109 @@
+-- What happens in a run, as a log of marks, oldest first. A mark is read off a step from the control before it and from what is heard: no rule reads one. Assumes nothing.
+use mathlib.Core.Bool.{Bool, true, false, cond}
+use mathlib.Core.List.{List, [], _∷_, _++_}
+use Prim.Native.Nat.{ℕ}
+use lib.Dec.{ltb}
+use lib.Ieee.{Float, lt}
+use Rattle.protocol.specs.declared.Kind.{Kind}
+use Rattle.protocol.specs.declared.Kind.the-variants.{Lsf, Bert, Stream, Packet}
+use Rattle.protocol.specs.declared.SyncBurst.the-variants.{Frame, Preamble, EndOfTransmission}
+use Rattle.decode.specs.declared.Correlation.{Correlation}
+use Rattle.decode.specs.Correlator.{correlation, matches}
+use Rattle.demodulator.specs.declared.Candidate.{Candidate}
+use Rattle.demodulator.specs.declared.Candidate.the-variants.{Nothing, Held}
+use Rattle.demodulator.specs.declared.Wait.{Wait}
+use Rattle.demodulator.specs.declared.Wait.the-variants.{Free, Due}
+use Rattle.demodulator.specs.declared.Control.{Control}
+use Rattle.demodulator.specs.declared.Reply.{Reply}
+use Rattle.demodulator.specs.declared.Reply.the-variants.{Accepted, Rejected}
+use Rattle.demodulator.specs.Search.{carried, sameKind, tried}
+use Rattle.demodulator.specs.Turn.{eight, counted, freed, owing, offered}
+use Rattle.demodulator.specs.Calls.{Paper, refusal, nothing, frame, done, carrier}
+use Rattle.demodulator_run.specs.Filter.{ago}
+use Rattle.demodulator_run.specs.Rules.{Call, sample, reply, query, Heard, start, called}
+
+-- each with the number of its sample
+pub data Mark : Type 0 where
+  -- "takes a new candidate" while none was held: its kind
+  First : ℕ → Kind → Mark
+  -- "takes a new candidate" while one was held: the held one's kind, and the new one's
+  Anew : ℕ → Kind → Kind → Mark
+  -- "a kind does not match and the held candidate is of that kind": the wait is set
+  Failed : ℕ → Kind → Mark
+  -- "a frame is due": its kind, gain and shift
+  FellDue : ℕ → Kind → Float → Float → Mark
+
+-- ---- the search
+-- "A match whose diff is above the held candidate's adds one to its age .. Any other match, ties included, takes a new candidate"
+unfoldable pub takenMarks : ℕ → Candidate → Kind → Correlation → List Mark
+takenMarks n Nothing kind m = First n kind ∷ []
+takenMarks n (Held k age diff gain shift) kind m = cond (lt diff (m .diff)) [] (Anew n k kind ∷ [])
+
+-- "If a kind does not match and the held candidate is of that kind, the wait becomes .."
+unfoldable pub missedMarks : ℕ → Kind → Candidate → List Mark
+missedMarks n kind Nothing = []
+missedMarks n kind (Held k age diff gain shift) = cond (sameKind k kind) (Failed n kind ∷ []) []
+
+-- one kind's turn in the pass
+unfoldable pub triedMarks : (ℕ → Float) → Kind → Control → List Mark
+triedMarks v kind c =
+    cond (matches (Frame kind) v) (takenMarks (c .sample) (c .candidate) kind (correlation (Frame kind) v)) (missedMarks (c .sample) kind (c .candidate))
+
+-- "LSF, BERT, Stream, Packet in that order": each from the control that the kinds before it left
+unfoldable pub passedMarks : ℕ → (ℕ → Float) → Control → List Mark
+passedMarks p v c =
+    let c₁ : Control = tried p v Lsf c in
+    let c₂ : Control = tried p v Bert c₁ in
+    let c₃ : Control = tried p v Stream c₂ in
+    triedMarks v Lsf c ++ (triedMarks v Bert c₁ ++ (triedMarks v Stream c₂ ++ triedMarks v Packet c₃))
+
+unfoldable pub searchedMarks : ℕ → (ℕ → Float) → Control → List Mark
+searchedMarks p v c = passedMarks p v (carried p EndOfTransmission v (carried p Preamble v c))
+
+-- ---- a sample
+-- "At 0 the wait and the candidate are removed and a frame is due." The control is the one after the removal.
+unfoldable pub dueMarks : ℕ → (ℕ → Float) → Candidate → Control → List Mark
+dueMarks p v Nothing c = searchedMarks p v c
+dueMarks p v (Held kind age diff gain shift) c = FellDue (c .sample) kind gain shift ∷ cond (offered kind) [] (searchedMarks p v c)
+
+-- "while more than 0 is left the sample is finished, with no search"
+unfoldable pub waitedMarks : ℕ → (ℕ → Float) → Wait → Control → List Mark
+waitedMarks p v Free c = searchedMarks p v c
+waitedMarks p v (Due w) c = cond (ltb 1 (w .left)) [] (dueMarks p v (c .candidate) (freed c))
+
+unfoldable pub sampledMarks : ℕ → (ℕ → Float) → Control → List Mark
+sampledMarks p v c = waitedMarks p v (c .wait) (counted c)
+
+-- ---- a reply
+-- "Accepted: the sample is finished. Rejected: the search runs for that same sample."
+unfoldable pub repliedMarks : ℕ → (ℕ → Float) → Reply → Control → List Mark
+repliedMarks p v Accepted c = []
+repliedMarks p v Rejected c = searchedMarks p v (owing false c)
+
+-- ---- a run
+-- "Every refusal returns its number only"
+abbrev pub isRefusal : Paper → Bool
+isRefusal (refusal number) = true
+isRefusal nothing = false
+isRefusal (frame kind n) = false
+isRefusal done = false
+isRefusal (carrier held) = false
+
+module _ (table : List Float) (p : ℕ) where
+  -- what the call would mark if it is accepted
+  unfoldable pub stepMarks : Heard → Call → List Mark
+  stepMarks h (sample x room) = sampledMarks p (eight p (ago table p (h .samples ++ (x ∷ [])))) (h .control)
+  stepMarks h (reply r) = repliedMarks p (eight p (ago table p (h .samples))) r (h .control)
+  stepMarks h query = []
+
+  -- a refused call marks nothing
+  unfoldable pub calledMarks : Heard → Call → List Mark
+  calledMarks h c = cond (isRefusal (called table p h c .said .answer)) [] (stepMarks h c)
+
+  unfoldable pub logFrom : Heard → List Call → List Mark
+  logFrom h [] = []
+  logFrom h (c ∷ cs) = calledMarks h c ++ logFrom (called table p h c .heard) cs
+
+  -- the marks of all the calls since a fresh start
+  abbrev pub logAll : List Call → List Mark
+  logAll cs = logFrom start cs

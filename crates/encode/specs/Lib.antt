@@ -1,0 +1,2 @@
+-- The two frames whose symbols are fixed.
+pub mod Frames

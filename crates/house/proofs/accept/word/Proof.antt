@@ -1,0 +1,38 @@
+-- `accept::word` meets its contract. Assumes nothing.
+use borrow.Author.Needs.{needs}
+use Rattle.protocol.specs.Bursts.{wordOf}
+use Rattle.house.proofs.accept.word.Statement.{statement}
+use Rattle.house.proofs.accept.word.Tie as tie
+
+enum-told : tie.Need-enum-told
+enum-told c = search needs
+
+enum-told-2 : tie.Need-enum-told-2
+enum-told-2 c = search needs
+
+enum-told-3 : tie.Need-enum-told-3
+enum-told-3 c = search needs
+
+enum-told-4 : tie.Need-enum-told-4
+enum-told-4 c = search needs
+
+returns : tie.Need-returns
+unfolding wordOf
+returns c = search needs
+
+returns-2 : tie.Need-returns-2
+unfolding wordOf
+returns-2 c = search needs
+
+returns-3 : tie.Need-returns-3
+unfolding wordOf
+returns-3 c = search needs
+
+returns-4 : tie.Need-returns-4
+unfolding wordOf
+returns-4 c = search needs
+
+pub word-spec : {M : Type 1} → statement M
+word-spec =
+    tie.close
+    (tie.spec enum-told enum-told-2 enum-told-3 enum-told-4 returns returns-2 returns-3 returns-4)

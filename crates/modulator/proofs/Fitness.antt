@@ -1,0 +1,129 @@
+-- What a fit record is known to be, clause by clause. Assumes nothing.
+use mathlib.Core.Path.{_≡_, refl, sym, subst}
+use mathlib.Core.Bool.{Bool, true, _&&_}
+use Prim.Native.Nat.{ℕ, _≤_, _<_}
+use lib.Dec.{T, leb, leb→le}
+use lib.ListN.{getD}
+use lib.Ieee.{Float, nan, binary32, ofBits, le}
+use lib.Ieee.Bits.{is-true}
+use lib.Ieee.Fits.{and-l, and-r}
+use Rattle.numbers.specs.Within.{Within}
+use Rattle.numbers.proofs.Below.{all-below}
+use Rattle.numbers.proofs.Bounds.{between}
+use Rattle.modulator.specs.declared.SampleCount.{SampleCount}
+use Rattle.modulator.specs.declared.EndReport.{EndReport}
+use Rattle.modulator.specs.declared.EndReport.the-variants.{After}
+use Rattle.modulator.specs.declared.Progress.{Progress}
+use Rattle.modulator.specs.declared.OutputBuffer.{OutputBuffer}
+use Rattle.modulator.specs.declared.SoftModulator.{SoftModulator}
+use Rattle.modulator.specs.Fit.{pulseFit, windowFit, progressFit, bufferFit, countFit, reportFit, cursorFit, recordFit}
+
+-- ---- the facts
+pub record ProgressFacts (s : Progress) : Type 0 where
+  pub len : s .«next_len» ≤ 4000
+  pub read : s .«next_read» ≤ s .«next_len»
+  pub padding : s .«tx_delay_padding» ≤ 122400
+
+pub record BufferFacts (b : OutputBuffer) : Type 0 where
+  pub fill : b .«samples_in_buf» ≤ 16777216
+  pub capacity : b .«buf_capacity» ≤ 16777216
+  pub latency : b .«output_latency» ≤ 16777216
+  pub room : b .«samples_in_buf» ≤ b .«buf_capacity»
+
+pub record RecordFacts (m : SoftModulator) : Type 0 where
+  pub cursor : m .«filter_cursor» ≤ 80
+  pub window : (i : ℕ) → i < 81 → Within (getD (m .«filter_win») i nan) 35461
+  pub progress : ProgressFacts (m .progress)
+  pub buffer : BufferFacts (m .buffer)
+  pub report : (end : SampleCount) → m .pending .«report_tx_end» ≡ After end → end .0 ≤ 33554432
+
+-- ---- tests
+holds : {b : Bool} → b ≡ true → T b
+holds e = subst T (sym e) tt
+
+-- ---- each clause
+pub pulse-within : (value : Float) → T (pulseFit value) → Within value 35461
+unfolding pulseFit ofBits
+pulse-within value t =
+    let low = ofBits binary32 0xc70a_8500 in
+    let high = ofBits binary32 0x470a_8500 in
+    between low value high 35461 (refl, refl) (refl, refl) (and-l (le low value) (le value high) t) (and-r (le low value) (le value high) t)
+
+progress-facts : (s : Progress) → T (progressFit 10 s) → ProgressFacts s
+progress-facts s t =
+    let len = leb (s .«next_len») 4000 in
+    let read = leb (s .«next_read») (s .«next_len») in
+    let padding = leb (s .«tx_delay_padding») 122400 in
+    let two = and-l (len && read) padding t in
+    record {
+      len = leb→le (s .«next_len») 4000 (and-l len read two);
+      read = leb→le (s .«next_read») (s .«next_len») (and-r len read two);
+      padding = leb→le (s .«tx_delay_padding») 122400 (and-r (len && read) padding t);
+    }
+
+pub count-fact : (n : ℕ) → T (countFit n) → n ≤ 16777216
+count-fact n t = leb→le n 16777216 t
+
+buffer-facts : (b : OutputBuffer) → T (bufferFit b) → BufferFacts b
+buffer-facts b t =
+    let fill = countFit (b .«samples_in_buf») in
+    let capacity = countFit (b .«buf_capacity») in
+    let latency = countFit (b .«output_latency») in
+    let room = leb (b .«samples_in_buf») (b .«buf_capacity») in
+    let three = and-l (fill && capacity && latency) room t in
+    let two = and-l (fill && capacity) latency three in
+    record {
+      fill = count-fact (b .«samples_in_buf») (and-l fill capacity two);
+      capacity = count-fact (b .«buf_capacity») (and-r fill capacity two);
+      latency = count-fact (b .«output_latency») (and-r (fill && capacity) latency three);
+      room = leb→le (b .«samples_in_buf») (b .«buf_capacity») (and-r (fill && capacity && latency) room t);
+    }
+
+report-fact : (end : SampleCount) → T (reportFit (After end)) → end .0 ≤ 33554432
+report-fact end t = leb→le (end .0) 33554432 t
+
+-- ---- all of them
+-- the five groups of phrases
+pub record Groups (m : SoftModulator) : Type 0 where
+  pub cursor : T (cursorFit m)
+  pub window : T (windowFit m)
+  pub progress : T (progressFit 10 (m .progress))
+  pub buffer : T (bufferFit (m .buffer))
+  pub report : T (reportFit (m .pending .«report_tx_end»))
+
+pub groups : (m : SoftModulator) → recordFit m ≡ true → Groups m
+unfolding recordFit
+groups m e =
+    let cursor = cursorFit m in
+    let window = windowFit m in
+    let progress = progressFit 10 (m .progress) in
+    let buffer = bufferFit (m .buffer) in
+    let report = reportFit (m .pending .«report_tx_end») in
+    let t = holds e in
+    let four = and-l (cursor && window && progress && buffer) report t in
+    let three = and-l (cursor && window && progress) buffer four in
+    let two = and-l (cursor && window) progress three in
+    record {
+      cursor = and-l cursor window two;
+      window = and-r cursor window two;
+      progress = and-r (cursor && window) progress three;
+      buffer = and-r (cursor && window && progress) buffer four;
+      report = and-r (cursor && window && progress && buffer) report t;
+    }
+
+pub grouped : (m : SoftModulator) → Groups m → recordFit m ≡ true
+unfolding recordFit
+grouped m g = rw (is-true (cursorFit m) (g .cursor), is-true (windowFit m) (g .window), is-true (progressFit 10 (m .progress)) (g .progress), is-true (bufferFit (m .buffer)) (g .buffer)) (is-true (reportFit (m .pending .«report_tx_end»)) (g .report))
+
+pub record-facts : (m : SoftModulator) → recordFit m ≡ true → RecordFacts m
+unfolding windowFit
+record-facts m e =
+    let value : ℕ → Bool = λ (i : ℕ). pulseFit (getD (m .«filter_win») i nan) in
+    let g = groups m e in
+    record {
+      cursor = leb→le (m .«filter_cursor») 80 (g .cursor);
+      window = λ i l. pulse-within (getD (m .«filter_win») i nan) (all-below 81 value (g .window) i l);
+      progress = progress-facts (m .progress) (g .progress);
+      buffer = buffer-facts (m .buffer) (g .buffer);
+      report = λ end r. report-fact end (subst (λ (o : EndReport). T (reportFit o)) r (g .report));
+    }

@@ -1,0 +1,27 @@
+-- `frame::end_of_transmission` meets its contract. Assumes nothing.
+use mathlib.Core.Path.{_∙_}
+use borrow.Author.Needs.{needs}
+use Rattle.modulator.specs.Frame.{ending}
+use Rattle.modulator.specs.Calls.{ended}
+use Rattle.modulator.proofs.Frames.{framed-listed}
+use Rattle.modulator.proofs.frame.end_of_transmission.Statement.{statement}
+use Rattle.modulator.proofs.frame.end_of_transmission.Tie as tie
+
+ending-symbols-requires : tie.Need-ending-symbols-requires
+ending-symbols-requires c κs = search needs
+
+slice-aggregate-framed : tie.Need-slice-aggregate-framed
+slice-aggregate-framed c = search needs
+
+framed-requires : tie.Need-framed-requires
+framed-requires c κs = search needs
+
+returns : tie.Need-returns
+returns c =
+    let s = c .before .before in
+    let m = s .before .before .args .m in
+    c .framed .ensures ∙ framed-listed 10 (m .progress .«tx_delay_padding») (ended (m .pending)) m (ending .symbol) 272 _ (s .ending-symbols .ensures)
+
+pub end-of-transmission-spec : {M : Type 1} → statement M
+end-of-transmission-spec =
+    tie.close (tie.spec ending-symbols-requires slice-aggregate-framed framed-requires returns)

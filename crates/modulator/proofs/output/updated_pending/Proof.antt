@@ -1,0 +1,19 @@
+-- `output::updated_pending` meets its contract. Assumes nothing.
+use borrow.Author.Needs.{needs}
+use Rattle.modulator.proofs.output.updated_pending.Statement.{statement}
+use Rattle.modulator.proofs.output.updated_pending.Tie as tie
+
+sub-room : tie.Need-sub-room
+sub-room c = search needs
+
+add-end : tie.Need-add-end
+add-end c = search needs
+
+returns : tie.Need-returns
+returns c = rw (c .if1 .taken)
+
+returns-2 : tie.Need-returns-2
+returns-2 c = rw (c .if1 .left)
+
+pub updated-pending-spec : {M : Type 1} → statement M
+updated-pending-spec = tie.close (tie.spec sub-room add-end returns returns-2)

@@ -1,0 +1,184 @@
+// Frames go in: each kind's symbols, the checks on symbols that are given, and the samples that they become.
+ghost use mathlib.Core.Path.{_≡_};
+ghost use Prim.Native.Nat.{_*_, _≤_, _<_};
+ghost use lib.ListN.{length};
+ghost use Rattle.numbers.specs.Firsts.{firsts};
+ghost use Rattle.modulator.specs.Frame.{listing, preamble, given, ending, paddingOf};
+ghost use Rattle.modulator.specs.Record.{framed, withPending};
+ghost use Rattle.modulator.specs.Calls.{dropped, ended, new-says, provide-next-frame-says};
+use super::AfterFrame;
+use super::DelaySteps;
+use super::EndReport;
+use super::ModulatorFrame;
+use super::OutputBuffer;
+use super::Pending;
+use super::Progress;
+use super::Provided;
+use super::SampleCount;
+use super::SoftModulator;
+use super::fit::record_fit;
+use super::pulse::SAMPLES_PER_SYMBOL;
+use super::pulse::push_symbols;
+use super::within::all_within;
+use protocol::Refusal;
+
+// What a step of ten milliseconds is at 48 kHz.
+const SAMPLES_PER_STEP: usize = 480;
+
+impl DelaySteps {
+    fn in_samples(self) -> SampleCount
+        ensures { λ r. ⌜ r .0 ≡ 480 * self .0 ⌝ }
+    {
+        SampleCount(SAMPLES_PER_STEP * (self.0 as usize))
+    }
+}
+
+// The end of transmission, and the zeros that empty the window after it.
+fn ending_symbols() -> [f32; 272]
+    ensures { λ r. ⌜ r ≡ firsts (ending .symbol) 272 ⌝ }
+{
+    let end = encode::generate_end_of_transmission();
+    let mut symbols = [0.0f32; 272];
+    let mut i: usize = 0;
+    while i < 192 {
+        symbols[i] = end[i];
+        i += 1;
+    }
+    symbols
+}
+
+// The frame takes the place of what is unread of the last one.
+fn framed(m: SoftModulator, symbols: &[f32], padding: usize, pending: Pending) -> SoftModulator
+    requires { ⌜ (m .«filter_cursor» < 81) × (length (now symbols) ≤ 400) ⌝ }
+    ensures { λ r. ⌜ r ≡ framed 10 (listing (now (symbols .entry))) padding pending m ⌝ }
+{
+    let mut store = m.next_transmission;
+    let mut window = m.filter_win;
+    let cursor = m.filter_cursor;
+    let buffer = m.buffer;
+    let next = push_symbols(&mut window, cursor, symbols, &mut store);
+    let len = SAMPLES_PER_SYMBOL * symbols.len();
+    let progress = Progress {
+        next_len: len,
+        next_read: 0,
+        tx_delay_padding: padding,
+    };
+    SoftModulator {
+        next_transmission: store,
+        filter_win: window,
+        filter_cursor: next,
+        progress,
+        pending,
+        buffer,
+    }
+}
+
+fn preamble(m: SoftModulator, tx_delay: DelaySteps) -> SoftModulator
+    requires { ⌜ m .«filter_cursor» < 81 ⌝ }
+    ensures { λ r. ⌜ r ≡ framed 10 preamble (paddingOf 10 («tx_delay» .0) (m .buffer .«output_latency»)) (m .pending) m ⌝ }
+{
+    let pending = m.pending;
+    let delay = tx_delay.in_samples();
+    let padding = numbers::saturating_sub(delay.0, m.buffer.output_latency);
+    let symbols = encode::generate_preamble();
+    framed(m, &symbols, padding, pending)
+}
+
+fn given(m: SoftModulator, symbols: &[f32]) -> SoftModulator
+    requires { ⌜ (m .«filter_cursor» < 81) × (length (now symbols) ≡ 192) ⌝ }
+    ensures { λ r. ⌜ r ≡ framed 10 (given (now (symbols .entry))) (m .progress .«tx_delay_padding») (m .pending) m ⌝ }
+{
+    let pending = m.pending;
+    let padding = m.progress.tx_delay_padding;
+    framed(m, symbols, padding, pending)
+}
+
+fn end_of_transmission(m: SoftModulator) -> SoftModulator
+    requires { ⌜ m .«filter_cursor» < 81 ⌝ }
+    ensures { λ r. ⌜ r ≡ framed 10 ending (m .progress .«tx_delay_padding») (ended (m .pending)) m ⌝ }
+{
+    let mut pending = m.pending;
+    pending.calculate_tx_end = true;
+    let padding = m.progress.tx_delay_padding;
+    let symbols = ending_symbols();
+    framed(m, &symbols, padding, pending)
+}
+
+fn without_wish(mut m: SoftModulator) -> SoftModulator
+    ensures { λ r. ⌜ r ≡ withPending (dropped (m .pending)) (m .buffer) m ⌝ }
+{
+    m.pending.try_get_frame = false;
+    m
+}
+
+impl SoftModulator {
+    pub fn new() -> Self
+        ensures { λ r. ⌜ new-says r ⌝ }
+    {
+        Self {
+            next_transmission: [0i16; 4000],
+            filter_win: [0.0f32; 81],
+            filter_cursor: 0,
+            progress: Progress {
+                next_len: 0,
+                next_read: 0,
+                tx_delay_padding: 0,
+            },
+            pending: Pending {
+                update_idle: true,
+                calculate_tx_end: false,
+                report_tx_end: EndReport::Nothing,
+                try_get_frame: false,
+            },
+            buffer: OutputBuffer {
+                output_latency: 0,
+                samples_in_buf: 0,
+                buf_capacity: 0,
+            },
+        }
+    }
+
+    // The symbols are read for a frame of given symbols alone.
+    pub fn provide_next_frame(self, frame: ModulatorFrame, symbols: &[f32]) -> AfterFrame
+        ensures { λ r. ⌜ provide-next-frame-says self frame (now (symbols .entry)) r ⌝ }
+    {
+        if !record_fit(self) {
+            return AfterFrame {
+                answer: Provided::Refused(Refusal::RecordUnfit),
+                modulator: self,
+            };
+        }
+        match frame {
+            ModulatorFrame::Nothing => AfterFrame {
+                answer: Provided::Done,
+                modulator: without_wish(self),
+            },
+            ModulatorFrame::Preamble(tx_delay) => AfterFrame {
+                answer: Provided::Done,
+                modulator: preamble(self, tx_delay),
+            },
+            ModulatorFrame::Symbols => {
+                if symbols.len() != 192 {
+                    return AfterFrame {
+                        answer: Provided::Refused(Refusal::WrongCount),
+                        modulator: self,
+                    };
+                }
+                if !all_within(1.0, symbols) {
+                    return AfterFrame {
+                        answer: Provided::Refused(Refusal::SymbolOutside),
+                        modulator: self,
+                    };
+                }
+                AfterFrame {
+                    answer: Provided::Done,
+                    modulator: given(self, symbols),
+                }
+            }
+            ModulatorFrame::EndOfTransmission => AfterFrame {
+                answer: Provided::Done,
+                modulator: end_of_transmission(self),
+            },
+        }
+    }
+}

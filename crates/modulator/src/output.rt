@@ -1,0 +1,226 @@
+// What the sender hands to the sound card, and what it asks of its caller: reading samples, updates of the card's buffer, and the next action.
+ghost use mathlib.Core.Path.{_≡_};
+ghost use Prim.Native.Nat.{ℕ, _+_, _-_, _≤_, min};
+ghost use lib.IntN.{pos};
+ghost use lib.ListN.{length, getD};
+ghost use Rattle.numbers.specs.Firsts.{written};
+ghost use Rattle.modulator.specs.Calls.{updatedPending, reported, read-output-samples-says, update-output-buffer-says, run-says};
+use super::AfterRead;
+use super::AfterRun;
+use super::AfterUpdate;
+use super::EndReport;
+use super::ModulatorAction;
+use super::OutputBuffer;
+use super::Pending;
+use super::Progress;
+use super::Read;
+use super::SampleCount;
+use super::SoftModulator;
+use super::Updated;
+use super::fit::count_fit;
+use super::fit::record_fit;
+use protocol::Refusal;
+
+// `usize::min`.
+fn fewer(a: usize, b: usize) -> usize
+    ensures { λ r. ⌜ r ≡ min a b ⌝ }
+{
+    if b < a { b } else { a }
+}
+
+// Zeros for as much of the padding as the room holds.
+fn write_padding(padding: usize, room: &mut [i16]) -> usize
+    ensures count { λ r. ⌜ r ≡ min (length (now (room .entry))) padding ⌝ }
+    ensures zeros { λ r. ⌜ now (room .exit) ≡ written (λ (i : ℕ). pos 0) r (now (room .entry)) ⌝ }
+{
+    let end = fewer(room.len(), padding);
+    let mut i: usize = 0;
+    while i < end {
+        room[i] = 0;
+        i += 1;
+    }
+    end
+}
+
+// The samples of the store from the read place on, for as many as are left and the room holds.
+fn copy_frame(store: &[i16; 4000], read: usize, len: usize, room: &mut [i16]) -> usize
+    requires { ⌜ (read ≤ len) × (len ≤ 4000) ⌝ }
+    ensures count { λ r. ⌜ r ≡ min (length (now (room .entry))) (len - read) ⌝ }
+    ensures samples { λ r. ⌜ now (room .exit) ≡ written (λ (i : ℕ). getD (now (store .entry)) (read + i) (pos 0)) r (now (room .entry)) ⌝ }
+{
+    let end = fewer(room.len(), len - read);
+    let mut i: usize = 0;
+    while i < end {
+        let at = read + i;
+        let sample = store[at];
+        room[i] = sample;
+        i += 1;
+    }
+    end
+}
+
+// What is pending once the card's counts are known: the end that is owed is worked out, and the wish for a frame is raised or stays.
+fn updated_pending(pending: Pending, fill: usize, capacity: usize, latency: usize) -> Pending
+    requires { ⌜ (fill ≤ 16777216) × (latency ≤ 16777216) × (fill ≤ capacity) ⌝ }
+    ensures { λ r. ⌜ r ≡ updatedPending 10 fill capacity latency pending ⌝ }
+{
+    let report = pending.report_tx_end;
+    let room = capacity - fill;
+    let end = fill + latency;
+    let wish = (2000 <= room) | pending.try_get_frame;
+    if pending.calculate_tx_end {
+        return Pending {
+            update_idle: pending.update_idle,
+            calculate_tx_end: false,
+            report_tx_end: EndReport::After(SampleCount(end)),
+            try_get_frame: wish,
+        };
+    }
+    Pending {
+        update_idle: pending.update_idle,
+        calculate_tx_end: false,
+        report_tx_end: report,
+        try_get_frame: wish,
+    }
+}
+
+// What is pending once the end is reported: no end.
+fn reported(pending: Pending) -> Pending
+    ensures { λ r. ⌜ r ≡ reported pending ⌝ }
+{
+    let report = EndReport::Nothing;
+    Pending {
+        update_idle: pending.update_idle,
+        calculate_tx_end: pending.calculate_tx_end,
+        report_tx_end: report,
+        try_get_frame: pending.try_get_frame,
+    }
+}
+
+impl SoftModulator {
+    // Padding first, and then the frame into the rest of the room: the answer is how many places were written.
+    pub fn read_output_samples(mut self, out: &mut [i16]) -> AfterRead
+        ensures { λ r. ⌜ read-output-samples-says self (now (out .entry)) r (now (out .exit)) ⌝ }
+    {
+        if !record_fit(self) {
+            return AfterRead {
+                answer: Read::Refused(Refusal::RecordUnfit),
+                modulator: self,
+            };
+        }
+        let progress = self.progress;
+        let written = write_padding(progress.tx_delay_padding, out);
+        let copied = copy_frame(
+            &self.next_transmission,
+            progress.next_read,
+            progress.next_len,
+            &mut out[written..],
+        );
+        let next_read = progress.next_read + copied;
+        let tx_delay_padding = progress.tx_delay_padding - written;
+        let left = Progress {
+            next_len: progress.next_len,
+            next_read,
+            tx_delay_padding,
+        };
+        let total = written + copied;
+        self.progress = left;
+        AfterRead {
+            answer: Read::Wrote(SampleCount(total)),
+            modulator: self,
+        }
+    }
+
+    // What lies in the card's buffer, what it holds, and how many samples pass from there to the wire.
+    pub fn update_output_buffer(
+        mut self,
+        samples_to_play: usize,
+        capacity: usize,
+        output_latency: usize,
+    ) -> AfterUpdate
+        ensures { λ r. ⌜ update-output-buffer-says self «samples_to_play» capacity «output_latency» r ⌝ }
+    {
+        if !record_fit(self) {
+            return AfterUpdate {
+                answer: Updated::Refused(Refusal::RecordUnfit),
+                modulator: self,
+            };
+        }
+        if !count_fit(samples_to_play) | !count_fit(capacity) | !count_fit(output_latency) {
+            return AfterUpdate {
+                answer: Updated::Refused(Refusal::BufferTooLarge),
+                modulator: self,
+            };
+        }
+        if capacity < samples_to_play {
+            return AfterUpdate {
+                answer: Updated::Refused(Refusal::CapacityBelowFill),
+                modulator: self,
+            };
+        }
+        let pending = self.pending;
+        let told = updated_pending(pending, samples_to_play, capacity, output_latency);
+        let buffer = OutputBuffer {
+            output_latency,
+            samples_in_buf: samples_to_play,
+            buf_capacity: capacity,
+        };
+        self.pending = told;
+        self.buffer = buffer;
+        AfterUpdate {
+            answer: Updated::Done,
+            modulator: self,
+        }
+    }
+
+    // The next thing for the caller to do. What is told once is not pending any more.
+    pub fn run(mut self) -> AfterRun
+        ensures { λ r. ⌜ run-says self r ⌝ }
+    {
+        if !record_fit(self) {
+            return AfterRun {
+                answer: ModulatorAction::Refused(Refusal::RecordUnfit),
+                modulator: self,
+            };
+        }
+        let mut pending = self.pending;
+        let report = pending.report_tx_end;
+        match report {
+            EndReport::After(end) => {
+                let told = reported(pending);
+                self.pending = told;
+                AfterRun {
+                    answer: ModulatorAction::TransmissionWillEnd(end),
+                    modulator: self,
+                }
+            }
+            EndReport::Nothing => {
+                let progress = self.progress;
+                if progress.next_read < progress.next_len {
+                    return AfterRun {
+                        answer: ModulatorAction::ReadOutput,
+                        modulator: self,
+                    };
+                }
+                if pending.update_idle {
+                    pending.update_idle = false;
+                    self.pending = pending;
+                    return AfterRun {
+                        answer: ModulatorAction::SetIdle(true),
+                        modulator: self,
+                    };
+                }
+                if pending.try_get_frame {
+                    return AfterRun {
+                        answer: ModulatorAction::GetNextFrame,
+                        modulator: self,
+                    };
+                }
+                AfterRun {
+                    answer: ModulatorAction::Nothing,
+                    modulator: self,
+                }
+            }
+        }
+    }
+}

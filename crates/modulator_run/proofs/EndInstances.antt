@@ -1,0 +1,135 @@
+-- Small instances of the laws of the end, of what is told once and of reads in pieces: what they ask can be met. Assumes nothing.
+use mathlib.Core.Path.{_≡_, refl}
+use mathlib.Core.Bool.{true}
+use mathlib.Core.List.{List, [], _∷_, _++_}
+use lib.Dec.{lit≤, lit<}
+use lib.IntN.{ℤ, pos}
+use lib.ListN.{replicate}
+use lib.Ieee.{binary32, ofBits, le}
+use Rattle.numbers.specs.Below.{allBelow}
+use Rattle.numbers.specs.Firsts.{firsts}
+use Rattle.shaping.specs.Taps.{taps}
+use Rattle.shaping.proofs.Table.{taps-number, taps-finite}
+use Rattle.modulator.specs.declared.SoftModulator.{SoftModulator}
+use Rattle.modulator.specs.declared.ModulatorFrame.the-variants.{EndOfTransmission}
+use Rattle.modulator.specs.Pulse.{pulses}
+use Rattle.modulator.specs.Frame.{ending}
+use Rattle.modulator.specs.Record.{fresh}
+use Rattle.modulator.specs.Fit.{recordFit, windowFit, pulseFit}
+use Rattle.modulator.specs.Calls.{transmitEnd, idle, provided}
+use Rattle.modulator.specs.Calls.{read as readInto}
+use Rattle.modulator_run.specs.Stream.{sentAt}
+use Rattle.modulator_run.specs.Rules.{Call, provide, update, ask, called, sentFrom, sentAll}
+use Rattle.modulator_run.specs.Run.{left, saidBy, recordAfter, answersFrom, Delay, Given, AllGiven}
+use Rattle.modulator_run.specs.Reports.{stores, none, Owed, NewReport, Free, FreeBefore}
+use Rattle.modulator_run.specs.EndFrame.{EndFrame}
+use Rattle.modulator_run.specs.Pieces.{reads, joined, SameAs, SameLeft}
+use Rattle.modulator_run.proofs.LastCall.{no-parts}
+use Rattle.modulator_run.proofs.ReportParts.{reporting-none}
+use Rattle.modulator_run.proofs.Owed.{owed, owed-exactly}
+use Rattle.modulator_run.proofs.EndOnce.{told-next, told-once, told-by-record}
+use Rattle.modulator_run.proofs.IdleOnce.{idle-first, idle-only, idle-by-record}
+use Rattle.modulator_run.proofs.Flush.{flush-pulse, end-silent}
+use Rattle.modulator_run.proofs.EndFrame.{end-frame}
+use Rattle.modulator_run.proofs.AnyPieces.{pieces-read, pieces-left}
+use Rattle.modulator_run.proofs.Worked.{opening, opening-given}
+
+-- ---- the end of transmission from a made-up record: whole symbols in all places of the window, and the cursor in its middle
+abbrev made-up : SoftModulator
+made-up = record {
+  «next_transmission» = replicate 4000 (pos 9);
+  «filter_win» = replicate 81 (ofBits binary32 0x470a_8500);
+  «filter_cursor» = 40;
+  progress = record { «next_len» = 4000; «next_read» = 17; «tx_delay_padding» = 122400 };
+  pending = fresh .pending;
+  buffer = fresh .buffer;
+}
+
+made-up-fit : recordFit made-up ≡ true
+unfolding recordFit windowFit pulseFit allBelow fresh ofBits le
+made-up-fit = refl
+
+made-up-ends : EndFrame made-up (provided made-up EndOfTransmission [])
+made-up-ends = end-frame made-up made-up-fit []
+
+-- by the rules, at ten samples a symbol: behind one symbol the 2,720th sample of the end is zero
+last-flushed : pulses 10 (ending .symbol) 1911 ≡ ofBits binary32 0
+last-flushed = flush-pulse 10 (lit< tt) 1911 (lit< tt)
+
+last-silent : sentAt taps 10 (ofBits binary32 0x3f80_0000 ∷ firsts (ending .symbol) 272) 2730 ≡ pos 0
+last-silent = end-silent 10 (lit< tt) taps taps-finite taps-number (ofBits binary32 0x3f80_0000 ∷ []) 728 (lit< tt)
+
+-- ---- two ends, an update and a request; then another end, another update and a request
+abbrev end : Call
+end = provide EndOfTransmission []
+
+owed-twice : Owed (end ∷ end ∷ [])
+unfolding none
+owed-twice = record { before = end ∷ []; symbols = []; since = []; parts = refl; pending = tt }
+
+owed-is : owed (sentAll taps 10 (end ∷ end ∷ [])) ≡ true
+owed-is = owed-exactly taps 10 (end ∷ end ∷ []) .1 owed-twice
+
+first-told : called taps 10 (sentAll taps 10 (end ∷ end ∷ update 100 3000 50 ∷ [])) ask .said .answer ≡ transmitEnd 150
+unfolding stores none
+first-told = told-next taps 10 (end ∷ end ∷ []) owed-twice 100 3000 50 tt [] tt reporting-none
+
+abbrev earlier : List Call
+earlier = end ∷ end ∷ update 100 3000 50 ∷ []
+
+-- an end provided after the first report, whether or not that one was told
+owed-again : (cs : List Call) → Owed (cs ++ end ∷ [])
+unfolding none
+owed-again cs = record { before = cs; symbols = []; since = []; parts = refl; pending = tt }
+
+second-told : called taps 10 (sentAll taps 10 (end ∷ end ∷ update 100 3000 50 ∷ ask ∷ end ∷ update 7 2500 3 ∷ [])) ask .said .answer ≡ transmitEnd 10
+unfolding stores none
+second-told = told-next taps 10 (end ∷ end ∷ update 100 3000 50 ∷ ask ∷ end ∷ []) (owed-again (end ∷ end ∷ update 100 3000 50 ∷ ask ∷ [])) 7 2500 3 tt [] tt reporting-none
+
+second-new : NewReport earlier (end ∷ update 7 2500 3 ∷ []) 10
+second-new = told-once taps 10 earlier (end ∷ update 7 2500 3 ∷ []) 10 second-told
+
+-- the first report is replaced where it was not told
+replaced : called taps 10 (sentAll taps 10 (end ∷ end ∷ update 100 3000 50 ∷ end ∷ update 7 2500 3 ∷ [])) ask .said .answer ≡ transmitEnd 10
+unfolding stores none
+replaced = told-next taps 10 (end ∷ end ∷ update 100 3000 50 ∷ end ∷ []) (owed-again (end ∷ end ∷ update 100 3000 50 ∷ [])) 7 2500 3 tt [] tt reporting-none
+
+earlier-given : AllGiven earlier
+unfolding AllGiven Given Delay
+earlier-given = (tt, (tt, (tt, tt)))
+
+told-of-record : left (recordAfter earlier) ask .answer ≡ transmitEnd 150
+unfolding stores none
+told-of-record = told-by-record earlier earlier-given 150 .1 (record {
+  report = record { before = end ∷ end ∷ []; fill = 100; capacity = 3000; latency = 50; since = []; parts = refl; taken = tt; owed = owed-twice };
+  samples = refl;
+  unasked = tt;
+  newest = reporting-none;
+})
+
+-- ---- the first request of all
+free-at-first : Free (sentAll taps 10 [])
+unfolding sentFrom
+free-at-first = record { no-report = refl; all-read = lit≤ tt }
+
+none-earlier : FreeBefore taps 10 [] → ⊥
+none-earlier f = no-parts (f .before) ask (f .since) (f .parts)
+
+idle-at-first : called taps 10 (sentAll taps 10 []) ask .said .answer ≡ idle true
+idle-at-first = idle-first taps 10 [] free-at-first none-earlier
+
+idle-because : (true ≡ true) × Free (sentAll taps 10 []) × (FreeBefore taps 10 [] → ⊥)
+idle-because = idle-only taps 10 [] true idle-at-first
+
+idle-of-record : left (recordAfter []) ask .answer ≡ idle true
+idle-of-record = idle-by-record [] (unfold AllGiven in tt) .1 (free-at-first, none-earlier)
+
+-- ---- three rooms, one of them empty
+abbrev rooms : List (List ℤ)
+rooms = (pos 1 ∷ pos 2 ∷ []) ∷ [] ∷ (pos 3 ∷ []) ∷ []
+
+made-up-read : SameLeft made-up rooms
+made-up-read = pieces-left rooms made-up made-up-fit
+
+opening-read-on : SameAs (answersFrom (recordAfter opening) (reads rooms)) (saidBy (readInto (recordAfter opening) (joined rooms)))
+opening-read-on = pieces-read opening opening-given rooms

@@ -1,0 +1,88 @@
+-- A list of calls by its last call: what the rules have sent after it, what they said on the way, and how such a list is taken apart. Assumes nothing.
+use mathlib.Core.Path.{_≡_, refl, ap}
+use mathlib.Core.Logic.{_⊎_, inl, inr}
+use mathlib.Core.Bool.{Bool, true, false, not, _&&_}
+use mathlib.Core.List.{List, [], _∷_, _++_, append-assoc, append-nil}
+use Prim.Native.Nat.{ℕ}
+use native.Mathlib.Omega.{arith}
+use lib.Dec.{T}
+use lib.Ieee.{Float}
+use lib.Ieee.Fits.{and-i, and-l, and-r}
+use Rattle.modulator.specs.declared.SoftModulator.{SoftModulator}
+use Rattle.modulator_run.specs.Rules.{Call, Sent, Said, called, sentFrom, saidFrom}
+use Rattle.modulator_run.specs.Run.{left, saidBy, recordFrom, answersFrom}
+use Rattle.modulator_run.specs.Reports.{none}
+
+-- ---- one more call
+-- what holds of the empty list, and of a list with one more call at its end, holds of all
+pub by-last : (P : List Call → Type 0) → P [] → ((cs : List Call) (c : Call) → P cs → P (cs ++ c ∷ [])) → (cs : List Call) → P cs
+by-last P base step cs = go [] base cs
+  where
+    go : (front : List Call) → P front → (rest : List Call) → P (front ++ rest)
+    go front h [] = rw (append-nil front) h
+    go front h (c ∷ rest) = rw append-assoc at (go (front ++ c ∷ []) (step front c h) rest)
+
+module _ (table : List Float) (p : ℕ) where
+  pub sent-behind : (s : Sent) (cs ds : List Call) → sentFrom table p s (cs ++ ds) ≡ sentFrom table p (sentFrom table p s cs) ds
+  unfolding sentFrom
+  sent-behind s [] ds = refl
+  sent-behind s (c ∷ cs) ds = sent-behind (called table p s c .sent) cs ds
+
+  pub sent-last : (s : Sent) (cs : List Call) (c : Call) → sentFrom table p s (cs ++ c ∷ []) ≡ called table p (sentFrom table p s cs) c .sent
+  unfolding sentFrom
+  sent-last s cs c = sent-behind s cs (c ∷ [])
+
+  -- each call is answered from where the calls before it lead
+  pub said-in-place : (s : Sent) (cs : List Call) (c : Call) (ds : List Call)
+      → saidFrom table p s (cs ++ c ∷ ds) ≡ saidFrom table p s cs ++ called table p (sentFrom table p s cs) c .said ∷ saidFrom table p (called table p (sentFrom table p s cs) c .sent) ds
+  unfolding sentFrom saidFrom
+  said-in-place s [] c ds = refl
+  said-in-place s (b ∷ cs) c ds = ap (λ (l : List Said). called table p s b .said ∷ l) (said-in-place (called table p s b .sent) cs c ds)
+
+-- and so with the record
+pub answers-in-place : (m : SoftModulator) (cs : List Call) (c : Call) (ds : List Call)
+    → answersFrom m (cs ++ c ∷ ds) ≡ answersFrom m cs ++ saidBy (left (recordFrom m cs) c) ∷ answersFrom (left (recordFrom m cs) c .modulator) ds
+unfolding recordFrom answersFrom
+answers-in-place m [] c ds = refl
+answers-in-place m (b ∷ cs) c ds = ap (λ (l : List Said). saidBy (left m b) ∷ l) (answers-in-place (left m b .modulator) cs c ds)
+
+-- ---- no call of a kind
+module _ (kind : Call → Bool) where
+  pub none-more : (cs : List Call) (c : Call) → T (none kind cs) → kind c ≡ false → T (none kind (cs ++ c ∷ []))
+  unfolding none
+  none-more [] c t e = rw e tt
+  none-more (b ∷ cs) c t e =
+      let rest : Bool = none kind cs in
+      and-i (not (kind b)) (none kind (cs ++ c ∷ [])) (and-l (not (kind b)) rest t) (none-more cs c (and-r (not (kind b)) rest t) e)
+
+  pub none-fewer : (cs : List Call) (c : Call) → T (none kind (cs ++ c ∷ [])) → T (none kind cs) × (kind c ≡ false)
+  unfolding none
+  none-fewer [] c t = (tt, silent (kind c) t)
+    where
+      silent : (k : Bool) → T (not k && true) → k ≡ false
+      silent true t = absurd t
+      silent false t = refl
+  none-fewer (b ∷ cs) c t =
+      let rest : Bool = none kind (cs ++ c ∷ []) in
+      let fewer = none-fewer cs c (and-r (not (kind b)) rest t) in
+      (and-i (not (kind b)) (none kind cs) (and-l (not (kind b)) rest t) (fewer .0), fewer .1)
+
+-- ---- taking a list apart
+module _ {A : Type 0} where
+  pub no-parts : (ys : List A) (a : A) (zs : List A) → [] ≡ ys ++ a ∷ zs → ⊥
+  no-parts [] a zs e = let z : _≡_ {A = ℕ} 0 1 = cc in omega arith
+  no-parts (y ∷ ys) a zs e = let z : _≡_ {A = ℕ} 0 1 = cc in omega arith
+
+  -- the element is the last, or stands before it
+  pub last-parts : (xs : List A) (c : A) (ys : List A) (a : A) (zs : List A) → xs ++ c ∷ [] ≡ ys ++ a ∷ zs
+      → ((xs ≡ ys) × (c ≡ a)) ⊎ ((ws : List A) × (xs ≡ ys ++ a ∷ ws))
+  last-parts [] c [] a zs e = inl (refl, cc)
+  last-parts [] c (y ∷ ys) a zs e = let tail : [] ≡ ys ++ a ∷ zs = cc in absurd (no-parts ys a zs tail)
+  last-parts (x ∷ xs) c [] a zs e = let head : x ≡ a = cc in inr (xs, rw head)
+  last-parts (x ∷ xs) c (y ∷ ys) a zs e =
+      let head : x ≡ y = cc in
+      let tail : xs ++ c ∷ [] ≡ ys ++ a ∷ zs = cc in
+      elim (last-parts xs c ys a zs tail) [
+        | inl (same, last) ↦ inl (rw (head, same), last)
+        | inr (ws, parts) ↦ inr (ws, rw (head, parts))
+      ]

@@ -1,0 +1,37 @@
+-- What is proved of the sender over whole runs, of the rules and of the record. Assumes nothing.
+-- a stream with more symbols
+pub mod Longer
+-- the record after one more frame
+pub mod NextFrame
+-- one call, the record's and the rules'
+pub mod Step
+-- demand 2
+pub mod SenderRun
+-- a call of the rules, case by case
+pub mod EachCall
+-- no call is refused with 1
+pub mod NeverUnfit
+-- how large a sample is
+pub mod Phases
+pub mod Within
+-- a list by its last call
+pub mod LastCall
+-- when an end is owed
+pub mod Owed
+-- when it is told
+pub mod ReportParts
+pub mod Told
+pub mod EndOnce
+-- idle, once
+pub mod IdleOnce
+-- the end of transmission
+pub mod Flush
+pub mod EndFrame
+-- reads in pieces
+pub mod TwoPieces
+pub mod AnyPieces
+-- examples, computed
+pub mod Worked
+-- instances that meet what the laws ask
+pub mod RunInstances
+pub mod EndInstances

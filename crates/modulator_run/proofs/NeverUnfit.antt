@@ -1,0 +1,65 @@
+-- From a fresh start no call is refused as unfit: the rules know no refusal 1. Assumes nothing.
+use mathlib.Core.Path.{_≡_, sym, subst}
+use mathlib.Core.Logic.{inl, inr}
+use mathlib.Core.Bool.{Bool, false, not}
+use mathlib.Core.List.{List, [], _∷_, List·Memᴰ, List·Memᴰ·not-nil, List·Memᴰ·cases-cons}
+use Prim.Native.Nat.{ℕ}
+use lib.Dec.{T, eqb}
+use lib.Ieee.{Float}
+use Rattle.shaping.specs.Taps.{taps}
+use Rattle.modulator.specs.Calls.{Paper, refusal, done, wrote, transmitEnd, readOutput, idle, getFrame, nothing}
+use Rattle.modulator_run.specs.Rules.{Call, Sent, Said, After, start, drained, called, saidFrom}
+use Rattle.modulator_run.specs.Run.{answersTo, AllGiven}
+use Rattle.modulator_run.proofs.EachCall.{Refusing, miscounted, outside, large, below, each-call}
+use Rattle.modulator_run.proofs.SenderRun.{sender-run}
+
+-- 1: "record unfit"
+abbrev unfit : Paper → Bool
+unfit (refusal number) = eqb number 1
+unfit done = false
+unfit (wrote n) = false
+unfit (transmitEnd n) = false
+unfit readOutput = false
+unfit (idle state) = false
+unfit getFrame = false
+unfit nothing = false
+
+other-number : (c : Call) (number : ℕ) → Refusing c number → T (not (eqb number 1))
+other-number c number miscounted = tt
+other-number c number outside = tt
+other-number c number (large e) = tt
+other-number c number (below e) = tt
+
+module _ (table : List Float) (p : ℕ) where
+  fine-called : (s : Sent) (c : Call) → T (not (unfit (called table p s c .said .answer)))
+  unfolding drained
+  fine-called s =
+      each-call table p s (λ (_ : Call) (a : After). T (not (unfit (a .said .answer)))) (record {
+        refused = other-number;
+        no-frame = λ _. tt;
+        delayed = λ _ _. tt;
+        symbols-given = λ _ _. tt;
+        last-frame = λ _. tt;
+        reads = λ _. tt;
+        stored = λ _ _ _ _. tt;
+        told = λ _ _. tt;
+        unread = λ _ _. tt;
+        idles = λ _ _ _. tt;
+        wishes = λ _ _ _. tt;
+        rests = λ _ _ _. tt;
+      })
+
+  fine-all : (cs : List Call) (s : Sent) (a : Said) → List·Memᴰ a (saidFrom table p s cs) → T (not (unfit (a .answer)))
+  unfolding saidFrom
+  fine-all [] s a i = absurd (List·Memᴰ·not-nil i)
+  fine-all (c ∷ cs) s a i = elim (List·Memᴰ·cases-cons i) [
+    | inl e ↦ subst (λ (b : Said). T (not (unfit (b .answer)))) (sym e) (fine-called s c)
+    | inr j ↦ fine-all cs (called table p s c .sent) a j
+  ]
+
+  -- for every p and every table
+  pub rules-never-unfit : (cs : List Call) (s : Sent) (a : Said) → List·Memᴰ a (saidFrom table p s cs) → a .answer ≡ refusal 1 → ⊥
+  rules-never-unfit cs s a i e = subst (λ (b : Paper). T (not (unfit b))) e (fine-all cs s a i)
+
+pub never-unfit : (cs : List Call) → AllGiven cs → (a : Said) → List·Memᴰ a (answersTo cs) → a .answer ≡ refusal 1 → ⊥
+never-unfit cs g a i = rules-never-unfit taps 10 cs start a (rw (sender-run cs g .1) at i)

@@ -1,0 +1,134 @@
+-- Small instances: what the laws of a run ask can be met, and what they then say. Assumes nothing.
+use mathlib.Core.Path.{_≡_, refl, ap}
+use mathlib.Core.Bool.{true}
+use mathlib.Core.List.{List, [], _∷_, _++_, List·Memᴰ·head, Memᴰ·append-right}
+use Prim.Native.Nat.{ℕ, zero, suc, _+_, _≤_}
+use native.Mathlib.Omega.{arith}
+use lib.Dec.{T, lit≤, lit<}
+use lib.IntN.{pos, negsuc, natAbs}
+use lib.ListN.{length, getD, replicate}
+use lib.Ieee.{Float, binary32, ofBits, le}
+use lib.Ieee.Scale.{finite}
+use Rattle.numbers.specs.Below.{allBelow}
+use Rattle.numbers.specs.Firsts.{firsts}
+use Rattle.numbers.specs.Sum.{nought, totalTo}
+use Rattle.numbers.specs.Within.{reach}
+use Rattle.numbers.proofs.Below.{all-below}
+use Rattle.shaping.specs.Taps.{taps}
+use Rattle.shaping.specs.Reach.{Finite, sumReach}
+use Rattle.shaping.specs.Phase.{fullSymbol, phasesFit}
+use Rattle.shaping.proofs.Table.{taps-number}
+use Rattle.modulator.specs.declared.Progress.{Progress}
+use Rattle.modulator.specs.declared.ModulatorFrame.the-variants.{Nothing as NoFrame, Preamble, Symbols as GivenSymbols, EndOfTransmission}
+use Rattle.modulator.specs.Pulse.{pulses}
+use Rattle.modulator.specs.Frame.{preamble, symbolFit}
+use Rattle.modulator.specs.Record.{fresh, framed}
+use Rattle.modulator.specs.Fit.{recordFit, windowFit, pulseFit}
+use Rattle.modulator.specs.Calls.{refusal, done, wrote}
+use Rattle.modulator_run.specs.Stream.{enteringAt, sentAt}
+use Rattle.modulator_run.specs.Rules.{Call, provide, read, update, ask, start, provided, drained, called, sentFrom, sentAll, saidAll}
+use Rattle.modulator_run.specs.Rules.{framed as framedBy}
+use Rattle.modulator_run.specs.Run.{left, saidBy, recordAfter, answersTo, Delay, Given, AllGiven}
+use Rattle.modulator_run.specs.Represents.{Remembers, Represents}
+use Rattle.modulator_run.specs.Loudness.{SymbolsFit, Quiet}
+use Rattle.modulator_run.proofs.Longer.{entering-old, entering-new, sent-old}
+use Rattle.modulator_run.proofs.NextFrame.{next-frame, fresh-remembers}
+use Rattle.modulator_run.proofs.Step.{Agrees, call-agrees}
+use Rattle.modulator_run.proofs.SenderRun.{sender-run, after-each, fit-throughout, next-call, stays-fit}
+use Rattle.modulator_run.proofs.NeverUnfit.{never-unfit}
+use Rattle.modulator_run.proofs.Phases.{stream-within}
+use Rattle.modulator_run.proofs.Within.{within, within-read, within-made}
+use Rattle.modulator_run.proofs.Worked.{opening, opening-given, p2-run}
+
+-- ---- a stream of three symbols, one of them a zero of the flush
+abbrev one : Float
+one = ofBits binary32 0x3f80_0000
+
+abbrev three : List Float
+three = one ∷ ofBits binary32 0 ∷ ofBits binary32 0xbeaa_aaab ∷ []
+
+three-fit : SymbolsFit three
+unfolding symbolFit ofBits le
+three-fit zero l = tt
+three-fit (suc zero) l = tt
+three-fit (suc (suc zero)) l = tt
+three-fit (suc (suc (suc i))) l = let never : ⊥ = omega arith in absurd never
+
+three-within : Quiet (sentAt taps 10 three 41)
+three-within = within three three-fit 41
+
+old-entered : enteringAt 10 (three ++ one ∷ []) 30 ≡ enteringAt 10 three 30
+old-entered = entering-old 10 three (one ∷ []) 30 (lit≤ tt)
+
+new-entered : enteringAt 10 (three ++ firsts (λ (_ : ℕ). one) 2) (suc (30 + 19)) ≡ pulses 10 (λ (_ : ℕ). one) 19
+new-entered = entering-new 10 three (λ (_ : ℕ). one) 2 19 (lit< tt)
+
+old-sent : sentAt taps 10 (three ++ one ∷ []) 30 ≡ sentAt taps 10 three 30
+old-sent = sent-old 10 three taps taps-number (one ∷ []) 30 (lit≤ tt)
+
+-- five samples a symbol, with 41 equal taps of 1/16
+abbrev even : List Float
+even = replicate 41 (ofBits binary32 0x3d80_0000)
+
+even-finite : Finite even
+even-finite = all-below (length even) (λ (i : ℕ). finite (getD even i nought)) (unfold allBelow ofBits in tt)
+
+even-phases : T (phasesFit even 5 fullSymbol 20000)
+even-phases = unfold phasesFit allBelow sumReach totalTo reach ofBits in tt
+
+even-within : natAbs (sentAt even 5 three 21) ≤ 20000
+even-within = stream-within 4 three three-fit even 20000 even-finite refl even-phases (lit≤ tt) 21
+
+-- ---- one frame, and one call, from a fresh start
+fresh-framed : Remembers (framed 10 preamble 0 (fresh .pending) fresh) (firsts (preamble .symbol) 192) 0
+fresh-framed = next-frame fresh [] 0 fresh-remembers preamble 0 (fresh .pending) (lit≤ tt)
+
+fresh-fit : recordFit fresh ≡ true
+unfolding recordFit windowFit pulseFit allBelow fresh ofBits le
+fresh-fit = refl
+
+fresh-represents : Represents fresh start
+unfolding fresh
+fresh-represents = record { remembers = fresh-remembers; progress = refl; pending = refl; buffer = refl }
+
+fresh-asked : Agrees (left fresh ask) (called taps 10 start ask)
+fresh-asked = call-agrees fresh start fresh-represents fresh-fit ask
+
+fresh-kept : recordFit (left fresh (update 100 3000 50) .modulator) ≡ true
+fresh-kept = stays-fit fresh fresh-fit (update 100 3000 50) (unfold Given in tt)
+
+-- ---- calls of each kind, refused ones among them
+abbrev mixed : List Call
+mixed =
+    ask ∷ provide (Preamble (record { 0 = 255 })) [] ∷ read (replicate 3 (pos 7)) ∷ provide GivenSymbols [] ∷ update 9 5 0 ∷ provide EndOfTransmission [] ∷ update 100 3000 50 ∷ provide NoFrame [] ∷ []
+
+mixed-given : AllGiven mixed
+unfolding AllGiven Given Delay
+mixed-given = (tt, (lit< tt, (tt, (tt, (tt, (tt, (tt, (tt, tt))))))))
+
+mixed-represents : Represents (recordAfter mixed) (sentAll taps 10 mixed)
+mixed-represents = sender-run mixed mixed-given .0
+
+mixed-on-the-way : answersTo (ask ∷ []) ≡ saidAll taps 10 (ask ∷ [])
+mixed-on-the-way = after-each (ask ∷ []) _ mixed-given .1
+
+mixed-fit : recordFit (recordAfter mixed) ≡ true
+mixed-fit = fit-throughout mixed mixed-given
+
+mixed-next : saidBy (left (recordAfter mixed) ask) ≡ called taps 10 (sentAll taps 10 mixed) ask .said
+mixed-next = next-call mixed mixed-given ask
+
+-- ---- what a run hands out: P2's samples
+opening-read : Quiet (negsuc 67)
+opening-read = within-read opening opening-given (record { answer = wrote 5; room = negsuc 112 ∷ negsuc 102 ∷ negsuc 67 ∷ negsuc 11 ∷ pos 54 ∷ [] }) (rw p2-run (Memᴰ·append-right (_ ∷ []) (List·Memᴰ·head refl))) 5 refl 2 (lit< tt)
+
+-- every sample of the frame that it made
+opening-long : recordAfter opening .progress .«next_len» ≡ 1920
+unfolding sentFrom called provided framedBy drained
+opening-long = ap (λ (s : Progress). s .«next_len») (sender-run opening opening-given .0 .progress)
+
+opening-made : Quiet (getD (recordAfter opening .«next_transmission») 1919 (pos 0))
+opening-made = within-made opening opening-given 1919 (rw opening-long (lit< tt))
+
+opening-taken : done ≡ refusal 1 → ⊥
+opening-taken = never-unfit opening opening-given (record { answer = done; room = [] }) (rw p2-run (List·Memᴰ·head refl))

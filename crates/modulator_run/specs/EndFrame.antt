@@ -1,0 +1,34 @@
+-- "End of transmission appends 80 zero symbols: 2,720 samples, the last 729 zero, the window all zero after it, and a transmit end owed." Assumes nothing.
+use mathlib.Core.Path.{_≡_}
+use mathlib.Core.Bool.{true}
+use Prim.Native.Nat.{ℕ, _+_, _-_, _*_, _<_}
+use lib.IntN.{pos}
+use lib.ListN.{getD}
+use lib.Ieee.{nan, binary32, ofBits}
+use Rattle.modulator.specs.declared.SoftModulator.{SoftModulator}
+use Rattle.modulator.specs.Pulse.{pulses, sampleAt}
+use Rattle.modulator.specs.Frame.{ending}
+use Rattle.modulator.specs.Record.{lineOf}
+use Rattle.modulator.specs.Calls.{Left, done}
+
+-- "80 zero symbols"
+abbrev pub flushSymbols : ℕ
+flushSymbols = 80
+
+-- "2,720 samples"
+abbrev pub endSamples : ℕ → ℕ
+endSamples p = p * (192 + flushSymbols)
+
+-- "the last 729 zero": all but the last symbol's pulse and the 8p samples in which it leaves the window
+abbrev pub silentSamples : ℕ → ℕ
+silentSamples p = 73 * p - 1
+
+-- what the end of transmission leaves, of the record m
+pub record EndFrame (m : SoftModulator) (left : Left) : Type 0 where
+  pub answer : left .answer ≡ done
+  pub number : left .modulator .progress .«next_len» ≡ endSamples 10
+  pub unread : left .modulator .progress .«next_read» ≡ 0
+  pub samples : (i : ℕ) → i < endSamples 10 → getD (left .modulator .«next_transmission») i (pos 0) ≡ sampleAt (pulses 10 (ending .symbol)) (lineOf m) i
+  pub silence : (i : ℕ) → i < silentSamples 10 → getD (left .modulator .«next_transmission») ((endSamples 10 - silentSamples 10) + i) (pos 0) ≡ pos 0
+  pub window : (i : ℕ) → i < 81 → getD (left .modulator .«filter_win») i nan ≡ ofBits binary32 0
+  pub owed : left .modulator .pending .«calculate_tx_end» ≡ true

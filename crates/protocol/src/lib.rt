@@ -1,0 +1,80 @@
+// What the M17 specification fixes for both ends of a channel: the four kinds of frame, the six sync bursts with their signs, and the refusals of document 01 with their numbers.
+ghost use Rattle.protocol.specs.Bursts.{target-says};
+ghost use Rattle.protocol.specs.Refusals.{number-says};
+
+// The kinds of frame, in the order in which the search tries them.
+pub enum Kind {
+    Lsf,
+    Bert,
+    Stream,
+    Packet,
+}
+
+// A burst begins a frame of its kind, or is one of the two that no frame follows.
+pub enum SyncBurst {
+    Frame(Kind),
+    Preamble,
+    EndOfTransmission,
+}
+
+// The six bursts, eight signs each: LSF, BERT, Stream, Packet, preamble, end of transmission.
+const BURSTS: [[i8; 8]; 6] = [
+    [1, 1, 1, 1, -1, -1, 1, -1],
+    [-1, 1, -1, -1, 1, 1, 1, 1],
+    [-1, -1, -1, -1, 1, 1, -1, 1],
+    [1, -1, 1, 1, -1, -1, -1, -1],
+    [1, -1, 1, -1, 1, -1, 1, -1],
+    [1, 1, 1, 1, 1, 1, -1, 1],
+];
+
+impl SyncBurst {
+    // The signs that a burst's eight symbols have.
+    pub fn target(self) -> [i8; 8]
+        ensures { λ r. ⌜ target-says self r ⌝ }
+    {
+        match self {
+            SyncBurst::Frame(kind) => match kind {
+                Kind::Lsf => BURSTS[0],
+                Kind::Bert => BURSTS[1],
+                Kind::Stream => BURSTS[2],
+                Kind::Packet => BURSTS[3],
+            },
+            SyncBurst::Preamble => BURSTS[4],
+            SyncBurst::EndOfTransmission => BURSTS[5],
+        }
+    }
+}
+
+// Why a call is refused. Nothing but the refusal is given then, and record and buffers are as they were.
+pub enum Refusal {
+    RecordUnfit,
+    ReplyOwed,
+    NoReplyOwed,
+    RoomTooSmall,
+    CountAtItsEnd,
+    WrongCount,
+    SymbolOutside,
+    BufferTooLarge,
+    CapacityBelowFill,
+    ValueOutside,
+}
+
+impl Refusal {
+    // The refusal's number in document 01.
+    pub fn number(self) -> u32
+        ensures { λ r. ⌜ number-says self r ⌝ }
+    {
+        match self {
+            Refusal::RecordUnfit => 1,
+            Refusal::ReplyOwed => 2,
+            Refusal::NoReplyOwed => 3,
+            Refusal::RoomTooSmall => 4,
+            Refusal::CountAtItsEnd => 5,
+            Refusal::WrongCount => 6,
+            Refusal::SymbolOutside => 7,
+            Refusal::BufferTooLarge => 8,
+            Refusal::CapacityBelowFill => 9,
+            Refusal::ValueOutside => 10,
+        }
+    }
+}

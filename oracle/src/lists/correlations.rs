@@ -1,0 +1,176 @@
+//! The correlator: `BURST VALUE .. = DIFF GAIN SHIFT`, eight values. The cases in which a -0.0 shows in the
+//! Rust's answer are a list of their own, with the answer to 0.0 in its place, which is the port's.
+
+use crate::bits::{hex, row, step};
+use crate::decode::{name, signs, sync_burst_correlation, SyncBurst, BURSTS, SYNC_THRESHOLD};
+use crate::random::Random;
+
+type Values = [f32; 8];
+type Case = (SyncBurst, Values);
+
+pub fn write() -> String {
+    lines(|burst, values| !zero_shows(burst, values))
+}
+
+pub fn write_differences() -> String {
+    lines(zero_shows)
+}
+
+/// The answer to the values as the port hears them. It is the Rust's own wherever no zero shows.
+fn lines(wanted: fn(SyncBurst, Values) -> bool) -> String {
+    cases()
+        .into_iter()
+        .filter(|&(burst, values)| wanted(burst, values))
+        .map(|(burst, values)| {
+            let heard = answer(burst, values.map(|value| value + 0.0));
+            format!("{} {} = {heard}\n", name(burst), row(&values))
+        })
+        .collect()
+}
+
+fn zero_shows(burst: SyncBurst, values: Values) -> bool {
+    answer(burst, values) != answer(burst, values.map(|value| value + 0.0))
+}
+
+fn cases() -> Vec<Case> {
+    [
+        by_hand(),
+        smallest_gain(),
+        offsets(),
+        zeros(),
+        crossed(),
+        random_values(),
+        noisy(),
+    ]
+    .concat()
+}
+
+fn answer(burst: SyncBurst, values: Values) -> String {
+    let (diff, gain, shift) = sync_burst_correlation(burst.target(), &values);
+    format!("{} {} {}", hex(diff), hex(gain), hex(shift))
+}
+
+fn matches(burst: SyncBurst, values: Values) -> bool {
+    sync_burst_correlation(burst.target(), &values).0 < SYNC_THRESHOLD
+}
+
+fn scaled(burst: SyncBurst, gain: f32, offset: f32) -> Values {
+    signs(burst).map(|sign| sign * gain + offset)
+}
+
+/// P3 to P8 of document 01.
+fn by_hand() -> Vec<Case> {
+    [
+        (32.0, 0.0),
+        (16.0, 0.0),
+        (15.5, 0.0),
+        (20.0, 5.0),
+        (20.0, 6.0),
+        (20.0, 7.0),
+    ]
+    .map(|(gain, offset)| (SyncBurst::Lsf, scaled(SyncBurst::Lsf, gain, offset)))
+    .to_vec()
+}
+
+/// Each burst a step below the smallest gain, at it, and a step above.
+fn smallest_gain() -> Vec<Case> {
+    let mut cases = Vec::new();
+    for burst in BURSTS {
+        for by in [-1, 0, 1] {
+            cases.push((burst, scaled(burst, step(16.0, by), 0.0)));
+        }
+    }
+    cases
+}
+
+/// Each burst with the offset at which some distance reaches 0.3, on both sides, for several gains; and
+/// P7 with one value moved by a step.
+fn offsets() -> Vec<Case> {
+    let mut cases = Vec::new();
+    for burst in BURSTS {
+        for gain in [16.0, 20.0, 32.5, 1000.0, 35_461.0, 141_803.0, 700_000.0] {
+            for side in [1.0, -1.0] {
+                let last = last_offset(burst, gain, side);
+                for by in [-1, 0, 1] {
+                    cases.push((burst, scaled(burst, gain, step(last, by))));
+                }
+            }
+        }
+        for at in 0..8 {
+            for by in [-1, 1] {
+                let mut values = scaled(burst, 20.0, 6.0);
+                values[at] = step(values[at], by);
+                cases.push((burst, values));
+            }
+        }
+    }
+    cases
+}
+
+/// The offset that still matches while the next step does not, found by halving.
+fn last_offset(burst: SyncBurst, gain: f32, side: f32) -> f32 {
+    let (mut inside, mut outside) = (0, gain.to_bits());
+    while outside - inside > 1 {
+        let middle = inside + (outside - inside) / 2;
+        if matches(burst, scaled(burst, gain, side * f32::from_bits(middle))) {
+            inside = middle;
+        } else {
+            outside = middle;
+        }
+    }
+    side * f32::from_bits(inside)
+}
+
+/// Zeros of both signs, also beside other values.
+fn zeros() -> Vec<Case> {
+    let mut random = Random::new(3);
+    let mut cases = vec![(SyncBurst::Lsf, [0.0; 8]), (SyncBurst::Lsf, [-0.0; 8])];
+    for at in 0..8 {
+        let mut values = [-0.0; 8];
+        values[at] = 0.0;
+        cases.push((SyncBurst::Lsf, values));
+        cases.push((SyncBurst::Lsf, values.map(|zero: f32| -zero)));
+    }
+    for _ in 0..20 {
+        let burst = *random.pick(&BURSTS);
+        cases.push((burst, [(); 8].map(|()| *random.pick(&[0.0, -0.0]))));
+        cases.push((burst, [(); 8].map(|()| *random.pick(&[0.0, -0.0, 40.0]))));
+        cases.push((burst, [(); 8].map(|()| *random.pick(&[0.0, -0.0, -40.0]))));
+    }
+    cases
+}
+
+/// Each burst's signs, looked for as every burst.
+fn crossed() -> Vec<Case> {
+    let row = |wanted: SyncBurst| BURSTS.map(|sent| (wanted, scaled(sent, 32.0, 0.0)));
+    BURSTS.map(row).concat()
+}
+
+fn random_values() -> Vec<Case> {
+    let mut random = Random::new(4);
+    (0..200)
+        .map(|_| {
+            let size = *random.pick(&[20.0, 1000.0, 1_000_000.0]);
+            (
+                *random.pick(&BURSTS),
+                [(); 8].map(|()| random.unit() * size),
+            )
+        })
+        .collect()
+}
+
+/// Each burst with a gain, noise and an offset of its own, of which most are small enough for a match.
+fn noisy() -> Vec<Case> {
+    let mut random = Random::new(5);
+    let mut cases = Vec::new();
+    for burst in BURSTS {
+        for _ in 0..90 {
+            let gain = 18.0 + (random.unit() + 1.0) * *random.pick(&[10.0, 1000.0, 70_000.0]);
+            let noise = gain * 0.15 * random.unit();
+            let offset = gain * 0.15 * random.unit();
+            let values = scaled(burst, gain, offset).map(|value| value + noise * random.unit());
+            cases.push((burst, values));
+        }
+    }
+    cases
+}

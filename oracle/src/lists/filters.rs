@@ -1,0 +1,50 @@
+//! The receiver's filter: `run NAME`, then for each sample `SAMPLE = VALUE`.
+
+use crate::bits::hex;
+use crate::harness::{lay_replies, take_offer};
+use crate::modem::{peek, Demodulator, SoftDemodulator};
+use crate::random::Random;
+use crate::shaping::RRC_48K;
+
+pub fn write() -> String {
+    let mut random = Random::new(2);
+    let noise: Vec<i16> = (0..300).map(|_| random.sample()).collect();
+    let mut list = String::new();
+    run(&mut list, "one", &impulse(1));
+    run(&mut list, "lowest", &impulse(i16::MIN));
+    run(
+        &mut list,
+        "largest",
+        &RRC_48K.map(|tap| if tap > 0.0 { i16::MAX } else { i16::MIN }),
+    );
+    run(
+        &mut list,
+        "smallest",
+        &RRC_48K.map(|tap| if tap > 0.0 { i16::MIN } else { i16::MAX }),
+    );
+    run(
+        &mut list,
+        "step",
+        &[[0; 10].as_slice(), &[10_000; 110]].concat(),
+    );
+    run(&mut list, "noise", &noise);
+    list
+}
+
+/// One sample other than 0, and zeros until it has left the window again.
+fn impulse(sample: i16) -> Vec<i16> {
+    let mut samples = vec![0; 82];
+    samples[0] = sample;
+    samples
+}
+
+fn run(list: &mut String, name: &str, samples: &[i16]) {
+    lay_replies("");
+    let mut receiver = SoftDemodulator::new();
+    list.push_str(&format!("run {name}\n"));
+    for &sample in samples {
+        receiver.demod(sample);
+        list.push_str(&format!("{sample} = {}\n", hex(peek::newest(&receiver))));
+    }
+    assert!(take_offer().is_none(), "a run is too short for a frame");
+}

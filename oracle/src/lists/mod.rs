@@ -1,0 +1,60 @@
+//! The lists, one file each. README.md gives the form of their lines.
+
+mod bursts;
+mod correlations;
+mod filters;
+mod frames;
+mod numbers;
+mod offers;
+mod sender;
+mod slices;
+mod streams;
+mod taps;
+
+pub struct List {
+    pub name: &'static str,
+    pub write: fn() -> String,
+}
+
+pub const ALL: [List; 10] = [
+    List {
+        name: "taps",
+        write: taps::write,
+    },
+    List {
+        name: "bursts",
+        write: bursts::write,
+    },
+    List {
+        name: "numbers",
+        write: numbers::write,
+    },
+    List {
+        name: "slices",
+        write: slices::write,
+    },
+    List {
+        name: "filters",
+        write: filters::write,
+    },
+    List {
+        name: "correlations",
+        write: correlations::write,
+    },
+    List {
+        name: "differences",
+        write: correlations::write_differences,
+    },
+    List {
+        name: "frames",
+        write: frames::write,
+    },
+    List {
+        name: "offers",
+        write: offers::write,
+    },
+    List {
+        name: "sender",
+        write: sender::write,
+    },
+];

@@ -1,0 +1,131 @@
+//! The receiver: streams of samples with a script of replies, and a line for each change. README.md gives
+//! the lines' forms and their order.
+
+use crate::bits::{hex, row};
+use crate::decode::name;
+use crate::harness::{lay_replies, replies_left, take_offer};
+use crate::lists::streams::{streams, Script};
+use crate::modem::peek::{control, cursors, Control, Held};
+use crate::modem::{Demodulator, SoftDemodulator};
+
+pub fn write() -> String {
+    let mut list = String::new();
+    for stream in streams() {
+        let replies = if stream.replies.is_empty() {
+            "-"
+        } else {
+            &stream.replies
+        };
+        list.push_str(&format!("stream {} {replies}\n", stream.name));
+        run(&mut list, &stream);
+    }
+    list
+}
+
+fn run(list: &mut String, stream: &Script) {
+    lay_replies(&stream.replies);
+    let mut receiver = SoftDemodulator::new();
+    let mut rest = &stream.samples[..];
+    while !rest.is_empty() {
+        let (line, samples) = portion(rest);
+        rest = &rest[samples.len()..];
+        list.push_str(&line);
+        for &sample in samples {
+            feed(list, &mut receiver, sample);
+        }
+    }
+    assert_eq!(
+        replies_left(),
+        0,
+        "stream {} has replies left over",
+        stream.name
+    );
+    let (filter, rx) = cursors(&receiver);
+    list.push_str(&format!("end {} {filter} {rx}\n", control(&receiver).count));
+}
+
+/// The next line of samples: a stretch of zeros by its length, or up to 64 samples by their bits.
+fn portion(rest: &[i16]) -> (String, &[i16]) {
+    let zeros = rest.iter().take_while(|&&sample| sample == 0).count();
+    if zeros >= 64 {
+        return (format!("zeros {zeros}\n"), &rest[..zeros]);
+    }
+    let samples = &rest[..rest.len().min(64)];
+    let digits: String = samples
+        .iter()
+        .map(|sample| format!("{sample:04x}"))
+        .collect();
+    (format!("samples {digits}\n"), samples)
+}
+
+fn feed(list: &mut String, receiver: &mut SoftDemodulator, sample: i16) {
+    let before = control(receiver);
+    let frame = receiver.demod(sample);
+    let after = control(receiver);
+    let mut say = |event: String| list.push_str(&format!("{} {event}\n", before.count + 1));
+
+    let due = before.candidate.filter(|_| before.wait == Some(1));
+    let offer = take_offer();
+    match (due, &offer) {
+        (Some(_), Some(offer)) => {
+            let reply = if offer.accepted { "accept" } else { "reject" };
+            let symbols = row(&offer.symbols);
+            say(format!(
+                "offer {} {} {symbols} {reply}",
+                offer.kind, after.count
+            ));
+        }
+        (Some(held), None) => say(format!("due {}", name(held.burst))),
+        (None, offer) => assert!(offer.is_none(), "an offer that was not due"),
+    }
+    assert_eq!(frame.is_some(), offer.is_some_and(|offer| offer.accepted));
+    // The listed difference: the Rust never says yes, though it holds the timer.
+    assert!(!receiver.data_carrier_detect());
+
+    if after.timer != before.timer {
+        let end = after
+            .timer
+            .map_or("none".to_string(), |end| end.to_string());
+        say(format!("timer {end}"));
+    }
+    let held = if due.is_some() {
+        None
+    } else {
+        before.candidate
+    };
+    if let Some(event) = candidate_event(held, after.candidate) {
+        say(event);
+    }
+    if let Some(event) = wait_event(before, after) {
+        say(event);
+    }
+}
+
+fn candidate_event(before: Option<Held>, after: Option<Held>) -> Option<String> {
+    if after == before {
+        return None;
+    }
+    let after = after.expect("a candidate goes only with its frame");
+    let aged = before.map(|held| Held {
+        age: held.age + 1,
+        ..held
+    });
+    let kind = name(after.burst);
+    if aged == Some(after) {
+        return Some(format!("age {kind} {}", after.age));
+    }
+    let [diff, gain, shift] = [after.diff, after.gain, after.shift].map(hex);
+    Some(format!("take {kind} {} {diff} {gain} {shift}", after.age))
+}
+
+/// A wait that was set; that it runs down is no event.
+fn wait_event(before: Control, after: Control) -> Option<String> {
+    let run_down = before.wait.map(|left| left - 1).filter(|&left| left > 0);
+    if after.wait == run_down {
+        return None;
+    }
+    Some(format!(
+        "wait {}",
+        after.wait.expect("a wait ends only by running down")
+    ))
+}

@@ -1,0 +1,255 @@
+//! The sender: sessions of calls, each from a fresh sender, and a line for each call with what it answers
+//! and what the sender keeps. README.md gives the lines' forms.
+
+use crate::bits::row;
+use crate::harness::{a_packet, a_stream, an_lsf, lay_symbols};
+use crate::modem::peek::{lay_window, sending, window};
+use crate::modem::{Modulator, ModulatorAction, ModulatorFrame, SoftModulator};
+use crate::random::Random;
+use crate::shaping::RRC_48K;
+use crate::signal::DIBITS;
+
+pub fn write() -> String {
+    let mut list = String::new();
+    flags(&mut Session::new(&mut list, "flags"));
+    delays(&mut Session::new(&mut list, "delays"));
+    whole(&mut Session::new(&mut list, "whole"));
+    values(&mut Session::new(&mut list, "values"));
+    made_up(&mut Session::new(&mut list, "made-up"));
+    for seed in 13..16 {
+        at_random(
+            &mut Session::new(&mut list, "random"),
+            &mut Random::new(seed),
+        );
+    }
+    list
+}
+
+/// The wish, the idle report and the reported end, in the orders that tell them apart.
+fn flags(session: &mut Session) {
+    session.run();
+    session.run();
+    session.update(0, 1999, 0);
+    session.run();
+    session.update(0, 2000, 0);
+    session.run();
+    session.run();
+    session.update(1, 2000, 0); // less room does not lower the wish
+    session.run();
+    session.none();
+    session.run();
+    session.update(3000, 5000, 7);
+    session.end(); // the wish stays, unread samples go first
+    session.run();
+    session.update(100, 2000, 20);
+    session.run();
+    session.run();
+    session.update(200, 2000, 20); // the end was owed once
+    session.run();
+    session.end();
+    session.update(5, 10, 6);
+    session.end();
+    session.update(50, 100, 60); // reported anew before it was taken
+    session.run();
+    session.run();
+    session.read(10);
+}
+
+/// TxDelay against latency, and padding that outlives its frame.
+fn delays(session: &mut Session) {
+    for (latency, steps) in [
+        (500, 1),
+        (480, 1),
+        (479, 1),
+        (400, 1),
+        (0, 0),
+        (0, 255),
+        (16_777_216, 255),
+    ] {
+        session.update(0, 16_777_216, latency);
+        session.preamble(steps);
+    }
+    session.update(0, 4000, 440);
+    session.preamble(1);
+    session.read(0);
+    session.read(15);
+    session.end(); // keeps the padding
+    session.run();
+    session.read(30);
+    session.read(1);
+}
+
+/// A transmission from start to end, as a card reads it.
+fn whole(session: &mut Session) {
+    let mut random = Random::new(11);
+    session.update(0, 4000, 300);
+    session.preamble(1);
+    session.read(960);
+    session.read(4000);
+    session.symbols([(); 192].map(|()| *random.pick(&DIBITS)));
+    session.read(1920);
+    session.end();
+    session.look();
+    session.read(2720);
+    session.read(1);
+    session.update(0, 4000, 300);
+    session.run();
+    session.preamble(0); // the window is empty again
+    session.read(40);
+}
+
+/// Symbols of all sizes that are let through; of a frame that is replaced, the window keeps its trace.
+fn values(session: &mut Session) {
+    let mut random = Random::new(12);
+    session.symbols([(); 192].map(|()| random.unit()));
+    session.read(400);
+    session.symbols([(); 192].map(|()| random.unit() / (1u32 << random.below(31)) as f32));
+    session.read(400);
+    let corners = [
+        0.0,
+        -0.0,
+        1.0,
+        -1.0,
+        f32::from_bits(1),
+        -f32::from_bits(1),
+        f32::MIN_POSITIVE,
+    ];
+    session.symbols([(); 192].map(|()| *random.pick(&corners)));
+    session.look();
+    session.read(400);
+}
+
+/// A window that no frame leaves, and whose sums go past i16 on both sides.
+fn made_up(session: &mut Session) {
+    for (cursor, side) in [(0, 1.0), (80, -1.0)] {
+        let mut values = [0.0; 81];
+        for (i, tap) in RRC_48K.iter().enumerate() {
+            // One place further, since the first sample of the frame takes the oldest one's place.
+            values[(cursor + 1 + i) % 81] = side * 35_461.0 * tap.signum();
+        }
+        session.window(cursor, values);
+        session.symbols([side; 192]);
+        session.read(90);
+    }
+}
+
+/// Calls drawn at random, with small rooms so that frames are replaced half read.
+fn at_random(session: &mut Session, random: &mut Random) {
+    for _ in 0..120 {
+        match random.below(16) {
+            0 => session.none(),
+            1 => session.preamble(random.below(4) as u8),
+            2 => session.symbols([(); 192].map(|()| *random.pick(&DIBITS))),
+            3 => session.end(),
+            4..=7 => {
+                let room = *random.pick(&[0, 1, 10, 50, 100, 400]);
+                session.read(room);
+            }
+            8..=10 => {
+                let fill = random.below(3000);
+                session.update(fill, fill + random.below(4000), random.below(1200));
+            }
+            _ => session.run(),
+        }
+    }
+}
+
+struct Session<'a> {
+    list: &'a mut String,
+    sender: SoftModulator,
+    frames: usize,
+}
+
+impl<'a> Session<'a> {
+    fn new(list: &'a mut String, name: &str) -> Self {
+        list.push_str(&format!("session {name}\n"));
+        Session {
+            list,
+            sender: SoftModulator::new(),
+            frames: 0,
+        }
+    }
+
+    fn none(&mut self) {
+        self.sender.provide_next_frame(None);
+        self.say("none", "");
+    }
+
+    fn preamble(&mut self, steps: u8) {
+        self.sender
+            .provide_next_frame(Some(ModulatorFrame::Preamble { tx_delay: steps }));
+        self.say(&format!("preamble {steps}"), "");
+    }
+
+    /// The Rust has three frames of symbols, which it sends alike: each in turn.
+    fn symbols(&mut self, symbols: [f32; 192]) {
+        lay_symbols(symbols);
+        self.frames += 1;
+        self.sender.provide_next_frame(Some(match self.frames % 3 {
+            0 => ModulatorFrame::Packet(a_packet()),
+            1 => ModulatorFrame::Lsf(an_lsf()),
+            _ => ModulatorFrame::Stream(a_stream()),
+        }));
+        self.say(&format!("symbols {}", row(&symbols)), "");
+    }
+
+    fn end(&mut self) {
+        self.sender
+            .provide_next_frame(Some(ModulatorFrame::EndOfTransmission));
+        self.say("end", "");
+    }
+
+    fn read(&mut self, room: usize) {
+        const UNTOUCHED: i16 = 21_845;
+        let mut out = vec![UNTOUCHED; room];
+        let written = self.sender.read_output_samples(&mut out);
+        assert!(out[written..].iter().all(|&sample| sample == UNTOUCHED));
+        let samples: String = out[..written]
+            .iter()
+            .map(|sample| format!(" {sample}"))
+            .collect();
+        self.say(&format!("read {room}"), &format!(" {written}{samples}"));
+    }
+
+    fn update(&mut self, fill: usize, capacity: usize, latency: usize) {
+        self.sender.update_output_buffer(fill, capacity, latency);
+        self.say(&format!("update {fill} {capacity} {latency}"), "");
+    }
+
+    fn run(&mut self) {
+        let action = match self.sender.run() {
+            Some(ModulatorAction::TransmissionWillEnd(after)) => format!(" end {after}"),
+            Some(ModulatorAction::ReadOutput) => " read".to_string(),
+            Some(ModulatorAction::SetIdle(idle)) => {
+                format!(" idle {}", if idle { "yes" } else { "no" })
+            }
+            Some(ModulatorAction::GetNextFrame) => " frame".to_string(),
+            None => " nothing".to_string(),
+        };
+        self.say("run", &action);
+    }
+
+    /// Reads the window; no call of the modem's own.
+    fn look(&mut self) {
+        let (cursor, values) = window(&self.sender);
+        self.say("look", &format!(" {cursor} {}", row(&values)));
+    }
+
+    /// Lays a made-up window; no call of the modem's own.
+    fn window(&mut self, cursor: usize, values: [f32; 81]) {
+        lay_window(&mut self.sender, cursor, values);
+        self.say(&format!("window {cursor} {}", row(&values)), "");
+    }
+
+    fn say(&mut self, call: &str, answer: &str) {
+        let s = sending(&self.sender);
+        let flags = [s.idle_due, s.wish, s.end_owed]
+            .map(|flag| u8::from(flag).to_string())
+            .concat();
+        let end = s.end.map_or("none".to_string(), |end| end.to_string());
+        self.list.push_str(&format!(
+            "{call} ={answer} : {} {} {} {flags} {end} {} {} {}\n",
+            s.length, s.read, s.padding, s.fill, s.capacity, s.latency
+        ));
+    }
+}

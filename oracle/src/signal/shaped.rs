@@ -1,0 +1,87 @@
+//! Short signals whose filtered values pass through wished ones. The corners of the search need two
+//! kinds on neighbouring samples, which no sent frame gives.
+
+use crate::decode::{signs, SyncBurst};
+use crate::shaping::RRC_48K;
+
+/// A wished filtered value, at a sample numbered from 1.
+#[derive(Clone, Copy)]
+pub struct Wish {
+    at: usize,
+    value: f64,
+}
+
+/// The wishes under which `burst` matches at sample `at` with this gain and an offset.
+pub(crate) fn matching(burst: SyncBurst, at: usize, gain: f64, offset: f64) -> [Wish; 8] {
+    let mut place = at - 80;
+    signs(burst).map(|sign| {
+        place += 10;
+        Wish {
+            at: place,
+            value: f64::from(sign) * gain + offset,
+        }
+    })
+}
+
+/// Samples that come as near to the wishes as whole samples can: those of least energy, rounded. None
+/// where a sample would have to lie outside i16.
+pub fn samples(wishes: &[Wish]) -> Option<Vec<i16>> {
+    let length = wishes.iter().map(|wish| wish.at).max()?;
+    let lag = |a: Wish, b: Wish| overlap(a.at.abs_diff(b.at));
+    let gram: Vec<Vec<f64>> = wishes
+        .iter()
+        .map(|&a| wishes.iter().map(|&b| lag(a, b)).collect())
+        .collect();
+    let weights = solved(gram, wishes.iter().map(|wish| wish.value).collect());
+
+    let mut exact = vec![0.0; length];
+    for (wish, weight) in wishes.iter().zip(weights) {
+        for (i, &tap) in RRC_48K.iter().enumerate() {
+            exact[wish.at - 81 + i] += weight * f64::from(tap);
+        }
+    }
+    let fits = |&value: &f64| f64::abs(value) <= 32_000.0;
+    exact
+        .iter()
+        .all(fits)
+        .then(|| exact.iter().map(|value| value.round() as i16).collect())
+}
+
+/// The taps times the taps moved by `lag`.
+fn overlap(lag: usize) -> f64 {
+    RRC_48K
+        .iter()
+        .skip(lag)
+        .zip(&RRC_48K)
+        .map(|(&a, &b)| f64::from(a) * f64::from(b))
+        .sum()
+}
+
+/// Solves `rows` times x equals `right`, by elimination with the largest pivot.
+fn solved(mut rows: Vec<Vec<f64>>, mut right: Vec<f64>) -> Vec<f64> {
+    let n = right.len();
+    for at in 0..n {
+        let size = |row: &usize| rows[*row][at].abs();
+        let pivot = (at..n)
+            .max_by(|a, b| size(a).total_cmp(&size(b)))
+            .unwrap_or(at);
+        rows.swap(at, pivot);
+        right.swap(at, pivot);
+        for below in at + 1..n {
+            let (above, from_here) = rows.split_at_mut(below);
+            let (known, row) = (&above[at], &mut from_here[0]);
+            let factor = row[at] / known[at];
+            for (value, known) in row.iter_mut().zip(known) {
+                *value -= factor * known;
+            }
+            right[below] -= factor * right[at];
+        }
+    }
+    for at in (0..n).rev() {
+        let known: f64 = (at + 1..n)
+            .map(|column| rows[at][column] * right[column])
+            .sum();
+        right[at] = (right[at] - known) / rows[at][at];
+    }
+    right
+}
