@@ -58,10 +58,10 @@ fn main() {
     }
 }
 
-/// For src/bin/speed.rs: the archive that `SPEED_ARCHIVE` names, and a new link whenever it is another.
+/// For the programs in src/bin: the archive that `PORT_ARCHIVE` names, and a new link whenever it is another.
 fn link_the_port() {
-    println!("cargo:rerun-if-env-changed=SPEED_ARCHIVE");
-    let archive = PathBuf::from(env::var("SPEED_ARCHIVE").unwrap_or_default());
+    println!("cargo:rerun-if-env-changed=PORT_ARCHIVE");
+    let archive = PathBuf::from(env::var("PORT_ARCHIVE").unwrap_or_default());
     if let Some(folder) = archive.parent() {
         println!("cargo:rerun-if-changed={}", archive.display());
         println!("cargo:rustc-link-search=native={}", folder.display());

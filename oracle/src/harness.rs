@@ -3,6 +3,7 @@
 //! reaches them by plain function calls, hence the thread's own store.
 
 use crate::decode::{name, SyncBurst};
+use crate::house::accepts;
 use crate::protocol::{LsfFrame, PacketFrame, PacketFrameCounter, StreamFrame};
 use std::cell::{Cell, RefCell};
 use std::collections::VecDeque;
@@ -14,8 +15,14 @@ pub struct Offer {
     pub accepted: bool,
 }
 
+/// Where the replies come from.
+enum Replies {
+    Script(VecDeque<bool>),
+    ByWord,
+}
+
 thread_local! {
-    static REPLIES: RefCell<VecDeque<bool>> = const { RefCell::new(VecDeque::new()) };
+    static REPLIES: RefCell<Replies> = const { RefCell::new(Replies::Script(VecDeque::new())) };
     static OFFER: RefCell<Option<Offer>> = const { RefCell::new(None) };
     static SYMBOLS: Cell<[f32; 192]> = const { Cell::new([0.0; 192]) };
 }
@@ -27,11 +34,19 @@ pub fn lay_replies(script: &str) {
         'r' => false,
         _ => panic!("a reply is a or r, not {c}"),
     });
-    REPLIES.set(replies.collect());
+    REPLIES.set(Replies::Script(replies.collect()));
+}
+
+/// From now on the accept rule of the program receive replies.
+pub fn reply_by_word() {
+    REPLIES.set(Replies::ByWord);
 }
 
 pub fn replies_left() -> usize {
-    REPLIES.with_borrow(VecDeque::len)
+    REPLIES.with_borrow(|replies| match replies {
+        Replies::Script(left) => left.len(),
+        Replies::ByWord => 0,
+    })
 }
 
 /// The offer that the last sample led to, if it did.
@@ -45,9 +60,13 @@ pub fn lay_symbols(symbols: [f32; 192]) {
 }
 
 fn offered(burst: SyncBurst, frame: &[f32]) -> bool {
-    let accepted = REPLIES.with_borrow_mut(VecDeque::pop_front);
-    let accepted = accepted.expect("the script has a reply for every offer");
     let symbols = frame.try_into().expect("a window has 192 symbols");
+    let accepted = REPLIES.with_borrow_mut(|replies| match replies {
+        Replies::Script(left) => left
+            .pop_front()
+            .expect("the script has a reply for every offer"),
+        Replies::ByWord => accepts(burst, &symbols),
+    });
     OFFER.set(Some(Offer {
         kind: name(burst),
         symbols,

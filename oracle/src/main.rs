@@ -5,6 +5,7 @@ mod bits;
 mod decode;
 mod encode;
 mod harness;
+mod house;
 mod lists;
 mod modem;
 mod protocol;
@@ -25,6 +26,8 @@ fn main() -> ExitCode {
     let words: Vec<&str> = words.iter().map(String::as_str).collect();
     let done = match words[..] {
         ["all", folder] => write_all(Path::new(folder)),
+        ["send"] => house::send(),
+        ["receive"] => house::receive(),
         [name] => match lists::ALL.iter().find(|list| list.name == name) {
             Some(list) => io::stdout().write_all((list.write)().as_bytes()),
             None => return usage(),
@@ -52,6 +55,8 @@ fn usage() -> ExitCode {
     let names: Vec<&str> = lists::ALL.iter().map(|list| list.name).collect();
     eprintln!("usage: oracle LIST        writes a list on standard output");
     eprintln!("       oracle all DIR     writes every list to DIR/LIST.txt");
+    eprintln!("       oracle send        the program send, done with the old modem");
+    eprintln!("       oracle receive     the program receive, done with the old modem");
     eprintln!("LIST is one of: {}", names.join(" "));
     ExitCode::from(2)
 }

@@ -1,6 +1,8 @@
-// What the correlator refuses, what it still takes, and the zeros whose sign Rust leaves open. The expected text is written by hand, from the paper's table of refusals.
+// What the correlator refuses, what it still takes, the zeros whose sign Rust leaves open, and what a program says when it stops early. The expected text is written by hand, from the
+// paper's table of refusals and the texts of `house`.
 use decode::Correlated;
 use decode::Correlation;
+use house::Trouble;
 use protocol::Kind;
 use protocol::Refusal;
 use protocol::SyncBurst;
@@ -107,8 +109,22 @@ fn put_zeros() {
     put_zero(b"min of -0 and 0:", numbers::min(-0.0, 0.0));
 }
 
+fn put_text(name: &[u8], trouble: Trouble) {
+    io::write_all(1, name);
+    let text = house::trouble_text(trouble);
+    let bytes = text.bytes;
+    cases_text::put_front(&bytes, text.length);
+}
+
+fn put_troubles() {
+    put_text(b"a read fails: ", Trouble::Reading);
+    put_text(b"a write fails: ", Trouble::Writing);
+    put_text(b"a sample or a frame is refused: ", Trouble::Refused);
+}
+
 fn main() {
     put_outside();
     put_inside();
     put_zeros();
+    put_troubles();
 }

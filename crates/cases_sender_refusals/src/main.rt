@@ -1,23 +1,32 @@
-// What the sender refuses and what it still takes, on made-up records: every phrase of the paper's 'Unfit sender' at its limit and past it, every refusal of its calls and the pairs of them, the room that is lent, the wish, and the reported end. The expected text is written by hand, from the paper.
+// What the sender refuses and what it still takes, on made-up records, and sessions of several calls. A line of the table cites the paper and, behind its colon, says what the record and the operands have in place of the fit ones; it is written again with the answers to every call. The expected answers were worked out from the paper.
+mod answers;
 mod calls;
-mod frames;
-mod pairs;
-mod reads;
-mod records;
+mod made;
 mod same;
-mod sessions;
-mod unfit;
-mod updates;
-mod window;
-mod writing;
+mod table;
+
+use modulator::SoftModulator;
+
+fn answer_line(m: SoftModulator, line: &[u8]) -> SoftModulator {
+    io::write_all(1, line);
+    let colon = bytes::scan::find(line, 0, line.len(), b':');
+    let next = answers::answered(m, &line[colon..]);
+    cases_text::end_line();
+    next
+}
+
+fn replay(text: &[u8]) {
+    let mut m = SoftModulator::new();
+    let mut at: usize = 0;
+    while at < text.len() {
+        let end = bytes::scan::find(text, at, text.len(), b'\n');
+        m = answer_line(m, &text[at..end]);
+        at = end + 1;
+    }
+}
 
 fn main() {
-    unfit::put_phrases();
-    window::put_values();
-    frames::put_symbols();
-    updates::put_updates();
-    pairs::put_pairs();
-    reads::put_reads();
-    sessions::put_sessions();
-    window::put_loud();
+    let mut text = io::large_buffer();
+    let length = io::read_full(0, &mut text);
+    replay(&text[..length]);
 }

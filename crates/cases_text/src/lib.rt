@@ -12,4 +12,5 @@ pub use reading::sample;
 pub use writing::end_line;
 pub use writing::put_count;
 pub use writing::put_float;
+pub use writing::put_front;
 pub use writing::put_signed;

@@ -41,3 +41,10 @@ pub fn put_signed(z: i16) {
     }
     io::print_decimal(1, size(z));
 }
+
+// The first `length` of the bytes; none where there are fewer.
+pub fn put_front(bytes: &[u8], length: usize) {
+    if length <= bytes.len() {
+        io::write_all(1, &bytes[..length]);
+    }
+}

@@ -15,6 +15,7 @@ use Rattle.numbers.specs.Below.{allBelow}
 use Rattle.numbers.proofs.Below.{all-below}
 use Rattle.protocol.specs.declared.Kind.{Kind}
 use Rattle.decode.specs.Correlator.{leastGain, threshold, inRange}
+use Rattle.decode.specs.Parts.{valuesOf}
 use Rattle.demodulator.specs.declared.Candidate.{Candidate}
 use Rattle.demodulator.specs.declared.Candidate.the-variants.{Nothing, Held}
 use Rattle.demodulator.specs.declared.Waiting.{Waiting}
@@ -24,9 +25,10 @@ use Rattle.demodulator.specs.declared.Timer.{Timer}
 use Rattle.demodulator.specs.declared.Timer.the-variants.{Until}
 use Rattle.demodulator.specs.declared.Control.{Control}
 use Rattle.demodulator.specs.declared.SoftDemodulator.{SoftDemodulator}
+use Rattle.demodulator.specs.Search.{ageOf}
 use Rattle.demodulator.specs.Record.{back, assembled}
 use Rattle.demodulator.specs.Fit.{cursorsFit, timerFit, ageFit, diffFit, gainFit, shiftFit, candidateFit, held, waitFit, replyFit, controlFit, recordFit, placesRead, fitForSample, fitForReply}
-use Rattle.demodulator.specs.Parts.{TestsRecord}
+use Rattle.demodulator.specs.Parts.{TestsRecord, SearchReady}
 use Rattle.demodulator.proofs.Clauses.{clauses}
 
 -- ---- the facts
@@ -65,7 +67,7 @@ both : (a b : Bool) → T (a && b) → T a × T b
 both a b t = (and-l a b t, and-r a b t)
 
 -- ---- each clause
-held-facts : (kind : Kind) (age : ℕ) (diff gain shift : Float) → T (candidateFit (Held kind age diff gain shift)) → HeldFacts age diff gain shift
+pub held-facts : (kind : Kind) (age : ℕ) (diff gain shift : Float) → T (candidateFit (Held kind age diff gain shift)) → HeldFacts age diff gain shift
 unfolding candidateFit
 held-facts kind age diff gain shift t =
     let all = both (ageFit age && diffFit diff && gainFit gain) (shiftFit shift) t in
@@ -124,6 +126,16 @@ record-facts m e =
       ring-cursor = ltb→lt (m .«rx_cursor») 1920 (cursors .1);
       control = control-facts (m .control) (all .1);
     }
+
+-- ---- what a search asks
+pub age-most : (candidate : Candidate) → T (candidateFit candidate) → ageOf candidate ≤ 254
+age-most Nothing t = lit≤ tt
+age-most (Held kind age diff gain shift) t = held-facts kind age diff gain shift t .age-to
+
+pub fit-ready : (c : Control) (vs : List Float) → ((i : ℕ) → i < 8 → T (inRange (valuesOf vs i))) → T (controlFit 10 c) → SearchReady c vs
+fit-ready c vs range fit =
+    let s = clauses 10 c fit in
+    record { range = range; age = age-most (c .candidate) (s .candidate); count = leb→le (c .sample) (2 ^ 63) (s .count) }
 
 -- ---- what code knows once it has tested a record by its parts
 module _ (windowCursor ringCursor : ℕ) (c : Control) (r : Bool) (tests : TestsRecord windowCursor ringCursor c r) where

@@ -5,20 +5,12 @@ pub mod Readers
 pub mod Clauses
 -- what a fit record is known to be
 pub mod Fitness
--- small instances: what the laws ask can be met
-pub mod RecordInstances
 -- readers that agree lead to the same search
 pub mod Searching
 -- an age rises by one at most
 pub mod Passing
 -- six bursts from one hearing
 pub mod Sensing
--- a candidate fit but for its age
-pub mod Grown
--- a search leaves a fit control fit, but for one age
-pub mod SearchFits
--- small instances of the search's laws
-pub mod SearchInstances
 -- what a sample comes to, by the wait
 pub mod Turning
 -- what comes before a search leaves a fit control fit
@@ -37,9 +29,5 @@ pub mod Replying
 pub mod OnlyAnswer
 -- a stretch of samples, one by one
 pub mod Feeding
--- an accepted call leaves a fit record fit
-pub mod SampleFits
-pub mod FitAgain
--- small instances of the laws of the calls
-pub mod CallInstances
+-- small instances of the laws of the step: what they ask can be met
 pub mod StepInstances

@@ -17,10 +17,9 @@ use Rattle.demodulator.specs.Record.{back, withControl}
 use Rattle.demodulator.specs.Fit.{recordFit, cursorsFit, controlFit, fitForReply}
 use Rattle.demodulator.specs.Calls.{reply-says}
 use Rattle.demodulator.specs.Parts.{SearchReady}
-use Rattle.demodulator.proofs.Fitness.{holds, reply-record, reply-eight}
+use Rattle.demodulator.proofs.Fitness.{holds, fit-ready, reply-record, reply-eight}
 use Rattle.demodulator.proofs.Readers.{eight-at}
 use Rattle.demodulator.proofs.Searching.{replied-same}
-use Rattle.demodulator.proofs.SearchFits.{fit-ready}
 use Rattle.demodulator.proofs.Demodulating.{reply-taken}
 
 module _ (m : SoftDemodulator) (fit : fitForReply m ≡ true) (values : List Float) (e : values ≡ firsts (eight 10 (back m)) 8) where

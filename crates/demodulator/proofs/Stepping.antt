@@ -33,10 +33,9 @@ use Rattle.demodulator.specs.Fit.{cursorsFit, controlFit, recordFit, fit
 use Rattle.demodulator.specs.Calls.{Left, heardPaper, finished, demod-says}
 use Rattle.demodulator.specs.Parts.{Stores, SearchReady}
 use Rattle.demodulator.specs.Steps.{Counts, comesTo, Turns, Rings, Accepts}
-use Rattle.demodulator.proofs.Fitness.{holds, record-facts, sample-record, sample-seven}
+use Rattle.demodulator.proofs.Fitness.{holds, record-facts, fit-ready, sample-record, sample-seven}
 use Rattle.demodulator.proofs.Readers.{stored-newest, stored-tens, eight-at}
 use Rattle.demodulator.proofs.Searching.{searched-same}
-use Rattle.demodulator.proofs.SearchFits.{fit-ready}
 use Rattle.demodulator.proofs.Demodulating.{sample-taken}
 
 -- ---- the window

@@ -1,19 +1,13 @@
--- A fit control stays fit while a sample is counted, a wait goes on or ends, and a reply is owed or given. Assumes nothing.
-use mathlib.Core.Path.{_≡_, subst}
+-- A fit control stays fit while a sample is counted, and where a wait ends. Assumes nothing.
 use mathlib.Core.Bool.{Bool, true, false, not, _&&_}
-use Prim.Native.Nat.{ℕ, _+_, _-_, _*_, _^_, _<_}
+use Prim.Native.Nat.{ℕ, _+_, _^_, _<_}
 use native.Mathlib.Omega.{arith}
-use lib.Dec.{T, leb, ltb, ltb→lt, le→leb, lt→ltb}
-use lib.Ieee.Fits.{and-i, and-l, and-r}
-use Rattle.demodulator.specs.declared.Candidate.{Candidate}
-use Rattle.demodulator.specs.declared.Waiting.{Waiting}
-use Rattle.demodulator.specs.declared.Wait.{Wait}
-use Rattle.demodulator.specs.declared.Wait.the-variants.{Free, Due}
+use lib.Dec.{T, ltb, le→leb}
 use Rattle.demodulator.specs.declared.Timer.{Timer}
 use Rattle.demodulator.specs.declared.Timer.the-variants.{Off, Until}
 use Rattle.demodulator.specs.declared.Control.{Control}
-use Rattle.demodulator.specs.Turn.{cleared, counted, waitingOn, freed, owing}
-use Rattle.demodulator.specs.Fit.{timerFit, candidateFit, held, waitFit, controlFit}
+use Rattle.demodulator.specs.Turn.{cleared, counted, freed, owing}
+use Rattle.demodulator.specs.Fit.{timerFit, candidateFit, waitFit, controlFit}
 use Rattle.demodulator.proofs.Clauses.{clauses, joined}
 use Rattle.demodulator.proofs.Passing.{by-test}
 
@@ -22,27 +16,6 @@ cleared-fit : (p count : ℕ) (timer : Timer) → T (timerFit p timer) → T (ti
 unfolding cleared
 cleared-fit p count Off t = tt
 cleared-fit p count (Until end) t = by-test (λ (o : Timer). T (timerFit p o)) (ltb end count) Off (Until end) (λ e. tt) (λ e. t)
-
--- ---- the wait
-sooner-fit : (p : ℕ) (w : Waiting) (candidate : Candidate) (owed : Bool) → 1 < w .left → T (waitFit p (Due w) candidate owed) → T (waitFit p (Due (record { left = w .left - 1 })) candidate owed)
-unfolding waitFit
-sooner-fit p w candidate owed l t =
-    let three = and-l (leb 1 (w .left) && ltb (w .left) (184 * p) && held candidate) (not owed) t in
-    let two = and-l (leb 1 (w .left) && ltb (w .left) (184 * p)) (held candidate) three in
-    let below = ltb→lt (w .left) (184 * p) (and-r (leb 1 (w .left)) (ltb (w .left) (184 * p)) two) in
-    let left = w .left - 1 in
-    and-i (leb 1 left && ltb left (184 * p) && held candidate) (not owed)
-    (and-i (leb 1 left && ltb left (184 * p)) (held candidate)
-    (and-i (leb 1 left) (ltb left (184 * p)) (le→leb 1 left (omega arith)) (lt→ltb left (184 * p) (omega arith)))
-    (and-r (leb 1 (w .left) && ltb (w .left) (184 * p)) (held candidate) three))
-    (and-r (leb 1 (w .left) && ltb (w .left) (184 * p) && held candidate) (not owed) t)
-
-unowed-fit : (p : ℕ) (wait : Wait) (candidate : Candidate) (owed : Bool) → T (waitFit p wait candidate owed) → T (waitFit p wait candidate false)
-unfolding waitFit
-unowed-fit p Free candidate owed t = tt
-unowed-fit p (Due w) candidate owed t =
-    let waits = leb 1 (w .left) && ltb (w .left) (184 * p) && held candidate in
-    and-i waits true (and-l waits (not owed) t) tt
 
 -- ---- a reply
 none-held : (owed : Bool) → T (not (owed && false))
@@ -57,20 +30,9 @@ module _ (p : ℕ) (c : Control) (fit : T (controlFit p c)) where
       joined p (counted c)
       (record { count = le→leb (c .sample + 1) (2 ^ 63) (omega arith); timer = cleared-fit p (c .sample + 1) (c .dcd) (s .timer); candidate = s .candidate; wait = s .wait; reply = s .reply })
 
-  pub waiting-fit : (w : Waiting) → c .wait ≡ Due w → 1 < w .left → T (controlFit p (waitingOn (w .left - 1) c))
-  waiting-fit w e l =
-      let s = clauses p c fit in
-      joined p (waitingOn (w .left - 1) c)
-      (record { count = s .count; timer = s .timer; candidate = s .candidate; wait = sooner-fit p w (c .candidate) (c .owed) l (subst (λ (o : Wait). T (waitFit p o (c .candidate) (c .owed))) e (s .wait)); reply = s .reply })
-
   -- whether a reply is then owed or not
   pub freed-fit : (owed : Bool) → T (controlFit p (owing owed (freed c)))
   freed-fit owed =
       let s = clauses p c fit in
       joined p (owing owed (freed c))
       (record { count = s .count; timer = s .timer; candidate = unfold candidateFit in tt; wait = unfold waitFit in tt; reply = none-held owed })
-
-  pub settled-fit : T (controlFit p (owing false c))
-  settled-fit =
-      let s = clauses p c fit in
-      joined p (owing false c) (record { count = s .count; timer = s .timer; candidate = s .candidate; wait = unowed-fit p (c .wait) (c .candidate) (c .owed) (s .wait); reply = tt })

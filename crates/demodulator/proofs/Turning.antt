@@ -4,10 +4,11 @@ use Prim.Native.Nat.{ℕ, _-_, _≤_, _<_}
 use native.Mathlib.Omega.{arith}
 use lib.Ieee.{Float}
 use borrow.Author.Tests.{lt-ltb, le-ltb}
+use Rattle.protocol.specs.declared.Kind.{Kind}
 use Rattle.demodulator.specs.declared.Waiting.{Waiting}
 use Rattle.demodulator.specs.declared.Wait.the-variants.{Free, Due}
 use Rattle.demodulator.specs.declared.Control.{Control}
-use Rattle.demodulator.specs.declared.turn.Turn.the-variants.{Rest, Look}
+use Rattle.demodulator.specs.declared.turn.Turn.the-variants.{Rest, Offer, Look}
 use Rattle.demodulator.specs.Search.{searched}
 use Rattle.demodulator.specs.Turn.{quiet, counted, waitingOn, freed, due, waited, sampled}
 
@@ -31,3 +32,6 @@ looked c d e = cc
 
 pub resting : {A : Type 0} (c d : Control) → Rest c ≡ Look d → A
 resting c d e = let z : _≡_ {A = ℕ} 0 1 = cc in absurd (omega arith)
+
+pub offering : {A : Type 0} (kind : Kind) (gain shift : Float) (c d : Control) → Offer kind gain shift c ≡ Look d → A
+offering kind gain shift c d e = let z : _≡_ {A = ℕ} 0 1 = cc in absurd (omega arith)

@@ -105,7 +105,7 @@ module _ (front : List ℤ) (x y : ℤ) (more : List ℤ) (seventy : length fron
         let count : 0 + length front ≡ 70 = omega arith in
         (t, e ∙ ap (standing front Nothing Free t) count)
 
-    after-71 : (t : Timer) × (heardAll taps 10 (fed upTo71) ≡ standing upTo71 (taken k (at ear k 71)) Free t 71)
+    pub after-71 : (t : Timer) × (heardAll taps 10 (fed upTo71) ≡ standing upTo71 (taken k (at ear k 71)) Free t 71)
     after-71 =
         let (t, e) = after-70 in
         let (u, f) = next-first all front x (y ∷ more) 70 seventy refl (lit< tt) t k first in

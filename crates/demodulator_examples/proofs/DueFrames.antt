@@ -21,7 +21,7 @@ use Rattle.demodulator_run.proofs.Listing.{yes→T, no→⊥}
 use Rattle.demodulator_run.proofs.Demand48.{due-once-48, due-from-48, symbol-zero-48}
 use Rattle.demodulator_run.proofs.Pass.{Step, pass-lost, pass-hit}
 use Rattle.demodulator_examples.proofs.Table.{listed}
-use Rattle.demodulator_examples.proofs.Sketch.{Sketch, calls, shaped, sampled, ear-same, correlates, at-72, started, spans, due-mark, cause, taken-at-71, of-kind, failed-at-72}
+use Rattle.demodulator_examples.proofs.Sketch.{Sketch, calls, shaped, sampled, ear-same, correlates, at-72, started, spans, spans-sharp, due-mark, cause, taken-at-71, of-kind, failed-at-72}
 use Rattle.demodulator_examples.proofs.OneBurst.{oneBurst}
 use Rattle.demodulator_examples.proofs.EarlierLarger.{earlierLarger, diffs as larger-diff}
 use Rattle.demodulator_examples.proofs.LaterSmaller.{laterSmaller, diffs as smaller-diff}
@@ -32,6 +32,9 @@ one-burst-started = started oneBurst
 
 pub one-burst-span : (d : ℕ) × DueAt (logAll taps 10 (calls oneBurst)) d × (71 + 1839 ≤ d) × (d ≤ 71 + 1879)
 one-burst-span = spans oneBurst
+
+pub one-burst-span-sharp : (d : ℕ) × DueAt (logAll taps 10 (calls oneBurst)) d × (71 + 1839 ≤ d) × (d ≤ 71 + 1849)
+one-burst-span-sharp = spans-sharp oneBurst
 
 pub one-burst-due : In (dueMark 1911 (shownAt (shaped oneBurst) Stream 71)) (logAll taps 10 (calls oneBurst))
 one-burst-due =

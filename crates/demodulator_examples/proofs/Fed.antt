@@ -15,7 +15,7 @@ use Rattle.shaping.specs.Taps.{taps}
 use Rattle.demodulator.specs.declared.Reply.the-variants.{Accepted}
 use Rattle.demodulator.specs.Turn.{Outcome, quiet, offer, eight, owing, sampled, replied}
 use Rattle.demodulator.specs.Calls.{done}
-use Rattle.demodulator.proofs.SampleFits.{controlOf}
+use Rattle.demodulator_laws.proofs.SampleFits.{controlOf}
 use Rattle.demodulator_run.specs.Filter.{ago}
 use Rattle.demodulator_run.specs.Rules.{Call, sample, reply, Heard, After, refused, settled, accepted, given, answered, called, heardFrom}
 use Rattle.demodulator_run.specs.Run.{Callable, Sampled}
@@ -45,6 +45,11 @@ pub sixteen-append : (xs ys : List ℤ) → Sixteen xs → Sixteen ys → Sixtee
 unfolding Sixteen
 sixteen-append [] ys s t = t
 sixteen-append (x ∷ xs) ys s t = (s .0, sixteen-append xs ys (s .1) t)
+
+pub sixteen-front : (xs ys : List ℤ) → Sixteen (xs ++ ys) → Sixteen xs
+unfolding Sixteen
+sixteen-front [] ys s = tt
+sixteen-front (x ∷ xs) ys s = (s .0, sixteen-front xs ys (s .1))
 
 pub fed-sampled : (xs : List ℤ) → Sixteen xs → Sampled (fed xs)
 unfolding fed Sixteen Sampled Callable
@@ -78,7 +83,7 @@ replied-in h = go (h .control .owed) refl
     go true e = refl
     go false e = ap (λ (b : Bool). record { samples = h .samples; control = owing b (h .control) }) e
 
-settled-heard : (xs : List ℤ) (o : Outcome) → settled taps 10 xs room o .heard ≡ record { samples = xs; control = controlOf o }
+pub settled-heard : (xs : List ℤ) (o : Outcome) → settled taps 10 xs room o .heard ≡ record { samples = xs; control = controlOf o }
 unfolding settled
 settled-heard xs (quiet c) = refl
 settled-heard xs (offer kind gain shift c) = refl

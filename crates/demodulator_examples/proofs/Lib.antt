@@ -15,6 +15,9 @@ pub mod EarlierLarger
 pub mod LaterSmaller
 -- their due frames: the rule, its corner, a replacement
 pub mod DueFrames
+-- a switch of kind without a wait
+pub mod EarlierSmaller
+pub mod KindSwitch
 -- a list given twice
 pub mod Again
 -- its second frame

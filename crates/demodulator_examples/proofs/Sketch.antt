@@ -27,7 +27,7 @@ use Rattle.demodulator_run.specs.Marks.{FellDue, logAll}
 use Rattle.demodulator_run.specs.Demands.{Ear, earOf, at, In, Started, DueAt, Shown, dueMark, Cause, Matches}
 use Rattle.demodulator_run.proofs.Listing.{same→≡, no→⊥}
 use Rattle.demodulator_run.proofs.Demand.{earAll, fedAll}
-use Rattle.demodulator_run.proofs.Demand48.{due-span-48, due-rule-48}
+use Rattle.demodulator_run.proofs.Demand48.{due-span-48, due-span-sharp-48, due-rule-48}
 use Rattle.demodulator_run.proofs.Pass.{controlled, passBy}
 use Rattle.demodulator_examples.proofs.Fed.{fed, fed-sampled, Sixteen, sixteen-append}
 use Rattle.demodulator_examples.proofs.Steps.{Hits, none, waiting}
@@ -125,6 +125,9 @@ module _ (S : Sketch) where
 
   pub spans : (d : ℕ) × DueAt (logAll taps 10 calls) d × (71 + 1839 ≤ d) × (d ≤ 71 + 1879)
   spans = due-span-48 calls sampled 71 started (let e = fed-number in omega arith)
+
+  pub spans-sharp : (d : ℕ) × DueAt (logAll taps 10 calls) d × (71 + 1839 ≤ d) × (d ≤ 71 + 1849)
+  spans-sharp = due-span-sharp-48 calls sampled 71 started (let e = fed-number in omega arith)
 
   -- ---- the due frame
   module _ (j : Kind) (age : ℕ) (diff gain shift : Float) (left : ℕ) (some : 1 ≤ left) (short : left ≤ 1900)

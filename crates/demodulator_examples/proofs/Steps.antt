@@ -56,7 +56,7 @@ module _ (all : List ℤ) (xs : List ℤ) (x : ℤ) (more : List ℤ) (n : ℕ) 
   one-more : length (xs ++ (x ∷ [])) ≡ n + 1
   one-more = length-append xs (x ∷ []) ∙ omega arith
 
-  hears : earOf taps 10 all (n + 1) ≡ eightAt (xs ++ (x ∷ []))
+  pub hears : earOf taps 10 all (n + 1) ≡ eightAt (xs ++ (x ∷ []))
   hears = newest all (xs ++ (x ∷ [])) more (n + 1) one-more (part ∙ sym (append-assoc xs (x ∷ []) more))
 
   -- the search runs

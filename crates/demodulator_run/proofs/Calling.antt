@@ -17,7 +17,7 @@ use Rattle.demodulator_run.specs.Rules.{Call, sample, reply, query, Hear
 use Rattle.demodulator_run.specs.Marks.{Mark, isRefusal, sampledMarks, repliedMarks, stepMarks, calledMarks}
 use Rattle.demodulator_run.specs.Demands.{Ear, earOf, Alone, NotAgain}
 use Rattle.demodulator_run.proofs.Phase.{Kept}
-use Rattle.demodulator.proofs.SampleFits.{controlOf}
+use Rattle.demodulator_laws.proofs.SampleFits.{controlOf}
 use Rattle.demodulator_run.proofs.Turning.{sampled-kept, replied-kept}
 use Rattle.demodulator_run.proofs.Count.{sampled-count, replied-count}
 

@@ -18,7 +18,7 @@ use Rattle.demodulator.specs.declared.Reply.the-variants.{Accepted, Rejected}
 use Rattle.demodulator.specs.Search.{carried, sameKind, missed, tried, passed, searched}
 use Rattle.demodulator.specs.Turn.{Outcome, quiet, offer, pickOutcome, offered, counted, freed, owing, due, waited, sampled, replied}
 use lib.Dec.{ltb}
-use Rattle.demodulator.proofs.SampleFits.{controlOf}
+use Rattle.demodulator_laws.proofs.SampleFits.{controlOf}
 
 module _ {n : ℕ} where
   cond-count : (b : Bool) (x y : Control) → x .sample ≡ n → y .sample ≡ n → (cond b x y) .sample ≡ n

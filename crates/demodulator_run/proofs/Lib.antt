@@ -43,10 +43,10 @@ pub mod SearchExact
 pub mod StepExact
 -- the log's marks
 pub mod LogExact
+-- a switch of kind
+pub mod Switch
 -- a due frame's window
 pub mod Window
--- the control that a run leaves
-pub mod Reached
 -- demand 3 at 48,000 samples in a second
 pub mod Demand48
 -- a ring of any length
@@ -69,6 +69,8 @@ pub mod Step
 pub mod Whole
 -- demand 2
 pub mod ReceiverRun
+-- a stretch of samples in one call
+pub mod Feeding
 -- a refused call changes nothing
 pub mod Refused
 -- examples, computed

@@ -21,8 +21,8 @@ use Rattle.demodulator.specs.Record.{freshControl}
 use Rattle.demodulator.specs.Fit.{candidateFit, waitFit, replyFit, controlFit}
 use Rattle.demodulator.proofs.Clauses.{clauses, joined}
 use Rattle.demodulator.proofs.Passing.{by-test}
-use Rattle.demodulator.proofs.SearchFits.{Outgrown}
-use Rattle.demodulator.proofs.SampleFits.{controlOf, sampled-fits, replied-fits}
+use Rattle.demodulator_laws.proofs.SearchFits.{Outgrown}
+use Rattle.demodulator_laws.proofs.SampleFits.{controlOf, sampled-fits, replied-fits}
 use Rattle.demodulator_run.specs.Filter.{ago}
 use Rattle.demodulator_run.specs.Rules.{Call, sample, reply, query, Heard, After, start, settled, accepted, given, answered, called, heardFrom, heardAll}
 use Rattle.demodulator_run.specs.Run.{Callable, Sampled}

@@ -1,11 +1,11 @@
 -- A search marks exactly what the rules say. Assumes nothing.
 use mathlib.Core.Path.{_≡_, refl, sym, ap, _∙_, subst, fun-ext}
 use mathlib.Core.Logic.{inl, inr}
-use mathlib.Core.Bool.{Bool, true, false, not, true≢false}
+use mathlib.Core.Bool.{Bool, true, false, true≢false}
 use mathlib.Core.List.{List, [], _∷_, List·Memᴰ·head, List·Memᴰ·tail, List·Memᴰ·not-nil, List·Memᴰ·cases-cons, List·Memᴰ·eq-of-singleton}
 use Prim.Native.Nat.{ℕ, _<_}
 use native.Mathlib.Omega.{arith}
-use lib.Dec.{T}
+use lib.Dec.{T, not-T}
 use lib.Ieee.{Float, lt}
 use Rattle.protocol.specs.declared.Kind.{Kind}
 use Rattle.protocol.specs.declared.SyncBurst.the-variants.{Frame}
@@ -18,7 +18,7 @@ use Rattle.demodulator.specs.Search.{rank}
 use Rattle.demodulator_run.specs.Marks.{Mark, First, Anew, Failed, FellDue, searchedMarks}
 use Rattle.demodulator_run.specs.Demands.{Ear, at, Matches, Unmatched, Alone, In}
 use Rattle.demodulator_run.specs.Exact.{BySearch}
-use Rattle.demodulator_run.proofs.Listing.{Place, Before, Level, After, place, Placed, placed, same-self, same→≡, yes→T, no→T, no→⊥, T-clash, heard, OneHeard}
+use Rattle.demodulator_run.proofs.Listing.{Place, Before, Level, After, place, Placed, placed, same-self, same→≡, no→T, no→⊥, T-clash, heard, OneHeard}
 use Rattle.demodulator_run.proofs.Pass.{Step, controlled, passBy, search-pass, pass-quiet, pass-first, pass-lost, pass-hit, struck}
 
 -- marks that are just those of which something holds
@@ -138,11 +138,7 @@ module _ (ear : Ear) (p : ℕ) (alone : Alone ear) (n : ℕ) where
   one-only j one i m = sym (same→≡ j i (subst T (one i) m))
 
   one-missed : (j : Kind) → OneHeard (ear n) (λ i j. alone i j n) j → (k : Kind) → (j ≡ k → ⊥) → Unmatched ear k n
-  one-missed j one k other = go (matches (Frame k) (ear n)) refl
-    where
-      go : (b : Bool) → matches (Frame k) (ear n) ≡ b → T (not b)
-      go true e = absurd (other (sym (one-only j one k (yes→T e))))
-      go false e = tt
+  one-missed j one k other = not-T (matches (Frame k) (ear n)) (λ m. other (sym (one-only j one k m)))
 
   pub search-exact : (held : Candidate) (t : Timer) (o : Bool) → Exactly (BySearch ear (controlled held Free t o n)) (searchedMarks p (ear n) (controlled held Free t o n))
   search-exact Nothing t o =

@@ -5,7 +5,7 @@ use mathlib.Core.Bool.{Bool, true, false, not}
 use mathlib.Core.List.{List, [], _∷_, _++_, append-nil, append-assoc}
 use Prim.Native.Nat.{ℕ, _+_, _-_, _*_, _<_}
 use native.Mathlib.Omega.{arith}
-use lib.Dec.{T}
+use lib.Dec.{T, not-T}
 use lib.Ieee.{Float, lt}
 use Rattle.protocol.specs.declared.Kind.{Kind}
 use Rattle.protocol.specs.declared.SyncBurst.the-variants.{Frame}
@@ -58,11 +58,7 @@ module _ (ear : Ear) (p : ℕ) (alone : Alone ear) (l : List Mark) where
       compared b e = ap (λ (c : Correlation). lt (c .diff) (at ear j (n + 1) .diff)) (sym (H .values)) ∙ e
 
       missed : (j ≡ k → ⊥) → T (not (matches (Frame k) (ear (n + 1))))
-      missed other = go (matches (Frame k) (ear (n + 1))) refl
-        where
-          go : (b : Bool) → matches (Frame k) (ear (n + 1)) ≡ b → T (not b)
-          go true e = absurd (other (sym (only k (yes→T e))))
-          go false e = tt
+      missed other = not-T (matches (Frame k) (ear (n + 1))) (λ m. other (sym (only k m)))
 
       struck-kept : (o : Place) → Placed o j k → (b : Bool) → lt diff (at ear j (n + 1) .diff) ≡ b
           → KeptBy ear p l (struck p (λ i. at ear i (n + 1)) t false (n + 1) age diff gain shift o b j k)

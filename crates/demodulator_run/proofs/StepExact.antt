@@ -72,7 +72,7 @@ module _ (ear : Ear) (h : Heard) (call : Call) where
   no-wait none (Failed n k) d = d
   no-wait none (FellDue n k gain shift) d = none (d .4)
 
-free-due : {w : Waiting} → Free ≡ Due w → ⊥
+pub free-due : {w : Waiting} → Free ≡ Due w → ⊥
 free-due e = let z : _≡_ {A = ℕ} 0 1 = cc in omega arith
 
 due-one : (left : ℕ) → Due (record { left = left }) ≡ lastSample → left ≡ 1

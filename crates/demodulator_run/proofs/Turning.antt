@@ -17,7 +17,7 @@ use Rattle.demodulator.specs.declared.Control.{Control}
 use Rattle.demodulator.specs.declared.Reply.{Reply}
 use Rattle.demodulator.specs.declared.Reply.the-variants.{Accepted, Rejected}
 use Rattle.demodulator.specs.Turn.{quiet, offer, pickOutcome, offered, cleared, owing, due, waited, sampled, replied}
-use Rattle.demodulator.proofs.SampleFits.{controlOf}
+use Rattle.demodulator_laws.proofs.SampleFits.{controlOf}
 use Rattle.demodulator_run.specs.Marks.{Mark, FellDue, dueMarks, waitedMarks, sampledMarks, repliedMarks, searchedMarks}
 use Rattle.demodulator_run.specs.Demands.{Ear, Alone, NotAgain}
 use Rattle.demodulator_run.proofs.Pass.{Step, controlled, searchStep}

@@ -1,4 +1,4 @@
--- Worked examples of the rules, computed: P1, the first sample, each refusal, and the carrier. Assumes nothing.
+-- Worked examples of the rules, computed: P1, the first sample, each refusal, the carrier and its timer, a wait that is set, a tie and an age. Assumes nothing.
 use mathlib.Core.Path.{_≡_, refl, sym, _∙_}
 use mathlib.Core.Bool.{true, false}
 use mathlib.Core.List.{List, [], _∷_}
@@ -14,8 +14,9 @@ use Rattle.shaping.specs.Sum.{dot}
 use Rattle.shaping.proofs.Impulse.{middle-tap}
 use Rattle.protocol.specs.Bursts.{signsOf}
 use Rattle.decode.specs.Correlator.{heard, highest, lowest, gainOf, shiftOf, symbolOf, distanceOf, summed, diffOf, correlation, matches}
-use Rattle.demodulator.specs.declared.Candidate.the-variants.{Nothing}
-use Rattle.demodulator.specs.declared.Wait.the-variants.{Free}
+use Rattle.protocol.specs.declared.Kind.the-variants.{Lsf, Stream}
+use Rattle.demodulator.specs.declared.Candidate.the-variants.{Nothing, Held}
+use Rattle.demodulator.specs.declared.Wait.the-variants.{Free, Due}
 use Rattle.demodulator.specs.declared.Timer.the-variants.{Off, Until}
 use Rattle.demodulator.specs.declared.Reply.the-variants.{Accepted}
 use Rattle.demodulator.specs.Search.{carried, heldAfter, missed, tried, passed, searched}
@@ -85,3 +86,28 @@ pub first : called taps 10 start (sample (pos 32767) room) ≡ record {
 }
 unfolding called given settled sampled waited cleared searched passed tried carried missed heldAfter matches correlation diffOf summed sumTo distanceOf symbolOf shiftOf gainOf highest lowest heard larger smaller sizeOf add sub mul div lt eq neg ofInt ofBits filtered sampleNo dot taps signsOf anyBelow
 first = refl
+
+-- ---- "clear the carrier timer if the count is above its end"
+at-its-end : cleared 240 (Until 240) ≡ Until 240
+unfolding cleared
+at-its-end = refl
+
+past-its-end : cleared 241 (Until 240) ≡ Off
+unfolding cleared
+past-its-end = refl
+
+-- ---- "the wait becomes 1,840 - age and the timer's end count + 3,840"
+fails : missed 10 Stream (Held Stream 3 nought nought nought) (record { candidate = Held Stream 3 nought nought nought; wait = Free; dcd = Off; owed = false; sample = 100 })
+    ≡ record { candidate = Held Stream 3 nought nought nought; wait = Due (record { left = 1837 }); dcd = Until 3940; owed = false; sample = 100 }
+unfolding missed
+fails = refl
+
+-- ---- "Any other match, ties included, takes a new candidate: kind, age 1"
+tie-taken : heldAfter (Held Stream 3 nought nought nought) Lsf (record { diff = nought; gain = nought; shift = nought }) ≡ Held Lsf 1 nought nought nought
+unfolding heldAfter lt ofBits
+tie-taken = refl
+
+-- ---- "A match whose diff is above the held candidate's adds one to its age, whatever its kind."
+aged : heldAfter (Held Stream 3 nought nought nought) Lsf (record { diff = ofBits binary32 0x3f80_0000; gain = nought; shift = nought }) ≡ Held Stream 4 nought nought nought
+unfolding heldAfter lt ofBits
+aged = refl

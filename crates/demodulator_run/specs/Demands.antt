@@ -15,10 +15,12 @@ use Rattle.decode.specs.declared.Correlation.{Correlation}
 use Rattle.decode.specs.Correlator.{symbolOf, correlation, matches}
 use Rattle.demodulator.specs.declared.Candidate.{Candidate}
 use Rattle.demodulator.specs.declared.Candidate.the-variants.{Nothing, Held}
+use Rattle.demodulator.specs.declared.Wait.the-variants.{Free}
+use Rattle.demodulator.specs.declared.Control.{Control}
 use Rattle.demodulator.specs.Search.{rank}
 use Rattle.demodulator.specs.Turn.{eight, symbolAt}
 use Rattle.demodulator_run.specs.Filter.{filtered, ago}
-use Rattle.demodulator_run.specs.Marks.{Mark, First, Anew, FellDue}
+use Rattle.demodulator_run.specs.Marks.{Mark, First, Anew, Failed, FellDue}
 
 -- ---- what is heard
 abbrev pub Ear : Type 0
@@ -71,9 +73,32 @@ Taken l b k = In (First b k) l ⊎ ((j : Kind) × In (Anew b j k) l)
 abbrev pub Standing : List Mark → ℕ → Kind → Type 0
 Standing l b k = In (First b k) l ⊎ ((j : Kind) × In (Anew b j k) l × (rank k ≤ rank j))
 
+-- at sample n a candidate of kind k was taken while one of another kind, j, was held
+abbrev pub Switched : List Mark → ℕ → Kind → Kind → Type 0
+Switched l n j k = In (Anew n j k) l × (j ≡ k → ⊥)
+
+-- at sample n the wait was set
+abbrev pub WaitSet : List Mark → ℕ → Type 0
+WaitSet l n = (k : Kind) × In (Failed n k) l
+
 -- a frame fell due at sample d
 abbrev pub DueAt : List Mark → ℕ → Type 0
 DueAt l d = (k : Kind) × (gain : Float) × (shift : Float) × In (FellDue d k gain shift) l
+
+-- ---- why 1,879
+-- "a switch of kind without a wait goes only to an earlier-listed kind": while a wait is held nothing is taken, so it is without one if none is set on that sample
+abbrev pub SwitchEarlier : List Mark → Type 0
+SwitchEarlier l = (n : ℕ) (j k : Kind) → Switched l n j k → (WaitSet l n → ⊥) → rank k < rank j
+
+-- two candidates: where they differ in kind, the second's is listed earlier
+abbrev pub EarlierThan : Candidate → Candidate → Type 0
+EarlierThan Nothing held = Unit {0}
+EarlierThan (Held j age diff gain shift) Nothing = Unit {0}
+EarlierThan (Held j age diff gain shift) (Held k age' diff' gain' shift') = (j ≡ k → ⊥) → rank k < rank j
+
+-- the same of the candidates held before a call and after it, where no wait is held before it nor after it
+abbrev pub SwitchHeld : Control → Control → Type 0
+SwitchHeld c d = c .wait ≡ Free → d .wait ≡ Free → EarlierThan (c .candidate) (d .candidate)
 
 -- ---- the span and the age
 -- "a candidate taken at n while none was held": once n + (up - 1) samples are fed, a frame falls due at some d from n + (184p - 1) to n + (up - 1)

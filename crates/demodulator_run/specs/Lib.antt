@@ -8,3 +8,4 @@ pub mod Exact
 -- demand 2
 pub mod Run
 pub mod Represents
+pub mod Stretch

@@ -34,6 +34,7 @@ pub record After : Type 0 where
   pub said : Said
   pub heard : Heard
 
+-- "Samples before the first are 0."
 abbrev pub start : Heard
 start = record { samples = []; control = freshControl }
 
@@ -42,6 +43,7 @@ abbrev pub refused : ℕ → List Float → Heard → After
 refused number room h = record { said = record { answer = refusal number; room = room }; heard = h }
 
 module _ (table : List Float) (p : ℕ) where
+  -- "A due LSF, Stream or Packet frame is offered: the kind, the sample number d, and symbol i"; "Symbol room is written only by an offer, first 192 places only"
   -- what an accepted sample comes to: xs are all the samples, it among them
   unfoldable pub settled : List ℤ → List Float → Outcome → After
   settled xs room (quiet c) = record { said = record { answer = nothing; room = room }; heard = record { samples = xs; control = c } }
@@ -50,6 +52,7 @@ module _ (table : List Float) (p : ℕ) where
     heard = record { samples = xs; control = c };
   }
 
+  -- "Each sample: store, count, clear the carrier timer if the count is above its end."
   abbrev pub accepted : Heard → ℤ → List Float → After
   accepted h x room =
       let xs : List ℤ = h .samples ++ (x ∷ []) in
@@ -63,7 +66,7 @@ module _ (table : List Float) (p : ℕ) where
       (cond (eqb (h .control .sample) (2 ^ 63)) (refused 5 room h)
       (accepted h x room)))
 
-  -- 3 "reply given while none is owed"
+  -- "Accepted: the sample is finished. Rejected: the search runs for that same sample." 3 "reply given while none is owed"
   unfoldable pub answered : Heard → Reply → After
   answered h r =
       cond (not (h .control .owed)) (refused 3 [] h)

@@ -3,6 +3,7 @@ pub mod Digits
 pub mod Bits
 pub mod Lines
 pub mod RoundTrip
+pub mod Within
 pub mod Word
 pub mod Samples
 pub mod Decimal

@@ -1,15 +1,17 @@
-// The house format of the two programs: a frame's symbols as a line of text and back, samples as bytes and back, the text that names a bad line, and
-// the rule by which a program accepts an offered window. All goes by value in arrays of fixed length: no caller can bring too little room.
+// The house format of the two programs: a frame's symbols as a line of text and back, samples as bytes and back, the texts that name a bad line and a failure,
+// and the rule by which a program accepts an offered window. All goes by value in arrays of fixed length: no caller can bring too little room.
 ghost use mathlib.Core.Path.{_≡_};
 ghost use Rattle.house.specs.Line.{bitsOf};
 
 mod accept;
 mod bad_line;
+mod failing;
 mod line;
 mod sample;
 
 pub use accept::accepts;
 pub use bad_line::bad_line_text;
+pub use failing::trouble_text;
 pub use line::line_symbols;
 pub use line::symbols_line;
 pub use sample::bytes_of_i16;
@@ -25,6 +27,13 @@ pub struct Symbols {
 pub struct Text {
     pub bytes: [u8; 32],
     pub length: usize,
+}
+
+// Why a program stops before its input has ended.
+pub enum Trouble {
+    Reading,
+    Writing,
+    Refused,
 }
 
 const LINE_FEED: u8 = 10;

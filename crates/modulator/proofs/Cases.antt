@@ -1,18 +1,17 @@
 -- What a call answers and leaves, by the tests that lead there. Assumes nothing.
 use mathlib.Core.Path.{_≡_, refl, subst}
-use mathlib.Core.Bool.{Bool, true, false, not, cond, _||_}
+use mathlib.Core.Bool.{Bool, true, false, not, _||_}
 use mathlib.Core.List.{List, []}
 use Prim.Native.Nat.{ℕ, _≤_, _<_}
-use lib.Dec.{T, ltb}
+use lib.Dec.{T}
 use lib.IntN.{ℤ}
-use borrow.Author.Tests.{lt-ltb, le-ltb, leb-true, ltb-false}
+use borrow.Author.Tests.{lt-ltb, le-ltb, leb-true}
 use Rattle.modulator.specs.declared.SampleCount.{SampleCount}
-use Rattle.modulator.specs.declared.EndReport.{EndReport}
 use Rattle.modulator.specs.declared.EndReport.the-variants.{Nothing, After}
 use Rattle.modulator.specs.declared.SoftModulator.{SoftModulator}
 use Rattle.modulator.specs.Fit.{countFit, recordFit}
 use Rattle.modulator.specs.Record.{withPending}
-use Rattle.modulator.specs.Calls.{Left, left, refusal, done, transmitEnd, readOutput, idle, getFrame, nothing, read, drained, updated, updatedPending, ran, nextAction, reported, idled}
+use Rattle.modulator.specs.Calls.{left, refusal, done, transmitEnd, readOutput, idle, getFrame, nothing, read, drained, updated, updatedPending, ran, nextAction, reported, idled}
 
 -- 8: "fill, capacity or latency above 16,777,216"
 abbrev pub tooLarge : ℕ → ℕ → ℕ → Bool
@@ -84,32 +83,3 @@ module _ (m : SoftModulator) where
       pub run-nothing : m .pending .«update_idle» ≡ false → m .pending .«try_get_frame» ≡ false → ran m ≡ left nothing m []
       unfolding ran nextAction
       run-nothing i t = rw (e, r, le-ltb (m .progress .«next_read») (m .progress .«next_len») l, i, t)
-
--- ---- what holds in every case
-either : (P : Left → Type 0) (b : Bool) (x y : Left) → (b ≡ true → P x) → (b ≡ false → P y) → P (cond b x y)
-either P true x y p q = p refl
-either P false x y p q = q refl
-
-module _ (m : SoftModulator) (P : Left → Type 0) where
-  pub each-update : (fill capacity latency : ℕ) → P (left (refusal 1) m []) → P (left (refusal 8) m []) → P (left (refusal 9) m [])
-      → (tooLarge fill capacity latency ≡ false → fill ≤ capacity
-      → P (left done (withPending (updatedPending 10 fill capacity latency (m .pending)) (record { «output_latency» = latency; «samples_in_buf» = fill; «buf_capacity» = capacity }) m) []))
-      → P (updated m fill capacity latency)
-  unfolding updated
-  each-update fill capacity latency unfit large below taken =
-      either P (not (recordFit m)) _ _ (λ e. unfit) λ e.
-      either P (tooLarge fill capacity latency) _ _ (λ e. large) λ small.
-      either P (ltb capacity fill) _ _ (λ e. below) λ l.
-      taken small (ltb-false capacity fill l)
-
-  pub each-action : P (left (refusal 1) m []) → ((end : SampleCount) → P (left (transmitEnd (end .0)) (withPending (reported (m .pending)) (m .buffer) m) [])) → P (left readOutput m [])
-      → P (left (idle true) (withPending (idled (m .pending)) (m .buffer) m) []) → P (left getFrame m []) → P (left nothing m []) → P (ran m)
-  unfolding ran nextAction
-  each-action unfit end more idles frame none = either P (not (recordFit m)) _ _ (λ e. unfit) (λ e. by-report (m .pending .«report_tx_end»))
-    where
-      by-report : (report : EndReport) → P (nextAction m report)
-      by-report (After n) = end n
-      by-report Nothing =
-          either P (ltb (m .progress .«next_read») (m .progress .«next_len»)) _ _ (λ e. more) λ e.
-          either P (m .pending .«update_idle») _ _ (λ e. idles) λ e.
-          either P (m .pending .«try_get_frame») _ _ (λ e. frame) (λ e. none)

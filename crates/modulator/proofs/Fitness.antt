@@ -1,12 +1,14 @@
 -- What a fit record is known to be, clause by clause. Assumes nothing.
-use mathlib.Core.Path.{_≡_, refl, sym, subst}
+use mathlib.Core.Path.{_≡_, refl, sym, ap, subst}
 use mathlib.Core.Bool.{Bool, true, _&&_}
+use mathlib.Core.List.{List}
 use Prim.Native.Nat.{ℕ, _≤_, _<_}
 use lib.Dec.{T, leb, leb→le}
-use lib.ListN.{getD}
-use lib.Ieee.{Float, nan, binary32, ofBits, le}
+use lib.ListN.{length, getD}
+use lib.Ieee.{Float, nan, binary32, ofBits, neg, le}
 use lib.Ieee.Bits.{is-true}
 use lib.Ieee.Fits.{and-l, and-r}
+use Rattle.numbers.specs.Below.{allBelow}
 use Rattle.numbers.specs.Within.{Within}
 use Rattle.numbers.proofs.Below.{all-below}
 use Rattle.numbers.proofs.Bounds.{between}
@@ -16,6 +18,7 @@ use Rattle.modulator.specs.declared.EndReport.the-variants.{After}
 use Rattle.modulator.specs.declared.Progress.{Progress}
 use Rattle.modulator.specs.declared.OutputBuffer.{OutputBuffer}
 use Rattle.modulator.specs.declared.SoftModulator.{SoftModulator}
+use Rattle.modulator.specs.Frame.{within}
 use Rattle.modulator.specs.Fit.{pulseFit, windowFit, progressFit, bufferFit, countFit, reportFit, cursorFit, recordFit}
 
 -- ---- the facts
@@ -81,6 +84,12 @@ buffer-facts b t =
 
 report-fact : (end : SampleCount) → T (reportFit (After end)) → end .0 ≤ 33554432
 report-fact end t = leb→le (end .0) 33554432 t
+
+-- window values from -35,461 to 35,461 are those within 35461.0
+pub window-within : (window : List Float) → length window ≡ 81
+    → allBelow (length window) (λ (i : ℕ). within (ofBits binary32 0x470a_8500) (getD window i nan)) ≡ allBelow 81 (λ (i : ℕ). pulseFit (getD window i nan))
+unfolding pulseFit ofBits neg
+window-within window e = ap (λ (n : ℕ). allBelow n (λ (i : ℕ). within (ofBits binary32 0x470a_8500) (getD window i nan))) e
 
 -- ---- all of them
 -- the five groups of phrases

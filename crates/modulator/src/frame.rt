@@ -148,15 +148,9 @@ impl SoftModulator {
                 modulator: self,
             };
         }
-        match frame {
-            ModulatorFrame::Nothing => AfterFrame {
-                answer: Provided::Done,
-                modulator: without_wish(self),
-            },
-            ModulatorFrame::Preamble(tx_delay) => AfterFrame {
-                answer: Provided::Done,
-                modulator: preamble(self, tx_delay),
-            },
+        let modulator = match frame {
+            ModulatorFrame::Nothing => without_wish(self),
+            ModulatorFrame::Preamble(tx_delay) => preamble(self, tx_delay),
             ModulatorFrame::Symbols => {
                 if symbols.len() != 192 {
                     return AfterFrame {
@@ -170,15 +164,13 @@ impl SoftModulator {
                         modulator: self,
                     };
                 }
-                AfterFrame {
-                    answer: Provided::Done,
-                    modulator: given(self, symbols),
-                }
+                given(self, symbols)
             }
-            ModulatorFrame::EndOfTransmission => AfterFrame {
-                answer: Provided::Done,
-                modulator: end_of_transmission(self),
-            },
+            ModulatorFrame::EndOfTransmission => end_of_transmission(self),
+        };
+        AfterFrame {
+            answer: Provided::Done,
+            modulator,
         }
     }
 }

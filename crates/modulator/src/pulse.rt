@@ -5,8 +5,8 @@ ghost use lib.ListN.{length};
 ghost use Rattle.modulator.specs.Pulse.{lineAt, pushed, sampleOf, pulses, Sent};
 ghost use Rattle.modulator.specs.Frame.{listed};
 
-// The size of a whole symbol: 16,383 over the largest gain of the filter at ten samples a symbol, some 0.462.
-const FULL_SYMBOL: f32 = 35461.0;
+// The size of a whole symbol, which no window value passes: 16,383 over the largest gain of the filter at ten samples a symbol, some 0.462.
+pub(crate) const FULL_SYMBOL: f32 = 35461.0;
 
 pub(crate) const SAMPLES_PER_SYMBOL: usize = 10;
 

@@ -14,9 +14,9 @@ use Rattle.modulator.specs.Fit.{recordFit}
 use Rattle.modulator.specs.Calls.{Left, wrote, drained}
 use Rattle.modulator.specs.Calls.{read as readInto}
 use Rattle.modulator.proofs.Cases.{read-fit}
-use Rattle.modulator.proofs.Kept.{read-keeps}
-use Rattle.modulator.proofs.Once.{no-room}
-use Rattle.modulator.proofs.Pieces.{in-pieces}
+use Rattle.modulator_laws.proofs.Kept.{read-keeps}
+use Rattle.modulator_laws.proofs.Once.{no-room}
+use Rattle.modulator_laws.proofs.Pieces.{in-pieces}
 use Rattle.modulator_run.specs.Rules.{Call, read, Sent, zerosRead, samplesRead, called, sentFrom, saidFrom, sentAll}
 use Rattle.modulator_run.specs.Rules.{drained as drainedBy}
 use Rattle.modulator_run.specs.Run.{left, saidBy, recordFrom, answersFrom, recordAfter, Given, AllGiven}

@@ -1,6 +1,6 @@
 -- What holds of a call in each case of the rules holds of every call. Assumes nothing.
 use mathlib.Core.Path.{_≡_, refl, sym, subst}
-use mathlib.Core.Bool.{Bool, true, false, not, cond, _||_, _&&_}
+use mathlib.Core.Bool.{Bool, true, false, not, _||_, _&&_}
 use mathlib.Core.List.{List, []}
 use Prim.Native.Nat.{ℕ}
 use borrow.Author.Tests.{not-false, ltb-false, le-leb, lt-leb, ltb-true}
@@ -18,12 +18,9 @@ use Rattle.modulator.specs.declared.ModulatorFrame.the-variants.{Nothing as NoF
 use Rattle.modulator.specs.Frame.{preamble, given, ending, symbolFit, paddingOf}
 use Rattle.modulator.specs.Fit.{countFit}
 use Rattle.modulator.specs.Calls.{refusal, done, transmitEnd, readOutput, idle, getFrame, nothing, dropped, ended, updatedPending, reported, idled}
+use Rattle.modulator_laws.proofs.Picked.{picked}
 use Rattle.modulator_run.specs.Rules.{Call, provide, read, update, ask, Sent, After, after, withPending, framed, provided, drained, updated, asked, called}
 use Rattle.modulator_run.specs.Reports.{stores}
-
-pub picked : {A : Type 0} (P : A → Type 0) (b : Bool) (x y : A) → (b ≡ true → P x) → (b ≡ false → P y) → P (cond b x y)
-picked P true x y f g = f refl
-picked P false x y f g = g refl
 
 -- a call that is refused, by a number other than 1
 pub data Refusing : Call → ℕ → Type 0 where

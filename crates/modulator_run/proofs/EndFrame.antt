@@ -22,7 +22,7 @@ use Rattle.modulator.specs.Record.{lineOf, framed}
 use Rattle.modulator.specs.Fit.{recordFit}
 use Rattle.modulator.specs.Calls.{provided, accepted}
 use Rattle.modulator.proofs.Stream.{cursor-stays}
-use Rattle.modulator.proofs.View.{view, Ring, view-entered}
+use Rattle.modulator_laws.proofs.View.{view, Ring, view-entered}
 use Rattle.modulator.proofs.Fitness.{record-facts}
 use Rattle.modulator_run.specs.EndFrame.{endSamples, silentSamples, EndFrame}
 use Rattle.modulator_run.proofs.NextFrame.{written-at}

@@ -23,6 +23,7 @@ use Rattle.modulator.specs.Pulse.{pulses}
 use Rattle.modulator.specs.Frame.{ending}
 use Rattle.modulator_run.specs.Stream.{enteringAt, sentAt}
 use Rattle.modulator_run.specs.EndFrame.{endSamples, silentSamples}
+use Rattle.modulator_run.proofs.Entered.{no-pulse}
 use Rattle.modulator_run.proofs.Longer.{entering-new}
 
 -- ---- a window of zeros
@@ -46,10 +47,6 @@ silent-sum table fine w h =
     (dot-limit table fine w (λ _. 0) 0 (rw (total-nothing table (length table)) zero-le) zero-le (λ i l. rw (h i l) (tt, zero-le))))
 
 -- ---- the flush
-no-pulse : mul binary32 (ofBits binary32 0) (ofBits binary32 0x470a_8500) ≡ ofBits binary32 0
-unfolding mul ofBits
-no-pulse = refl
-
 -- after the first sample of symbol 191, the last that is not zero
 module _ (p : ℕ) (some : 0 < p) where
   flushed : (t : ℕ) → 191 * p < t → t % p ≡ 0 → 192 ≤ t / p

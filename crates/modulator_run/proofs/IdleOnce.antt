@@ -15,7 +15,8 @@ use Rattle.modulator.specs.Calls.{idle}
 use Rattle.modulator_run.specs.Rules.{Call, ask, Sent, Said, After, start, framed, drained, asked, called, sentFrom, sentAll}
 use Rattle.modulator_run.specs.Run.{left, recordAfter, AllGiven}
 use Rattle.modulator_run.specs.Reports.{Free, FreeBefore}
-use Rattle.modulator_run.proofs.EachCall.{picked, each-call}
+use Rattle.modulator_laws.proofs.Picked.{picked}
+use Rattle.modulator_run.proofs.EachCall.{each-call}
 use Rattle.modulator_run.proofs.LastCall.{by-last, sent-behind, sent-last}
 use Rattle.modulator_run.proofs.SenderRun.{next-call}
 

@@ -1,4 +1,6 @@
 -- What is proved of the sender over whole runs, of the rules and of the record. Assumes nothing.
+-- what enters, by the symbols and by the samples
+pub mod Entered
 -- a stream with more symbols
 pub mod Longer
 -- the record after one more frame

@@ -1,10 +1,10 @@
 -- A stream of symbols with more symbols behind it: what entered before them is as it was, and then the new ones enter. Assumes nothing.
-use mathlib.Core.Path.{_≡_, refl, ap, _∙_}
+use mathlib.Core.Path.{_≡_, refl, sym, ap, _∙_}
 use mathlib.Core.List.{List, _++_}
 use Prim.Native.Nat.{ℕ, zero, suc, _+_, _-_, _*_, _/_, _≤_, _<_}
 use native.Mathlib.Nat.{add-comm, add-mul-div-left, mul-add-mod-self-left}
 use native.Mathlib.Omega.{arith}
-use lib.ListN.{length, getD, List·getD-append}
+use lib.ListN.{length, List·getD-append}
 use lib.Seq.{getD-append-add}
 use lib.Ieee.{Float, binary32, ofBits, toSigned}
 use Rattle.numbers.specs.Firsts.{firsts}
@@ -14,30 +14,32 @@ use Rattle.shaping.proofs.Dot.{dot-same}
 use Rattle.modulator.specs.Pulse.{pulses}
 use Rattle.modulator.proofs.Pulses.{symbol-inside, pulses-same}
 use Rattle.modulator_run.specs.Stream.{enteringAt, sentAt}
+use Rattle.modulator_run.proofs.Entered.{symbolNo, entering-pulse}
 
--- symbol i, and 0.0 past the last
-abbrev pub symbolNo : List Float → ℕ → Float
-symbolNo symbols i = getD symbols i (ofBits binary32 0)
+-- some sample is made
+some-made : (p n t : ℕ) → t < p * n → 0 < p
+some-made zero n t l = let never : ⊥ = omega arith in absurd never
+some-made (suc q) n t l = omega arith
 
 module _ (p : ℕ) (xs : List Float) where
   pub entering-old : (ys : List Float) (t : ℕ) → t ≤ p * length xs → enteringAt p (xs ++ ys) t ≡ enteringAt p xs t
   unfolding enteringAt
   entering-old ys zero h = refl
-  entering-old ys (suc t) h = pulses-same p (symbolNo (xs ++ ys)) (symbolNo xs) (length xs) (λ i l. List·getD-append xs ys (ofBits binary32 0) i l) t h
+  entering-old ys (suc t) h =
+      let some = some-made p (length xs) t h in
+      entering-pulse p some (xs ++ ys) t
+      ∙ pulses-same p (symbolNo (xs ++ ys)) (symbolNo xs) (length xs) (λ i l. List·getD-append xs ys (ofBits binary32 0) i l) t h
+      ∙ sym (entering-pulse p some xs t)
 
   -- the symbol at hand at sample t of what follows
   place : (t : ℕ) → 0 < p → (p * length xs + t) / p ≡ length xs + t / p
   place t some = ap (λ (n : ℕ). n / p) (add-comm (p * length xs) t) ∙ add-mul-div-left t (length xs) some ∙ add-comm (t / p) (length xs)
 
   pub entering-new : (symbol : ℕ → Float) (n t : ℕ) → t < p * n → enteringAt p (xs ++ firsts symbol n) (suc (p * length xs + t)) ≡ pulses p symbol t
-  unfolding enteringAt pulses
+  unfolding pulses
   entering-new symbol n t h =
-      let some : 0 < p = positive p h in
-      rw (place t some, mul-add-mod-self-left p (length xs) t, getD-append-add xs (firsts symbol n) (t / p) (ofBits binary32 0), firsts-at symbol n (t / p) (ofBits binary32 0) (symbol-inside p n t h))
-    where
-      positive : (q : ℕ) → t < q * n → 0 < q
-      positive zero l = let never : ⊥ = omega arith in absurd never
-      positive (suc q) l = omega arith
+      let some = some-made p n t h in
+      rw (entering-pulse p some (xs ++ firsts symbol n) (p * length xs + t), place t some, mul-add-mod-self-left p (length xs) t, getD-append-add xs (firsts symbol n) (t / p) (ofBits binary32 0), firsts-at symbol n (t / p) (ofBits binary32 0) (symbol-inside p n t h))
 
   -- a sample is made of what has entered with it
   pub sent-old : (table : List Float) → length table ≡ tapCount p → (ys : List Float) (t : ℕ) → t ≤ p * length xs → sentAt table p (xs ++ ys) t ≡ sentAt table p xs t

@@ -21,7 +21,7 @@ use Rattle.modulator.specs.Pulse.{pulses, after, sampleOf, sampleAt}
 use Rattle.modulator.specs.Frame.{Symbols}
 use Rattle.modulator.specs.Record.{fresh, lineOf, framed}
 use Rattle.modulator.proofs.Stream.{cursor-stays, window-keeps}
-use Rattle.modulator.proofs.View.{view, Ring, view-kept, view-entered}
+use Rattle.modulator_laws.proofs.View.{view, Ring, view-kept, view-entered}
 use Rattle.modulator_run.specs.Stream.{enteringAt, sentAt}
 use Rattle.modulator_run.specs.Represents.{Remembers}
 use Rattle.modulator_run.proofs.Longer.{entering-old, entering-new}

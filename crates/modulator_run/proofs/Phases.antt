@@ -18,10 +18,10 @@ use Rattle.shaping.specs.Phase.{tapCount, fullSymbol, Phase, phasesFit}
 use Rattle.shaping.proofs.Dot.{inside}
 use Rattle.shaping.proofs.Sender.{phase-limit}
 use Rattle.modulator.specs.Pulse.{pulses}
-use Rattle.modulator.proofs.Sizes.{symbol-size, pulses-size}
+use Rattle.modulator_laws.proofs.Sizes.{symbol-size, pulses-size}
 use Rattle.modulator_run.specs.Stream.{enteringAt, sentAt}
 use Rattle.modulator_run.specs.Loudness.{SymbolsFit}
-use Rattle.modulator_run.proofs.Longer.{symbolNo}
+use Rattle.modulator_run.proofs.Entered.{symbolNo, entering-pulse}
 
 nought-within : (n : ℕ) → Within (ofBits binary32 0) n
 unfolding ofBits
@@ -50,7 +50,7 @@ module _ (q : ℕ) (symbols : List Float) (fit : SymbolsFit symbols) where
   entering-within zero = nought-within fullSymbol
   entering-within (suc v) =
       let far : suc v ≤ suc q * suc v = rw (suc-mul q (suc v)) (omega arith) in
-      pulses-size p (symbolNo symbols) (suc v) (λ i _. symbol-within symbols fit i) v far
+      rw (entering-pulse p (omega arith) symbols v) (pulses-size p (symbolNo symbols) (suc v) (λ i _. symbol-within symbols fit i) v far)
 
   -- a pulse enters with the first of a symbol's samples
   pulse-place : (t i v : ℕ) → t + i ≡ suc v + 8 * p → v % p ≡ 0 → i % p ≡ phaseOf q t
@@ -62,7 +62,7 @@ module _ (q : ℕ) (symbols : List Float) (fit : SymbolsFit symbols) where
   gap-within : (t i u : ℕ) → u ≡ (t + i) - 8 * p → i % p ≢ phaseOf q t → Within (enteringAt p symbols u) 0
   unfolding enteringAt pulses
   gap-within t i zero e n = nought-within 0
-  gap-within t i (suc v) e n = rw (ne-eqb (v % p) 0 λ z. n (pulse-place t i v (omega arith) z)) (nought-within 0)
+  gap-within t i (suc v) e n = rw (entering-pulse p (omega arith) symbols v, ne-eqb (v % p) 0 λ z. n (pulse-place t i v (omega arith) z)) (nought-within 0)
 
   pub at-phase : (t : ℕ) → Phase p (phaseOf q t) fullSymbol (λ (i : ℕ). enteringAt p symbols ((t + i) - 8 * p))
   at-phase t = record { symbols = λ i l e. entering-within ((t + i) - 8 * p); gaps = λ i l n. gap-within t i ((t + i) - 8 * p) refl n }

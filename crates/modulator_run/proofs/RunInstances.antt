@@ -31,6 +31,7 @@ use Rattle.modulator_run.specs.Rules.{framed as framedBy}
 use Rattle.modulator_run.specs.Run.{left, saidBy, recordAfter, answersTo, Delay, Given, AllGiven}
 use Rattle.modulator_run.specs.Represents.{Remembers, Represents}
 use Rattle.modulator_run.specs.Loudness.{SymbolsFit, Quiet}
+use Rattle.modulator_run.proofs.Entered.{symbolNo, entering-pulse}
 use Rattle.modulator_run.proofs.Longer.{entering-old, entering-new, sent-old}
 use Rattle.modulator_run.proofs.NextFrame.{next-frame, fresh-remembers}
 use Rattle.modulator_run.proofs.Step.{Agrees, call-agrees}
@@ -56,6 +57,9 @@ three-fit (suc (suc (suc i))) l = let never : ⊥ = omega arith in absurd never
 
 three-within : Quiet (sentAt taps 10 three 41)
 three-within = within three three-fit 41
+
+pulse-entered : enteringAt 10 three 31 ≡ pulses 10 (symbolNo three) 30
+pulse-entered = entering-pulse 10 (lit< tt) three 30
 
 old-entered : enteringAt 10 (three ++ one ∷ []) 30 ≡ enteringAt 10 three 30
 old-entered = entering-old 10 three (one ∷ []) 30 (lit≤ tt)

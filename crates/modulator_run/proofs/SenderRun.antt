@@ -12,8 +12,8 @@ use Rattle.modulator.specs.declared.ModulatorFrame.the-variants.{Nothing as NoF
 use Rattle.modulator.specs.declared.SoftModulator.{SoftModulator}
 use Rattle.modulator.specs.Record.{fresh}
 use Rattle.modulator.specs.Fit.{pulseFit, windowFit, recordFit}
-use Rattle.modulator.proofs.FrameKept.{Byte, frame-fit}
-use Rattle.modulator.proofs.Kept.{read-keeps, update-keeps, run-keeps}
+use Rattle.modulator_laws.proofs.FrameKept.{Byte, frame-fit}
+use Rattle.modulator_laws.proofs.Kept.{read-keeps, update-keeps, run-keeps}
 use Rattle.modulator_run.specs.Rules.{Call, provide, read, update, ask, Sent, start, called, sentFrom, saidFrom, sentAll, saidAll}
 use Rattle.modulator_run.specs.Run.{left, saidBy, recordFrom, answersFrom, recordAfter, answersTo, Delay, Given, AllGiven}
 use Rattle.modulator_run.specs.Represents.{Represents}

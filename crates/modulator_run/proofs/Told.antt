@@ -14,7 +14,8 @@ use Rattle.modulator.specs.declared.SampleCount.{SampleCount}
 use Rattle.modulator.specs.Calls.{transmitEnd, endReport}
 use Rattle.modulator_run.specs.Rules.{Call, provide, read, update, ask, Sent, After, start, framed, drained, asked, called, sentFrom, sentAll}
 use Rattle.modulator_run.specs.Reports.{stores, asks, none, Owed, Reporting, Untold}
-use Rattle.modulator_run.proofs.EachCall.{picked, Refusing, miscounted, outside, large, below, each-call}
+use Rattle.modulator_laws.proofs.Picked.{picked}
+use Rattle.modulator_run.proofs.EachCall.{Refusing, miscounted, outside, large, below, each-call}
 use Rattle.modulator_run.proofs.LastCall.{by-last, sent-behind, sent-last, none-fewer}
 use Rattle.modulator_run.proofs.ReportParts.{reporting-more, reporting-here, reporting-none, untold-more}
 use Rattle.modulator_run.proofs.Owed.{owedNext, owed, owed-next, owed-after, owed-by, owed-exactly}

@@ -12,7 +12,7 @@ use lib.Ieee.{Float}
 use Rattle.numbers.specs.Firsts.{firsts}
 use Rattle.numbers.proofs.Firsts.{length-firsts, firsts-same, firsts-cut}
 use Rattle.modulator.specs.Calls.{wrote}
-use Rattle.modulator.proofs.Shares.{rooms-joined, in-turn, zeros, samples, zeros′, samples′, samples-add, one-first, filled-or-done}
+use Rattle.modulator_laws.proofs.Shares.{rooms-joined, in-turn, zeros, samples, zeros′, samples′, samples-add, one-first, filled-or-done}
 use Rattle.modulator_run.specs.Rules.{Sent, frameSample, drained}
 use Rattle.modulator_run.specs.Pieces.{counted, handed}
 

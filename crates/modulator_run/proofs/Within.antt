@@ -21,7 +21,7 @@ use Rattle.shaping.specs.Taps.{taps}
 use Rattle.shaping.proofs.Sender.{sent-cut}
 use Rattle.modulator.specs.Frame.{Symbols, preamble, given, ending, symbolFit}
 use Rattle.modulator.specs.Calls.{wrote}
-use Rattle.modulator.proofs.Sizes.{Small, preamble-small, ending-small, given-small}
+use Rattle.modulator_laws.proofs.Sizes.{Small, preamble-small, ending-small, given-small}
 use Rattle.modulator_run.specs.Stream.{sentAt}
 use Rattle.modulator_run.specs.Rules.{Call, Sent, Said, After, start, framed, zerosRead, samplesRead, frameSample, drained, called, sentFrom, saidFrom, sentAll, saidAll}
 use Rattle.modulator_run.specs.Run.{recordAfter, answersTo, AllGiven}

@@ -15,10 +15,9 @@ use Rattle.shaping.specs.Sum.{dot}
 use Rattle.encode.specs.Frames.{preambleSign}
 use Rattle.modulator.specs.declared.Progress.{Progress}
 use Rattle.modulator.specs.declared.ModulatorFrame.the-variants.{Nothing as NoFrame, Preamble, Symbols as GivenSymbols, EndOfTransmission}
-use Rattle.modulator.specs.Pulse.{pulses}
 use Rattle.modulator.specs.Frame.{preamble, symbolFit, paddingOf}
 use Rattle.modulator.specs.Calls.{Paper, refusal, done, wrote, transmitEnd, readOutput, idle, getFrame, nothing}
-use Rattle.modulator_run.specs.Stream.{enteringAt, sentAt}
+use Rattle.modulator_run.specs.Stream.{entered, enteringAt, sentAt}
 use Rattle.modulator_run.specs.Rules.{Call, provide, read, update, ask, Said, framed, provided, drained, updated, asked, called, sentFrom, saidFrom, sentAll, saidAll}
 use Rattle.modulator_run.specs.Run.{recordAfter, answersTo, Delay, Given, AllGiven}
 use Rattle.modulator_run.proofs.SenderRun.{sender-run}
@@ -31,7 +30,7 @@ abbrev p2Samples : List ℤ
 p2Samples = negsuc 112 ∷ negsuc 102 ∷ negsuc 67 ∷ negsuc 11 ∷ pos 54 ∷ []
 
 pub p2 : firsts (λ (i : ℕ). sentAt taps 10 firstSymbols (i + 1)) 5 ≡ p2Samples
-unfolding sentAt enteringAt pulses firsts dot sumTo taps ofBits ofInt add mul toSigned preambleSign
+unfolding sentAt enteringAt entered firsts dot sumTo taps ofBits ofInt add mul toSigned preambleSign
 p2 = refl
 
 -- the same of a run: a preamble, and a read into five places
@@ -39,7 +38,7 @@ abbrev pub opening : List Call
 opening = provide (Preamble (record { 0 = 0 })) [] ∷ read (replicate 5 (pos 7)) ∷ []
 
 opening-said : saidAll taps 10 opening ≡ record { answer = done; room = [] } ∷ record { answer = wrote 5; room = p2Samples } ∷ []
-unfolding saidFrom called provided framed drained sentAt enteringAt pulses firsts dot sumTo taps ofBits ofInt add mul toSigned preambleSign
+unfolding saidFrom called provided framed drained sentAt enteringAt entered firsts dot sumTo taps ofBits ofInt add mul toSigned preambleSign
 opening-said = refl
 
 pub opening-given : AllGiven opening

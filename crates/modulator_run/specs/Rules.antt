@@ -48,6 +48,7 @@ pub record After : Type 0 where
   pub said : Said
   pub sent : Sent
 
+-- "idle yes (once from a fresh start)"
 abbrev pub start : Sent
 start = record {
   symbols = [];
@@ -74,7 +75,7 @@ module _ (table : List Float) (p : ℕ) where
     buffer = s .buffer;
   }
 
-  -- 6: "symbols not exactly 192"; 7: "a symbol not a number or outside -1 to 1"
+  -- "None only drops the wish for a frame." Of padding: "Only a preamble sets it." 6: "symbols not exactly 192"; 7: "a symbol not a number or outside -1 to 1"
   unfoldable pub provided : ModulatorFrame → List Float → Sent → After
   provided NoFrame symbols s = after done [] (withPending (dropped (s .pending)) (s .buffer) s)
   provided (Preamble steps) symbols s = after done [] (framed preamble (paddingOf p (steps .0) (s .buffer .«output_latency»)) (s .pending) s)
@@ -95,6 +96,7 @@ module _ (table : List Float) (p : ℕ) where
   abbrev pub frameSample : Sent → ℕ → ℤ
   frameSample s i = sentAt table p (s .symbols) (s .before + i + 1)
 
+  -- "It reports how many were written; the rest of the room is unchanged. Room 0 writes 0."
   unfoldable pub drained : List ℤ → Sent → After
   drained room s =
       let zeros : ℕ = zerosRead s (length room) in
@@ -113,7 +115,7 @@ module _ (table : List Float) (p : ℕ) where
         };
       }
 
-  -- 8: "fill, capacity or latency above 16,777,216"; 9: "capacity below fill"
+  -- "An update stores fill, capacity and latency." 8: "fill, capacity or latency above 16,777,216"; 9: "capacity below fill"
   unfoldable pub updated : ℕ → ℕ → ℕ → Sent → After
   updated fill capacity latency s =
       cond (not (countFit fill) || not (countFit capacity) || not (countFit latency)) (after (refusal 8) [] s)

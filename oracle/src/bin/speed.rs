@@ -10,8 +10,12 @@ mod decode;
 mod encode;
 #[path = "../harness.rs"]
 mod harness;
+#[path = "../house.rs"]
+mod house;
 #[path = "../modem/mod.rs"]
 mod modem;
+#[path = "../speed/programs.rs"]
+mod programs;
 #[path = "../protocol.rs"]
 mod protocol;
 #[path = "../random.rs"]
@@ -26,8 +30,11 @@ mod signal;
 use decode::SyncBurst;
 use harness::{a_stream, lay_replies, lay_symbols, take_offer};
 use modem::{Demodulator, Modulator, ModulatorFrame, SoftDemodulator, SoftModulator};
+use programs::{programs, Sides};
 use random::Random;
+use std::env;
 use std::hint::black_box;
+use std::path::PathBuf;
 use std::time::{Duration, Instant};
 
 #[link(name = "speed", kind = "static")]
@@ -67,6 +74,13 @@ fn main() {
     println!();
     println!("sender      samples            by value");
     sender(&mut random);
+    println!();
+    let path = |name| PathBuf::from(env::var_os(name).expect("tools/speed names it"));
+    let sides = Sides {
+        port: path("SPEED_PROGRAMS"),
+        oracle: path("SPEED_ORACLE"),
+    };
+    programs(&sides, &path("SPEED_ROOM"));
 }
 
 /// A preamble without end.

@@ -41,6 +41,7 @@ fn cases() -> Vec<Case> {
         crossed(),
         random_values(),
         noisy(),
+        largest_values(),
     ]
     .concat()
 }
@@ -172,5 +173,14 @@ fn noisy() -> Vec<Case> {
             cases.push((burst, values));
         }
     }
+    cases
+}
+
+/// The largest values that are let through: as each burst, and all alike.
+fn largest_values() -> Vec<Case> {
+    let mut cases = BURSTS
+        .map(|burst| (burst, scaled(burst, 1e6, 0.0)))
+        .to_vec();
+    cases.extend([1e6, -1e6].map(|value| (SyncBurst::Lsf, [value; 8])));
     cases
 }

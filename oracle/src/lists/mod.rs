@@ -1,11 +1,14 @@
 //! The lists, one file each. README.md gives the form of their lines.
 
 mod bursts;
+mod corners;
 mod correlations;
 mod filters;
 mod frames;
+mod judge;
 mod numbers;
 mod offers;
+mod programs;
 mod sender;
 mod slices;
 mod streams;
@@ -16,7 +19,7 @@ pub struct List {
     pub write: fn() -> String,
 }
 
-pub const ALL: [List; 10] = [
+pub const ALL: [List; 11] = [
     List {
         name: "taps",
         write: taps::write,
@@ -56,5 +59,9 @@ pub const ALL: [List; 10] = [
     List {
         name: "sender",
         write: sender::write,
+    },
+    List {
+        name: "programs",
+        write: programs::write,
     },
 ];

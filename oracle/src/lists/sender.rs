@@ -7,7 +7,7 @@ use crate::modem::peek::{lay_window, sending, window};
 use crate::modem::{Modulator, ModulatorAction, ModulatorFrame, SoftModulator};
 use crate::random::Random;
 use crate::shaping::RRC_48K;
-use crate::signal::DIBITS;
+use crate::signal::{house_frame, DIBITS};
 
 pub fn write() -> String {
     let mut list = String::new();
@@ -22,6 +22,11 @@ pub fn write() -> String {
             &mut Random::new(seed),
         );
     }
+    case(&mut Session::new(&mut list, "case"));
+    no_lines(&mut Session::new(&mut list, "no-lines"));
+    extremes(&mut Session::new(&mut list, "extremes"));
+    replaced(&mut Session::new(&mut list, "replaced"));
+    shrinking(&mut Session::new(&mut list, "shrinking"));
     list
 }
 
@@ -133,6 +138,102 @@ fn made_up(session: &mut Session) {
     }
 }
 
+/// Document 01's whole case, as its send program reads it: 6,560 samples, of which the last 729 are zero.
+fn case(session: &mut Session) {
+    session.preamble(0);
+    let mut sent = session.read(4000);
+    session.symbols(house_frame());
+    sent.extend(session.read(4000));
+    session.end();
+    session.look();
+    sent.extend(session.read(4000));
+    assert_eq!(sent[..5], [-113, -103, -68, -12, 54]);
+    assert_eq!(sent.len(), 6560);
+    assert_eq!(zeros_at_end(&sent), 729);
+}
+
+/// The same without a line: 4,640 samples.
+fn no_lines(session: &mut Session) {
+    session.preamble(0);
+    let mut sent = session.read(4000);
+    session.end();
+    let end = session.read(4000);
+    assert_eq!((end.len(), zeros_at_end(&end)), (2720, 729));
+    sent.extend(end);
+    assert_eq!(sent.len(), 4640);
+}
+
+fn zeros_at_end(samples: &[i16]) -> usize {
+    samples
+        .iter()
+        .rev()
+        .take_while(|&&sample| sample == 0)
+        .count()
+}
+
+/// For each of a symbol's ten samples the nine symbols that make it as large as can be, and as small. The
+/// first of the ten is the largest of all: document 01 has all within 16,383.
+fn extremes(session: &mut Session) {
+    let sign = |place: usize, back: usize| {
+        let tap = 80usize.checked_sub(place + 10 * back);
+        tap.map_or(0.0, |i| RRC_48K[i].signum())
+    };
+    let mut symbols = Vec::new();
+    for place in 0..10 {
+        for side in [1.0, -1.0] {
+            symbols.extend((0..9).rev().map(|back| side * sign(place, back)));
+        }
+    }
+    symbols.resize(192, 0.0);
+    session.symbols(symbols.try_into().expect("a frame has 192 symbols"));
+    let sent = session.read(1920);
+    let ends = (sent.iter().min(), sent.iter().max());
+    assert_eq!(ends, (Some(&-16_371), Some(&16_371)));
+}
+
+/// Frames of every sort that are replaced before any of them was read, and half read.
+fn replaced(session: &mut Session) {
+    let mut random = Random::new(16);
+    session.preamble(0);
+    session.symbols([(); 192].map(|()| *random.pick(&DIBITS)));
+    session.end();
+    session.preamble(1);
+    session.read(530);
+    session.symbols([(); 192].map(|()| *random.pick(&DIBITS)));
+    session.read(100);
+    session.end();
+    session.run();
+    session.read(100);
+    session.none(); // replaces nothing
+    session.read(100);
+}
+
+/// Less and less room: capacity shrinks while the wish is up, and while it is not; the largest numbers.
+fn shrinking(session: &mut Session) {
+    session.run();
+    session.update(0, 4000, 0);
+    session.run();
+    session.update(0, 1999, 0);
+    session.run();
+    session.update(10, 10, 0);
+    session.run();
+    session.update(0, 0, 0);
+    session.run();
+    session.none();
+    session.run();
+    session.update(3000, 4999, 0);
+    session.run();
+    session.update(3000, 3500, 0);
+    session.run();
+    session.update(2000, 4000, 0);
+    session.update(2000, 2000, 0);
+    session.run();
+    session.end();
+    session.update(16_777_216, 16_777_216, 16_777_216);
+    session.run();
+    session.run();
+}
+
 /// Calls drawn at random, with small rooms so that frames are replaced half read.
 fn at_random(session: &mut Session, random: &mut Random) {
     for _ in 0..120 {
@@ -199,7 +300,7 @@ impl<'a> Session<'a> {
         self.say("end", "");
     }
 
-    fn read(&mut self, room: usize) {
+    fn read(&mut self, room: usize) -> Vec<i16> {
         const UNTOUCHED: i16 = 21_845;
         let mut out = vec![UNTOUCHED; room];
         let written = self.sender.read_output_samples(&mut out);
@@ -209,6 +310,8 @@ impl<'a> Session<'a> {
             .map(|sample| format!(" {sample}"))
             .collect();
         self.say(&format!("read {room}"), &format!(" {written}{samples}"));
+        out.truncate(written);
+        out
     }
 
     fn update(&mut self, fill: usize, capacity: usize, latency: usize) {

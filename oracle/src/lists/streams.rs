@@ -1,12 +1,11 @@
 //! The streams that the list `offers` feeds: transmissions, and the corners of the search.
 
-use crate::decode::{name, SyncBurst, KINDS};
-use crate::harness::lay_replies;
-use crate::modem::peek::{control, Control};
+use crate::decode::{signs, slice, SyncBurst};
+use crate::harness::{lay_replies, take_offer};
+use crate::lists::corners::corners;
 use crate::modem::{Demodulator, SoftDemodulator};
 use crate::random::Random;
-use crate::signal::shaped::{self, matching};
-use crate::signal::{frame, frame_with_tail, heard, transmission};
+use crate::signal::{frame, frame_with_tail, heard, house_frame, transmission};
 use SyncBurst::{Bert, Lsf, Packet, Stream};
 
 pub struct Script {
@@ -18,17 +17,12 @@ pub struct Script {
 
 pub fn streams() -> Vec<Script> {
     let mut streams = vec![voice(), kinds(), tails(), faint()];
-    for held in KINDS {
-        for second in KINDS.into_iter().filter(|&second| second != held) {
-            streams.push(corner(held, second, false));
-            streams.push(corner(held, second, true));
-        }
-    }
-    streams.push(tie());
+    streams.extend(corners());
+    streams.extend([whole(), zeros(), loud()]);
     streams
 }
 
-fn script(name: &str, replies: &str, samples: Vec<i16>) -> Script {
+pub fn script(name: &str, replies: &str, samples: Vec<i16>) -> Script {
     Script {
         name: name.to_string(),
         replies: replies.to_string(),
@@ -86,78 +80,39 @@ fn joined_late(sent: &[i16]) -> &[i16] {
     &sent[1600..sent.len() - 700]
 }
 
-/// Where a shaped signal has its first match: far enough in for all samples that the values lean on.
-const FIRST: usize = 160;
-
-/// One kind on a sample and another on the next, with a smaller or a larger diff. The second replaces the
-/// first or adds to its age; the wait is set by the first's failure on the second's sample, unless an
-/// earlier-listed second has replaced it by then.
-fn corner(held: SyncBurst, second: SyncBurst, larger: bool) -> Script {
-    let gain = 40.0;
-    let (first_offset, second_offset) = if larger { (0.8, 4.0) } else { (4.0, 0.8) };
-    let wishes = [
-        matching(held, FIRST, gain, first_offset),
-        matching(second, FIRST + 1, gain, second_offset),
-    ];
-    let samples = shaped::samples(&wishes.concat()).expect("i16 has room for the gain");
-
-    let (kept, age, diff) = if larger {
-        (held, 2, "larger")
-    } else {
-        (second, 1, "smaller")
-    };
-    let holds = |state: Control, kind: SyncBurst, age: u8| {
-        state
-            .candidate
-            .is_some_and(|c| c.burst == kind && c.age == age)
-    };
-    let (before, after) = last_step(&samples);
-    assert!(holds(before, held, 1) && holds(after, kept, age));
-    let name = format!("{}-{}-{diff}", name(held), name(second));
-    script(
-        &name,
-        if kept == Bert { "" } else { "a" },
-        with_pause(samples),
-    )
+/// Document 01's whole case: the samples that its send program writes for one line, and the line is heard.
+fn whole() -> Script {
+    let samples = transmission(&[house_frame()]);
+    assert_eq!(samples.len(), 6560);
+    assert_eq!(line(&samples), format!("55F7{}", "0".repeat(92)));
+    script("whole", "a", samples)
 }
 
-/// A Stream burst on two samples with the very same diff: the later is taken. Small changes of the samples
-/// are tried until the diffs agree.
-fn tie() -> Script {
-    let mut random = Random::new(10);
-    let gain = 2_000.0;
-    let places = [(FIRST - 1, 0.06), (FIRST, 0.05), (FIRST + 1, 0.05)];
-    let wishes = places.map(|(at, offset)| matching(Stream, at, gain, gain * offset));
-    let plain = shaped::samples(&wishes.concat()).expect("i16 has room for the gain");
-    let same = |(before, after): (Control, Control)| {
-        before
-            .candidate
-            .zip(after.candidate)
-            .is_some_and(|(held, taken)| {
-                held.diff == taken.diff && held.gain != taken.gain && taken.age == 1
-            })
-    };
-    let samples = (0..100_000)
-        .map(|_| heard(&mut random, &plain, 1, 0, 1))
-        .find(|samples| same(last_step(samples)))
-        .expect("some change gives the tie");
-    script("tie", "r", with_pause(samples))
-}
-
-/// What the receiver keeps before the last sample of a signal, and after it.
-fn last_step(samples: &[i16]) -> (Control, Control) {
-    lay_replies("");
+/// The line of the house format that the old slicer makes of a signal's one frame.
+fn line(samples: &[i16]) -> String {
+    lay_replies("a");
     let mut receiver = SoftDemodulator::new();
-    let mut before = control(&receiver);
     for &sample in samples {
-        before = control(&receiver);
         receiver.demod(sample);
     }
-    (before, control(&receiver))
+    let offer = take_offer().expect("the signal has a frame");
+    let digit = |two: &[f32]| {
+        let [first, second] =
+            [two[0], two[1]].map(|symbol| 2 * slice(symbol)[0] + slice(symbol)[1]);
+        format!("{:X}", 4 * first + second)
+    };
+    offer.symbols.chunks(2).map(digit).collect()
 }
 
-/// The signal, and zeros until its frame is due.
-fn with_pause(mut samples: Vec<i16>) -> Vec<i16> {
-    samples.extend([0; 1900]);
-    samples
+/// Document 01: five thousand zero samples give nothing.
+fn zeros() -> Script {
+    script("zeros", "", vec![0; 5000])
+}
+
+/// A Packet burst as loud as i16 goes.
+fn loud() -> Script {
+    let held = |sign: f32| [if sign > 0.0 { i16::MAX } else { i16::MIN }; 10];
+    let mut samples: Vec<i16> = signs(Packet).into_iter().flat_map(held).collect();
+    samples.extend([0; 50]);
+    script("loud", "", samples)
 }

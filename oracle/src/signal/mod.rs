@@ -1,5 +1,6 @@
 //! Signals for the receiver: transmissions of the old sender, and short ones shaped on purpose.
 
+pub mod moved;
 pub mod shaped;
 
 use crate::decode::{signs, SyncBurst};
@@ -25,6 +26,13 @@ pub(crate) fn frame_with_tail(
 ) -> [f32; 192] {
     let mut symbols = frame(random, burst);
     symbols[184..].copy_from_slice(&signs(tail));
+    symbols
+}
+
+/// Document 01's whole case, 55F7 and 92 digits 0: the burst, and symbols that are all 1/3.
+pub fn house_frame() -> [f32; 192] {
+    let mut symbols = [DIBITS[1]; 192];
+    symbols[..8].copy_from_slice(&signs(SyncBurst::Lsf));
     symbols
 }
 
@@ -63,4 +71,14 @@ pub fn heard(
     sent.iter()
         .map(|&sample| (i32::from(sample) / fainter + offset + random.around(noise)) as i16)
         .collect()
+}
+
+/// Signals one after the other, each but the last drawn out with zeros to `spacing` samples.
+pub fn joined(signals: &[Vec<i16>], spacing: usize) -> Vec<i16> {
+    let mut samples = Vec::new();
+    for (i, signal) in signals.iter().enumerate() {
+        samples.resize(i * spacing, 0);
+        samples.extend_from_slice(signal);
+    }
+    samples
 }

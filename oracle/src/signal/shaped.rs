@@ -4,11 +4,17 @@
 use crate::decode::{signs, SyncBurst};
 use crate::shaping::RRC_48K;
 
+/// Where a shaped signal has its first match: far enough in for all samples that the values lean on.
+pub const FIRST: usize = 160;
+
+/// The eight values that a search reads.
+pub type Values = [f32; 8];
+
 /// A wished filtered value, at a sample numbered from 1.
 #[derive(Clone, Copy)]
 pub struct Wish {
-    at: usize,
-    value: f64,
+    pub at: usize,
+    pub value: f64,
 }
 
 /// The wishes under which `burst` matches at sample `at` with this gain and an offset.
@@ -45,6 +51,20 @@ pub fn samples(wishes: &[Wish]) -> Option<Vec<i16>> {
         .iter()
         .all(fits)
         .then(|| exact.iter().map(|value| value.round() as i16).collect())
+}
+
+/// The values that a search at sample `at` reads, for looking through many signals quickly; what is found is
+/// judged by the receiver.
+pub fn eight(samples: &[i16], at: usize) -> Values {
+    let mut place = at - 80;
+    [(); 8].map(|()| {
+        place += 10;
+        let window = &samples[place - 81..place];
+        RRC_48K
+            .iter()
+            .zip(window)
+            .fold(0.0, |sum, (tap, &sample)| sum + tap * f32::from(sample))
+    })
 }
 
 /// The taps times the taps moved by `lag`.

@@ -1,0 +1,59 @@
+-- `hear_all` is safe and ends: each read brings the place nearer to the end of the recording. Assumes nothing.
+use borrow.Author.Needs.{needs}
+use Prim.Native.Nat.{_-_}
+use lib.ListN.{length}
+use Rattle.cases_programs.proofs.received.hear_all.Statement.{statement}
+use Rattle.cases_programs.proofs.received.hear_all.Tie as tie
+
+abbrev Inv-loop : tie.InvT-loop
+Inv-loop recording size turn₀ at₀ turn at = Unit {0}
+
+abbrev μ-loop : tie.MeasureT-loop
+μ-loop recording size turn₀ at₀ turn at = length recording - at
+
+new-requires : tie.Need-new-requires Inv-loop μ-loop
+new-requires c κs = search needs
+
+loop-holds : tie.Need-loop-holds Inv-loop μ-loop
+loop-holds c = search needs
+
+read-end-requires : tie.Need-read-end-requires Inv-loop μ-loop
+read-end-requires c κs = search needs
+
+sub-hear-some : tie.Need-sub-hear-some Inv-loop μ-loop
+sub-hear-some c = search needs
+
+part-hear-some-start : tie.Need-part-hear-some-start Inv-loop μ-loop
+part-hear-some-start c = search needs
+
+part-hear-some-end : tie.Need-part-hear-some-end Inv-loop μ-loop
+part-hear-some-end c = search needs
+
+hear-some-requires : tie.Need-hear-some-requires Inv-loop μ-loop
+hear-some-requires c κs = search needs
+
+loop-less : tie.Need-loop-less Inv-loop μ-loop
+loop-less c = search needs
+
+loop-again : tie.Need-loop-again Inv-loop μ-loop
+loop-again c = search needs
+
+returns : tie.Need-returns Inv-loop μ-loop
+returns c = search needs
+
+pub hear-all-spec : {M : Type 1} → statement M
+hear-all-spec =
+    tie.close
+    (tie.spec
+    Inv-loop
+    μ-loop
+    new-requires
+    loop-holds
+    read-end-requires
+    sub-hear-some
+    part-hear-some-start
+    part-hear-some-end
+    hear-some-requires
+    loop-less
+    loop-again
+    returns)

@@ -1,0 +1,179 @@
+-- An accepted call leaves a record that is fit for the next one, if all of its ring's values are in range: an age of 255 apart, which was 254. Assumes nothing.
+use mathlib.Core.Path.{_≡_, refl, ap, _∙_}
+use mathlib.Core.Logic.{_⊎_, inl, inr}
+use mathlib.Core.Bool.{true, false}
+use mathlib.Core.List.{List}
+use Prim.Native.Nat.{ℕ, _+_, _-_, _*_, _%_, _^_, _≤_, _<_}
+use native.Mathlib.Nat.{eq-or-lt-of-le, mod-lt}
+use lib.Dec.{T, ltb, lt→ltb, lit≤}
+use borrow.Author.Tests.{ltb-true, ltb-false}
+use lib.IntN.{ℤ}
+use lib.ListN.{length, getD}
+use lib.Ieee.{Float, nan}
+use lib.Ieee.Bits.{is-true}
+use lib.Ieee.Fits.{and-i, and-l, and-r}
+use mir.Syntax.{w16}
+use mir.Val.{SFits}
+use Rattle.numbers.specs.Below.{allBelow}
+use Rattle.numbers.proofs.Below.{below-all}
+use Rattle.decode.specs.Correlator.{inRange}
+use Rattle.demodulator.specs.declared.Control.{Control}
+use Rattle.demodulator.specs.declared.SoftDemodulator.{SoftDemodulator}
+use Rattle.demodulator.specs.declared.Reply.{Reply}
+use Rattle.demodulator.specs.Search.{withCandidate, ageOf}
+use Rattle.demodulator.specs.Turn.{Outcome, quiet, offer, eight, sampled}
+use Rattle.demodulator.specs.Record.{back, withControl, filteredAfter, stored}
+use Rattle.demodulator.specs.Fit.{cursorsFit, controlFit, recordFit, placesRead, fitForSample, fitForReply}
+use Rattle.demodulator.specs.Calls.{Paper, refusal, Left, refused, finished, demodulated, settled, answered}
+use Rattle.demodulator.specs.Steps.{Rings}
+use Rattle.demodulator.proofs.Fitness.{holds, record-facts, sample-record, reply-record}
+use Rattle.demodulator_laws.proofs.Grown.{withAge}
+use Rattle.demodulator_laws.proofs.SampleFits.{either, controlOf, sampled-fits, replied-fits}
+use Rattle.demodulator.proofs.Stepping.{set-holds, new-in-range, stored-rings, stored-eight}
+use Rattle.demodulator.proofs.Demodulating.{sample-unfit, sample-owed, sample-cramped, sample-last, sample-taken, reply-unfit, reply-unasked, reply-taken}
+
+-- ---- the statement's words
+-- all of the ring's values are in range; the window's samples are of 16 bits and the ring has 1,920 places, as their types have it
+pub record InRange (m : SoftDemodulator) : Type 0 where
+  pub rings : Rings (m .«filter_win») (m .«rx_win»)
+  pub values : (i : ℕ) → i < 1920 → T (inRange (getD (m .«rx_win») i nan))
+
+-- fit for any call
+pub record Fits (m : SoftDemodulator) : Type 0 where
+  pub for-sample : fitForSample m ≡ true
+  pub for-reply : fitForReply m ≡ true
+
+-- "A made-up age of 254 may come back as 255": with 254 in its place the record is fit
+pub record Aged (m after : SoftDemodulator) : Type 0 where
+  pub was : ageOf (m .control .candidate) ≡ 254
+  pub is : ageOf (after .control .candidate) ≡ 255
+  pub else-fit : Fits (withControl (withCandidate (withAge 254 (after .control .candidate)) (after .control)) after)
+
+-- no refusal
+abbrev pub Accepted : Paper → Type 0
+Accepted answer = (n : ℕ) → answer ≡ refusal n → ⊥
+
+-- ---- a record whose values are in range is fit by its control
+placed : (cursor j : ℕ) → (cursor + (1919 - j)) % 1920 < 1920
+placed cursor j = mod-lt (cursor + (1919 - j)) (lit≤ tt)
+
+module _ (m : SoftDemodulator) (in-range : InRange m) where
+  pub back-in-range : (j : ℕ) → T (inRange (back m j))
+  back-in-range j = in-range .values ((m .«rx_cursor» + (1919 - j)) % 1920) (placed (m .«rx_cursor») j)
+
+  fits-by-control : T (cursorsFit m) → T (controlFit 10 (m .control)) → Fits m
+  unfolding fitForSample fitForReply recordFit
+  fits-by-control cursors control =
+      let fit = and-i (cursorsFit m) (controlFit 10 (m .control)) cursors control in
+      let n = placesRead (m .control .wait) in
+      record {
+        for-sample = is-true (fitForSample m) (and-i (recordFit m) (allBelow n (λ (j : ℕ). inRange (back m (10 * j + 9)))) fit (below-all n (λ (j : ℕ). inRange (back m (10 * j + 9))) (λ j l. back-in-range (10 * j + 9))));
+        for-reply = is-true (fitForReply m) (and-i (recordFit m) (allBelow 8 (λ (j : ℕ). inRange (back m (10 * j)))) fit (below-all 8 (λ (j : ℕ). inRange (back m (10 * j))) (λ j l. back-in-range (10 * j))));
+      }
+
+-- ---- what an accepted call was given
+never : {A : Type 0} (call : Left) → Accepted (call .answer) → (n : ℕ) (m : SoftDemodulator) (room : List Float) → call ≡ refused n m room → A
+never call accepted n m room e = absurd (accepted n (ap (λ (p : Left). p .answer) e))
+
+pub record Given (m : SoftDemodulator) (room : List Float) : Type 0 where
+  pub fit : fitForSample m ≡ true
+  pub free : m .control .owed ≡ false
+  pub enough : 192 ≤ length room
+  pub count : m .control .sample < 2 ^ 63
+
+module _ (m : SoftDemodulator) (x : ℤ) (room : List Float) (accepted : Accepted (demodulated m x room .answer)) where
+  pub given : Given m room
+  given =
+      elim (either (fitForSample m)) [
+        | inr e ↦ never _ accepted 1 m room (sample-unfit m x room e)
+        | inl fit ↦ elim (either (m .control .owed)) [
+          | inl e ↦ never _ accepted 2 m room (sample-owed m x room fit e)
+          | inr free ↦ elim (either (ltb (length room) 192)) [
+            | inl t ↦ never _ accepted 4 m room (sample-cramped m x room fit free (ltb-true (length room) 192 t))
+            | inr t ↦
+                let enough = ltb-false (length room) 192 t in
+                elim (eq-or-lt-of-le (record-facts m (sample-record m fit) .control .count)) [
+                  | inl e ↦ never _ accepted 5 m room (sample-last m x room fit free enough e)
+                  | inr l ↦ record { fit = fit; free = free; enough = enough; count = l }
+                ]
+          ]
+        ]
+      ]
+
+-- ---- what a sample leaves
+finished-leaves : (m : SoftDemodulator) (room : List Float) (o : Outcome) → finished m room o .demodulator ≡ withControl (controlOf o) m
+finished-leaves m room (quiet c) = refl
+finished-leaves m room (offer kind gain shift c) = refl
+
+module _ (m : SoftDemodulator) (x : ℤ) (fits : SFits w16 x) (in-range : InRange m) where
+  pub stored-in-range : (c : Control) → InRange (withControl c (stored m x))
+  unfolding stored
+  stored-in-range c =
+      let rings = in-range .rings in
+      record {
+        rings = stored-rings m x (rings .samples) fits (rings .places);
+        values = λ i l. set-holds (λ (value : Float). T (inRange value)) (m .«rx_win») (m .«rx_cursor») i (filteredAfter m x) nan (new-in-range m x (rings .samples) fits) (in-range .values i l);
+      }
+
+  stored-cursors : (c : Control) → T (cursorsFit (withControl c (stored m x)))
+  unfolding stored
+  stored-cursors c =
+      let w = (m .«filter_cursor» + 1) % 81 in
+      let r = (m .«rx_cursor» + 1) % 1920 in
+      and-i (ltb w 81) (ltb r 1920) (lt→ltb w 81 (mod-lt (m .«filter_cursor» + 1) (lit≤ tt))) (lt→ltb r 1920 (mod-lt (m .«rx_cursor» + 1) (lit≤ tt)))
+
+  stored-fits : (c : Control) → T (controlFit 10 c) → Fits (withControl c (stored m x))
+  stored-fits c = fits-by-control (withControl c (stored m x)) (stored-in-range c) (stored-cursors c)
+
+  module _ (room : List Float) (accepted : Accepted (demodulated m x room .answer)) where
+    abbrev comesTo : Outcome
+    comesTo = sampled 10 (eight 10 (back (stored m x))) (m .control)
+
+    leaves : demodulated m x room .demodulator ≡ withControl (controlOf comesTo) (stored m x)
+    leaves =
+        let g = given m x room accepted in
+        ap (λ (p : Left). p .demodulator) (sample-taken m x room (g .fit) (g .free) (g .enough) (g .count) comesTo refl) ∙ finished-leaves (stored m x) room comesTo
+
+    pub fit-again : InRange (demodulated m x room .demodulator) × (Fits (demodulated m x room .demodulator) ⊎ Aged m (demodulated m x room .demodulator))
+    unfolding recordFit
+    fit-again =
+        let g = given m x room accepted in
+        let rings = in-range .rings in
+        let range = stored-eight m x (rings .samples) fits (g .fit) (rings .places) in
+        let control = and-r (cursorsFit m) (controlFit 10 (m .control)) (holds (sample-record m (g .fit))) in
+        let c = controlOf comesTo in
+        rw leaves (
+          stored-in-range c,
+          elim (sampled-fits 10 (lit≤ tt) (eight 10 (back (stored m x))) range (m .control) control (g .count) (g .free)) [
+            | inl t ↦ inl (stored-fits c t)
+            | inr o ↦ inr (record { was = o .was; is = o .is; else-fit = stored-fits (withCandidate (withAge 254 (c .candidate)) c) (o .else-fit) })
+          ],
+        )
+
+-- ---- what a reply leaves
+module _ (m : SoftDemodulator) (reply : Reply) (room : List Float) (in-range : InRange m) (accepted : Accepted (answered m reply room .answer)) where
+  reply-given : (fitForReply m ≡ true) × (m .control .owed ≡ true)
+  reply-given =
+      elim (either (fitForReply m)) [
+        | inr e ↦ never _ accepted 1 m room (reply-unfit m reply room e)
+        | inl fit ↦ elim (either (m .control .owed)) [
+          | inr e ↦ never _ accepted 3 m room (reply-unasked m reply room fit e)
+          | inl owed ↦ (fit, owed)
+        ]
+      ]
+
+  pub reply-fit-again : InRange (answered m reply room .demodulator) × Fits (answered m reply room .demodulator)
+  unfolding recordFit
+  reply-fit-again =
+      let fit = reply-given .0 in
+      let owed = reply-given .1 in
+      let both = holds (reply-record m fit) in
+      let control = and-r (cursorsFit m) (controlFit 10 (m .control)) both in
+      let none = record-facts m (reply-record m fit) .control .reply owed in
+      let range : (i : ℕ) → i < 8 → T (inRange (eight 10 (back m) i)) = λ i l. back-in-range m in-range (10 * (7 - i)) in
+      let after : SoftDemodulator = settled m reply in
+      let kept : InRange after = record { rings = in-range .rings; values = in-range .values } in
+      rw (reply-taken m reply room fit owed) (
+        kept,
+        fits-by-control after kept (and-l (cursorsFit m) (controlFit 10 (m .control)) both) (replied-fits 10 (lit≤ tt) (eight 10 (back m)) range (m .control) control none reply),
+      )

@@ -1,0 +1,15 @@
+-- What follows from the receiver's calls, taken one by one. Assumes nothing.
+-- a candidate fit but for its age
+pub mod Grown
+-- a search leaves a fit control fit, but for one age
+pub mod SearchFits
+-- so do a wait that goes on, and a reply
+pub mod WaitFits
+-- an accepted call leaves a fit record fit
+pub mod SampleFits
+pub mod FitAgain
+-- small instances of the laws of the record, of the search and of the calls: what they ask can be met
+pub mod RecordInstances
+pub mod SearchInstances
+pub mod CallInstances
+pub mod FitInstances

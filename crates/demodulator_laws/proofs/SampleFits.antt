@@ -1,0 +1,70 @@
+-- A fit control after a sample and after a reply: fit again, but that a search may raise an age of 254 to 255. Over p, the samples in a symbol, from 2 up. Assumes nothing.
+use mathlib.Core.Path.{_≡_, refl, ap}
+use mathlib.Core.Logic.{_⊎_, inl, inr}
+use mathlib.Core.Bool.{Bool, true, false}
+use Prim.Native.Nat.{ℕ, _^_, _≤_, _<_}
+use native.Mathlib.Omega.{arith}
+use lib.Dec.{T, ltb}
+use borrow.Author.Tests.{ltb-true, ltb-false}
+use lib.Ieee.{Float}
+use Rattle.decode.specs.Correlator.{inRange}
+use Rattle.demodulator.specs.declared.Candidate.{Candidate}
+use Rattle.demodulator.specs.declared.Candidate.the-variants.{Nothing, Held}
+use Rattle.demodulator.specs.declared.Wait.{Wait}
+use Rattle.demodulator.specs.declared.Wait.the-variants.{Free, Due}
+use Rattle.demodulator.specs.declared.Control.{Control}
+use Rattle.demodulator.specs.declared.Reply.{Reply}
+use Rattle.demodulator.specs.declared.Reply.the-variants.{Accepted, Rejected}
+use Rattle.demodulator.specs.Search.{ageOf, searched}
+use Rattle.demodulator.specs.Turn.{Outcome, quiet, offer, pickOutcome, offered, counted, freed, owing, due, sampled, replied}
+use Rattle.demodulator.specs.Fit.{controlFit}
+use Rattle.demodulator_laws.proofs.WaitFits.{waiting-fit, settled-fit}
+use Rattle.demodulator_laws.proofs.SearchFits.{Outgrown, search-fits}
+use Rattle.demodulator.proofs.Turning.{sampled-free, sampled-rest, sampled-due}
+use Rattle.demodulator.proofs.TurnFits.{counted-fit, freed-fit}
+
+abbrev pub controlOf : Outcome → Control
+controlOf (quiet c) = c
+controlOf (offer kind gain shift c) = c
+
+pub either : (t : Bool) → (t ≡ true) ⊎ (t ≡ false)
+either true = inl refl
+either false = inr refl
+
+picked : (P : Outcome → Type 0) (t : Bool) (a b : Outcome) → P a → P b → P (pickOutcome t a b)
+picked P true a b p q = p
+picked P false a b p q = q
+
+module _ (p : ℕ) (symbol : 2 ≤ p) (v : ℕ → Float) (range : (i : ℕ) → i < 8 → T (inRange (v i))) where
+  -- with no candidate there is no age to outgrow
+  unaged : (c : Control) → c .candidate ≡ Nothing → T (controlFit p c) → c .owed ≡ false → T (controlFit p (searched p v c))
+  unaged c none fit free = elim (search-fits p symbol v range c fit free) [ inl t ↦ t | inr o ↦ absurd (omega (arith, o .was, ap ageOf none)) ]
+
+  due-fits : (candidate : Candidate) (c : Control) → T (controlFit p c) → c .owed ≡ false → T (controlFit p (controlOf (due p v candidate (freed c))))
+  unfolding due
+  due-fits Nothing c fit free = unaged (freed c) refl (freed-fit p c fit (c .owed)) free
+  due-fits (Held kind age diff gain shift) c fit free =
+      picked (λ (o : Outcome). T (controlFit p (controlOf o))) (offered kind) (offer kind gain shift (owing true (freed c))) (quiet (searched p v (freed c)))
+      (freed-fit p c fit true)
+      (unaged (freed c) refl (freed-fit p c fit (c .owed)) free)
+
+  module _ (c : Control) (fit : T (controlFit p c)) where
+    module _ (l : c .sample < 2 ^ 63) (free : c .owed ≡ false) where
+      by-wait : (wait : Wait) → c .wait ≡ wait → T (controlFit p (controlOf (sampled p v c))) ⊎ Outgrown p c (controlOf (sampled p v c))
+      by-wait Free e =
+          rw (sampled-free p v c e)
+          (elim (search-fits p symbol v range (counted c) (counted-fit p c fit l) free) [ inl t ↦ inl t | inr o ↦ inr (record { was = o .was; is = o .is; else-fit = o .else-fit }) ])
+      by-wait (Due w) e =
+          elim (either (ltb 1 (w .left))) [
+            | inl t ↦ let k = ltb-true 1 (w .left) t in inl (rw (sampled-rest p v c w e k) (waiting-fit p (counted c) (counted-fit p c fit l) w e k))
+            | inr t ↦ inl (rw (sampled-due p v c w e (ltb-false 1 (w .left) t)) (due-fits (c .candidate) (counted c) (counted-fit p c fit l) free))
+          ]
+
+      pub sampled-fits : T (controlFit p (controlOf (sampled p v c))) ⊎ Outgrown p c (controlOf (sampled p v c))
+      sampled-fits = by-wait (c .wait) refl
+
+    -- a reply is owed with no candidate held
+    pub replied-fits : c .candidate ≡ Nothing → (reply : Reply) → T (controlFit p (replied p v reply c))
+    unfolding replied
+    replied-fits none Accepted = settled-fit p c fit
+    replied-fits none Rejected = unaged (owing false c) none (settled-fit p c fit) refl

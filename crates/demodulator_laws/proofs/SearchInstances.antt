@@ -1,0 +1,84 @@
+-- Small instances of the laws of the search: P6's values, the LSF's signs times 20 plus 5, with a diff of 2.0, at a control whose age is 254 and whose count is the largest. Assumes nothing.
+use mathlib.Core.Path.{_≡_, refl}
+use mathlib.Core.Logic.{_⊎_}
+use mathlib.Core.Bool.{false}
+use mathlib.Core.List.{List, [], _∷_, map}
+use Prim.Native.Nat.{ℕ, _^_, _<_}
+use lib.Dec.{T, lit≤}
+use lib.IntN.{pos, negsuc}
+use lib.Ieee.{Float, binary32, ofBits, ofInt, add, sub, div, lt, le, eq}
+use Rattle.numbers.specs.Choice.{larger, smaller, sizeOf}
+use Rattle.numbers.specs.Below.{anyBelow, allBelow}
+use Rattle.numbers.specs.Sum.{sumTo}
+use Rattle.numbers.proofs.Below.{all-below}
+use Rattle.protocol.specs.declared.Kind.the-variants.{Lsf}
+use Rattle.protocol.specs.declared.SyncBurst.the-variants.{Frame}
+use Rattle.protocol.specs.Bursts.{signsOf, spelled, wordOf, signOf}
+use Rattle.decode.specs.Correlator.{threshold, heard, highest, lowest, gainOf, shiftOf, symbolOf, distanceOf, summed, diffOf, correlation, matches, inRange}
+use Rattle.decode.specs.Parts.{valuesOf, spreadOf, answerFrom}
+use Rattle.demodulator.specs.declared.Candidate.the-variants.{Held}
+use Rattle.demodulator.specs.declared.Wait.the-variants.{Free}
+use Rattle.demodulator.specs.declared.Timer.the-variants.{Off}
+use Rattle.demodulator.specs.declared.Control.{Control}
+use Rattle.demodulator.specs.declared.Reply.the-variants.{Rejected}
+use Rattle.demodulator.specs.Search.{ageOf, heldAfter, carried, missed, tried, passed, searched}
+use Rattle.demodulator.specs.Turn.{sampled, replied}
+use Rattle.demodulator.specs.Fit.{candidateFit, waitFit, controlFit}
+use Rattle.demodulator.specs.Parts.{Sensed, SearchReady}
+use Rattle.demodulator.proofs.Fitness.{fit-ready}
+use Rattle.demodulator.proofs.Searching.{searched-same, sampled-same, replied-same}
+use Rattle.demodulator.proofs.Passing.{Passing, passing, tried-passing}
+use Rattle.demodulator.proofs.Sensing.{test-own}
+use Rattle.demodulator_laws.proofs.SearchFits.{Outgrown, search-fits}
+
+high : Float
+high = ofInt binary32 (pos 25)
+
+low : Float
+low = ofInt binary32 (negsuc 14)
+
+abbrev sixth : List Float
+sixth = high ∷ high ∷ high ∷ high ∷ low ∷ low ∷ high ∷ low ∷ []
+
+sixth-range : (i : ℕ) → i < 8 → T (inRange (valuesOf sixth i))
+sixth-range = all-below 8 (λ i. inRange (valuesOf sixth i)) (unfold allBelow inRange high low le lt eq ofInt ofBits in tt)
+
+abbrev oldest : Control
+oldest = record { candidate = Held Lsf 254 (ofBits binary32 0) (ofBits binary32 0x4180_0000) (ofBits binary32 0); wait = Free; dcd = Off; owed = false; sample = 2 ^ 63 }
+
+oldest-fit : T (controlFit 10 oldest)
+unfolding controlFit candidateFit waitFit inRange ofBits le lt
+oldest-fit = tt
+
+-- ---- readers
+searched-same-meets : searched 10 (valuesOf sixth) oldest ≡ searched 10 (λ i. valuesOf sixth i) oldest
+searched-same-meets = searched-same 10 (valuesOf sixth) (λ i. valuesOf sixth i) (λ i l. refl) oldest
+
+sampled-same-meets : sampled 10 (valuesOf sixth) oldest ≡ sampled 10 (λ i. valuesOf sixth i) oldest
+sampled-same-meets = sampled-same 10 (valuesOf sixth) (λ i. valuesOf sixth i) (λ i l. refl) oldest
+
+replied-same-meets : replied 10 (valuesOf sixth) Rejected oldest ≡ replied 10 (λ i. valuesOf sixth i) Rejected oldest
+replied-same-meets = replied-same 10 (valuesOf sixth) (λ i. valuesOf sixth i) (λ i l. refl) Rejected oldest
+
+-- ---- one hearing
+sixth-sensed : Sensed sixth (map heard sixth) (spreadOf (valuesOf (map heard sixth)))
+sixth-sensed = record { values = refl; spread = refl }
+
+test-own-meets : matches (Frame Lsf) (valuesOf sixth) ≡ lt (answerFrom (Frame Lsf) (valuesOf (map heard sixth)) (spreadOf (valuesOf (map heard sixth))) .diff) threshold
+test-own-meets = test-own sixth _ _ sixth-sensed (Frame Lsf) _ refl
+
+-- ---- the pass
+passing-meets : Passing (valuesOf sixth) 254 1 (tried 10 (valuesOf sixth) Lsf oldest)
+passing-meets = tried-passing 10 (valuesOf sixth) sixth-range 254 Lsf oldest (passing (valuesOf sixth) 254 oldest (lit≤ tt) (lit≤ tt))
+
+-- ---- fitness
+fit-ready-meets : SearchReady oldest sixth
+fit-ready-meets = fit-ready oldest sixth sixth-range oldest-fit
+
+search-fits-meets : T (controlFit 10 (searched 10 (valuesOf sixth) oldest)) ⊎ Outgrown 10 oldest (searched 10 (valuesOf sixth) oldest)
+search-fits-meets = search-fits 10 (lit≤ tt) (valuesOf sixth) sixth-range oldest oldest-fit refl
+
+-- "A made-up age of 254 may come back as 255."
+comes-back : ageOf (searched 10 (valuesOf sixth) oldest .candidate) ≡ 255
+unfolding searched passed tried missed heldAfter carried matches correlation diffOf summed sumTo anyBelow distanceOf symbolOf shiftOf gainOf highest lowest heard larger smaller sizeOf signsOf spelled wordOf signOf high low add sub div lt eq ofInt ofBits
+comes-back = refl

@@ -1,0 +1,145 @@
+-- A switch of kind without a wait goes to an earlier-listed kind: in the log, and in the control before a call and after it. Assumes nothing.
+use mathlib.Core.Path.{_≡_, refl, sym, ap, _∙_, subst, fun-ext}
+use mathlib.Core.Logic.{inl, inr}
+use mathlib.Core.Bool.{Bool, true, false, not, cond}
+use mathlib.Core.List.{List, [], _∷_, _++_}
+use Prim.Native.Nat.{ℕ, _^_, _<_}
+use native.Mathlib.Omega.{arith}
+use lib.Dec.{T, not-T, eqb, ltb}
+use lib.IntN.{ℤ}
+use lib.ListN.{length}
+use lib.Ieee.{Float}
+use Rattle.protocol.specs.declared.Kind.{Kind}
+use Rattle.protocol.specs.declared.SyncBurst.the-variants.{Frame}
+use Rattle.decode.specs.Correlator.{correlation, matches}
+use Rattle.demodulator.specs.declared.Candidate.{Candidate}
+use Rattle.demodulator.specs.declared.Candidate.the-variants.{Nothing, Held}
+use Rattle.demodulator.specs.declared.Wait.the-variants.{Free}
+use Rattle.demodulator.specs.declared.Timer.{Timer}
+use Rattle.demodulator.specs.declared.Control.{Control}
+use Rattle.demodulator.specs.declared.Reply.{Reply}
+use Rattle.demodulator.specs.declared.Reply.the-variants.{Accepted, Rejected}
+use Rattle.demodulator.specs.Search.{rank, searched}
+use Rattle.demodulator.specs.Turn.{Outcome, quiet, offer, eight, counted, waited, sampled, replied}
+use Rattle.demodulator_laws.proofs.SampleFits.{controlOf}
+use Rattle.demodulator_run.specs.Filter.{ago}
+use Rattle.demodulator_run.specs.Rules.{Call, sample, reply, query, Heard, After as Came, start, refused, settled, accepted, given, answered, called, heardAll}
+use Rattle.demodulator_run.specs.Marks.{Anew, Failed, logAll}
+use Rattle.demodulator_run.specs.Demands.{Ear, earOf, Unmatched, Alone, NotAgain, In, SwitchEarlier, EarlierThan, SwitchHeld}
+use Rattle.demodulator_run.specs.Exact.{MarkedAt}
+use Rattle.demodulator_run.proofs.Listing.{Place, Before, Level, After, place, Placed, placed, heard}
+use Rattle.demodulator_run.proofs.Pass.{Step, controlled, searchStep, passBy, search-pass, pass-lost, pass-hit, struck}
+use Rattle.demodulator_run.proofs.Run.{On, heard-now, on-split, on-start}
+use Rattle.demodulator_run.proofs.StepExact.{free-due}
+use Rattle.demodulator_run.proofs.LogExact.{log-exact}
+
+-- ---- a search
+same-kind : (held : Candidate) → EarlierThan held held
+same-kind Nothing = tt
+same-kind (Held k age diff gain shift) = λ other. absurd (other refl)
+
+abbrev OneAtMost : (ℕ → Float) → Type 0
+OneAtMost v = (j k : Kind) → T (matches (Frame j) v) → T (matches (Frame k) v) → j ≡ k
+
+module _ (p : ℕ) (v : ℕ → Float) (alone : OneAtMost v) where
+  module _ (k : Kind) (age : ℕ) (diff gain shift : Float) (t : Timer) (o : Bool) (n : ℕ) where
+    abbrev Turns : Step → Type 0
+    Turns s = s .control .wait ≡ Free → EarlierThan (Held k age diff gain shift) (s .control .candidate)
+
+    struck-turns : (u : Timer) (j : Kind) (x : Place) → Placed x j k → (b : Bool) → Turns (struck p (λ i. correlation (Frame i) v) u o n age diff gain shift x b j k)
+    struck-turns u j Before r true e = absurd (free-due (sym e))
+    struck-turns u j Before r false e = λ other. r
+    struck-turns u j Level r true e = same-kind (Held k age diff gain shift)
+    struck-turns u j Level r false e = λ other. absurd (other (sym r))
+    struck-turns u j After r true e = absurd (free-due (sym e))
+    struck-turns u j After r false e = absurd (free-due (sym e))
+
+    held-turns : Turns (searchStep p v (controlled (Held k age diff gain shift) Free t o n))
+    held-turns =
+        let (u, e) = search-pass p v (controlled (Held k age diff gain shift) Free t o n) in
+        let run : (Kind → Bool) → Step = λ m. passBy p m (λ i. correlation (Frame i) v) (controlled (Held k age diff gain shift) Free u o n) in
+        subst Turns (sym e) (elim (heard v alone) [
+          | inl q ↦ subst Turns (sym (ap run (fun-ext q) ∙ pass-lost p (λ i. correlation (Frame i) v) u o n age diff gain shift k)) (λ f. absurd (free-due (sym f)))
+          | inr q ↦ subst Turns (sym (ap run (fun-ext (q .1)) ∙ pass-hit p (λ i. correlation (Frame i) v) u o n age diff gain shift (q .0) k _ refl)) (struck-turns u (q .0) (place (q .0) k) (placed (q .0) k) _)
+        ])
+
+  search-turns : (held : Candidate) (t : Timer) (o : Bool) (n : ℕ) → searched p v (controlled held Free t o n) .wait ≡ Free → EarlierThan held (searched p v (controlled held Free t o n) .candidate)
+  search-turns Nothing t o n f = tt
+  search-turns (Held k age diff gain shift) t o n f = held-turns k age diff gain shift t o n f
+
+  -- ---- a sample and a reply
+  sampled-turns : (c : Control) → SwitchHeld c (controlOf (sampled p v c))
+  unfolding sampled waited
+  sampled-turns c e = rw e (search-turns (c .candidate) (counted c .dcd) (c .owed) (counted c .sample))
+
+  replied-turns : (r : Reply) (c : Control) → SwitchHeld c (replied p v r c)
+  unfolding replied
+  replied-turns Accepted c e = λ f. same-kind (c .candidate)
+  replied-turns Rejected c e = rw e (search-turns (c .candidate) (c .dcd) false (c .sample))
+
+-- ---- a call
+module _ (table : List Float) (p : ℕ) (h : Heard) where
+  -- where at most one kind matches in what was heard
+  abbrev Turned : Came → Type 0
+  Turned a = OneAtMost (eight p (ago table p (a .heard .samples))) → SwitchHeld (h .control) (a .heard .control)
+
+  turned-if : (b : Bool) (x y : Came) → Turned x → Turned y → Turned (cond b x y)
+  turned-if true x y u w = u
+  turned-if false x y u w = w
+
+  turned-not : (number : ℕ) (room : List Float) → Turned (refused number room h)
+  turned-not number room alone e f = same-kind (h .control .candidate)
+
+  turned-settled : (xs : List ℤ) (room : List Float) (o : Outcome) → (OneAtMost (eight p (ago table p xs)) → SwitchHeld (h .control) (controlOf o)) → Turned (settled table p xs room o)
+  unfolding settled
+  turned-settled xs room (quiet c) s = s
+  turned-settled xs room (offer kind gain shift c) s = s
+
+  called-turns : (call : Call) → Turned (called table p h call)
+  unfolding called given answered
+  called-turns (sample x room) =
+      let xs : List ℤ = h .samples ++ (x ∷ []) in
+      turned-if (h .control .owed) _ _ (turned-not 2 room)
+      (turned-if (ltb (length room) 192) _ _ (turned-not 4 room)
+      (turned-if (eqb (h .control .sample) (2 ^ 63)) _ _ (turned-not 5 room)
+      (turned-settled xs room (sampled p (eight p (ago table p xs)) (h .control)) (λ alone. sampled-turns p (eight p (ago table p xs)) alone (h .control)))))
+  called-turns (reply r) = turned-if (not (h .control .owed)) _ _ (turned-not 3 []) (λ alone. replied-turns p (eight p (ago table p (h .samples))) alone r (h .control))
+  called-turns query = λ alone e f. same-kind (h .control .candidate)
+
+-- ---- a run
+module _ (table : List Float) (p : ℕ) (big : 0 < p) (cs : List Call) (alone : Alone (earOf table p (heardAll table p cs .samples))) (again : NotAgain (earOf table p (heardAll table p cs .samples)) p) where
+  abbrev ear : Ear
+  ear = earOf table p (heardAll table p cs .samples)
+
+  -- kind k matched alone; where its turn comes after j's, j had failed before it
+  fails-first : (n : ℕ) (j k : Kind) → rank j < rank k → In (Anew n j k) (logAll table p cs) → In (Failed n j) (logAll table p cs)
+  fails-first n j k after i =
+      let M : MarkedAt table p ear (Anew n j k) start cs = log-exact table p big cs alone again (Anew n j k) .0 i in
+      let (c, S, B) = M .rules in
+      let (e, hit, D) = B in
+      let (diff, held, below) = D in
+      let lost : Unmatched ear j n = not-T (matches (Frame j) (ear n)) (λ m. omega (arith, ap rank (alone j k n m hit))) in
+      log-exact table p big cs alone again (Failed n j) .1 (record {
+        before = M .before;
+        call = M .call;
+        after = M .after;
+        split = M .split;
+        accepted = M .accepted;
+        rules = (c, S, (e, lost, (diff, held, λ h r m. absurd (omega (arith, ap rank (alone h k n m hit))))));
+      })
+
+  pub switch-earlier : SwitchEarlier (logAll table p cs)
+  switch-earlier n j k s free = go (place j k) (placed j k)
+    where
+      go : (o : Place) → Placed o j k → rank k < rank j
+      go Before r = absurd (free (j, fails-first n j k r (s .0)))
+      go Level r = absurd (s .1 r)
+      go After r = r
+
+  -- at any one of the calls
+  pub switch-held : (before : List Call) (call : Call) (after : List Call) → cs ≡ before ++ (call ∷ after) → SwitchHeld (heardAll table p before .control) (called table p (heardAll table p before) call .heard .control)
+  switch-held before call after e =
+      let O = on-split table p ear big alone again start before call after [] (subst (λ (l : List Call). On table p ear start l []) e (on-start table p cs)) .1 in
+      let next : List ℤ = called table p (heardAll table p before) call .heard .samples in
+      let now = heard-now table p ear (heardAll table p before) call after (O .hears) in
+      called-turns table p (heardAll table p before) call (subst OneAtMost now (λ j k. alone j k (length next)))

@@ -1,0 +1,50 @@
+-- `window_of` is safe and ends: the measure is the number of places that are left. Assumes nothing.
+use Prim.Native.Nat.{_-_}
+use borrow.Author.Needs.{needs}
+use Rattle.flat_receiver.proofs.hearing.window_of.Statement.{statement}
+use Rattle.flat_receiver.proofs.hearing.window_of.Tie as tie
+
+abbrev Inv-loop : tie.InvT-loop
+Inv-loop samples window₀ i₀ window i = Unit {0}
+
+abbrev μ-loop : tie.MeasureT-loop
+μ-loop samples window₀ i₀ window i = 81 - i
+
+loop-holds : tie.Need-loop-holds Inv-loop μ-loop
+loop-holds c = search needs
+
+sample-requires : tie.Need-sample-requires Inv-loop μ-loop
+sample-requires c κs = search needs
+
+mul-window : tie.Need-mul-window Inv-loop μ-loop
+mul-window c = search needs
+
+array-set-from-window : tie.Need-array-set-from-window Inv-loop μ-loop
+array-set-from-window c = search needs
+
+add-i : tie.Need-add-i Inv-loop μ-loop
+add-i c = search needs
+
+loop-less : tie.Need-loop-less Inv-loop μ-loop
+loop-less c = search needs
+
+loop-again : tie.Need-loop-again Inv-loop μ-loop
+loop-again c = search needs
+
+returns : tie.Need-returns Inv-loop μ-loop
+returns c = search needs
+
+pub window-of-spec : {M : Type 1} → statement M
+window-of-spec =
+    tie.close
+    (tie.spec
+    Inv-loop
+    μ-loop
+    loop-holds
+    sample-requires
+    mul-window
+    array-set-from-window
+    add-i
+    loop-less
+    loop-again
+    returns)

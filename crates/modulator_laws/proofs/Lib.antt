@@ -1,0 +1,23 @@
+-- What follows from the sender's calls. Assumes nothing.
+-- what a test picks
+pub mod Picked
+-- that each promise leaves one answer
+pub mod Papers
+pub mod OnlyAnswer
+-- what the filter sees of the window
+pub mod View
+-- what holds in every case of a call
+pub mod EachCase
+-- a fit record stays fit
+pub mod Sizes
+pub mod FrameKept
+pub mod Kept
+pub mod FitAgain
+-- an empty room, the wish that stays, and what is told once
+pub mod Once
+-- a transmission read in two pieces
+pub mod Shares
+pub mod Pieces
+-- small records that meet what the laws ask
+pub mod Instances
+pub mod FrameInstances

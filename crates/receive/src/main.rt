@@ -1,0 +1,87 @@
+// Reads i16 samples from standard input, low byte first, and writes the windows that it accepts to standard output, one line each. All that it does between its reads and its writes is the
+// library receiving. Where a read or a write fails, or a sample is refused, it stops and says so on standard error; what it wrote by then begins the right output.
+use house::Trouble;
+use libc::STDERR_FILENO;
+use libc::STDIN_FILENO;
+use libc::STDOUT_FILENO;
+use receiving::Receipt;
+use receiving::Receiving;
+
+// Whether to go on, and with what.
+struct Turn {
+    more: bool,
+    receiving: Receiving,
+}
+
+fn say(trouble: Trouble) {
+    let text = house::trouble_text(trouble);
+    let bytes = text.bytes;
+    let length = text.length;
+    io::write_all(STDERR_FILENO, &bytes[..length]);
+}
+
+fn is_taken(answer: Receipt) -> bool {
+    match answer {
+        Receipt::Taken => true,
+        Receipt::NoRoom => false,
+        Receipt::Refused(_) => false,
+    }
+}
+
+// The lines of one read's samples.
+fn hear_some(receiving: Receiving, bytes: &[u8]) -> Turn {
+    let mut lines = [0u8; 24832];
+    let after = receiving.hear(bytes, &mut lines);
+    let answer = after.answer;
+    let written = after.written;
+    let next = after.receiving;
+    if !io::write_all(STDOUT_FILENO, &lines[..written]) {
+        say(Trouble::Writing);
+        return Turn {
+            more: false,
+            receiving: next,
+        };
+    }
+    let more = is_taken(answer);
+    if !more {
+        say(Trouble::Refused);
+    }
+    Turn {
+        more,
+        receiving: next,
+    }
+}
+
+fn read_some(receiving: Receiving) -> Turn {
+    let mut bytes = [0u8; 512];
+    let got = libc::read(STDIN_FILENO, &mut bytes);
+    if got < 0 {
+        say(Trouble::Reading);
+        return Turn {
+            more: false,
+            receiving,
+        };
+    }
+    if got == 0 {
+        return Turn {
+            more: false,
+            receiving,
+        };
+    }
+    let count = io::count(got, &bytes);
+    hear_some(receiving, &bytes[..count])
+}
+
+// A proved loop has to end, and nothing says that the input does: the turns are counted down, from a number that no run uses up.
+fn main() {
+    let mut receiving = Receiving::new();
+    let mut turns = u64::MAX;
+    while turns > 0 {
+        let turn = read_some(receiving);
+        if !turn.more {
+            return;
+        }
+        receiving = turn.receiving;
+        turns -= 1;
+    }
+}

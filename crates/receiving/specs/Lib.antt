@@ -1,0 +1,7 @@
+-- What receive does with the bytes that it reads: samples, answers, lines, and what its functions promise.
+pub mod Pairs
+pub mod Answers
+pub mod Receivers
+pub mod Hearing
+pub mod Parts
+pub mod Input

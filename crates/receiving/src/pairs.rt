@@ -1,0 +1,41 @@
+// Bytes in pairs: a read may end between the two bytes of a sample.
+use crate::Odd;
+ghost use Prim.Native.Nat.{_≤_};
+ghost use lib.ListN.{length};
+ghost use Rattle.receiving.specs.Parts.{PairsUp};
+
+// `odd` is the byte that is left over.
+pub(crate) struct Paired {
+    pub samples: [i16; 256],
+    pub count: usize,
+    pub odd: Odd,
+}
+
+pub(crate) fn pair_up(odd: Odd, bytes: &[u8]) -> Paired
+    requires { ⌜ length (now bytes) ≤ 512 ⌝ }
+    ensures { λ r. ⌜ PairsUp odd (now (bytes .entry)) r ⌝ }
+{
+    let mut samples = [0i16; 256];
+    let mut count: usize = 0;
+    let mut held = odd;
+    let mut i: usize = 0;
+    while i < bytes.len() {
+        let byte = bytes[i];
+        match held {
+            Odd::Nothing => {
+                held = Odd::Held(byte);
+            }
+            Odd::Held(low) => {
+                samples[count] = house::i16_of_bytes(low, byte);
+                count += 1;
+                held = Odd::Nothing;
+            }
+        }
+        i += 1;
+    }
+    Paired {
+        samples,
+        count,
+        odd: held,
+    }
+}

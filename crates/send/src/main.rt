@@ -1,0 +1,89 @@
+// Reads lines of the house format from standard input, and writes the samples of their transmission to standard output, two bytes each, the low one first. All that it does between its
+// reads and its writes is the library sending. Where a read or a write fails, it stops and says so on standard error; what it wrote by then begins the right output.
+use house::Text;
+use house::Trouble;
+use libc::STDERR_FILENO;
+use libc::STDIN_FILENO;
+use libc::STDOUT_FILENO;
+use sending::AfterPart;
+use sending::Sending;
+ghost use Prim.Native.Nat.{_≤_};
+
+// The part that came last, and whether all went well until here.
+struct Turn {
+    part: AfterPart,
+    fine: bool,
+}
+
+// What a read gave.
+struct Got {
+    fine: bool,
+    count: usize,
+}
+
+fn tell(text: Text)
+    requires { ⌜ text .length ≤ 32 ⌝ }
+{
+    let bytes = text.bytes;
+    let length = text.length;
+    io::write_all(STDERR_FILENO, &bytes[..length]);
+}
+
+fn say(trouble: Trouble) {
+    tell(house::trouble_text(trouble));
+}
+
+fn put(part: AfterPart) -> Turn
+    requires { ⌜ part .length ≤ 5440 ⌝ }
+{
+    let bytes = part.bytes;
+    let length = part.length;
+    let fine = io::write_all(STDOUT_FILENO, &bytes[..length]);
+    if !fine {
+        say(Trouble::Writing);
+    }
+    Turn { part, fine }
+}
+
+fn read_some(room: &mut [u8]) -> Got {
+    let got = libc::read(STDIN_FILENO, room);
+    if got < 0 {
+        say(Trouble::Reading);
+    }
+    Got {
+        fine: got >= 0,
+        count: io::count(got, room),
+    }
+}
+
+// Reads once, no more than the line at hand lacks.
+fn next_turn(before: AfterPart) -> Turn {
+    let sending = before.sending;
+    let mut bytes = [0u8; 97];
+    let wanted = sending.lacks();
+    let got = read_some(&mut bytes[..wanted]);
+    if !got.fine {
+        return Turn {
+            part: before,
+            fine: false,
+        };
+    }
+    put(sending.turn(bytes, got.count))
+}
+
+fn tell_last(part: AfterPart) {
+    tell(part.last_words());
+}
+
+// A proved loop has to end, and nothing says that the input does: the turns are counted down, from a number that no run uses up.
+fn main() {
+    let mut turn = put(Sending::open());
+    let mut turns = u64::MAX;
+    while turns > 0 && turn.fine && !turn.part.last {
+        turn = next_turn(turn.part);
+        turns -= 1;
+    }
+    if turn.fine {
+        tell_last(turn.part);
+    }
+}

@@ -1,0 +1,29 @@
+-- The laws of `sending`.
+-- the lines of a text
+pub mod Lines
+-- samples as bytes
+pub mod Bytes
+-- what the definitions come to
+pub mod Parts
+-- what is to be written lies within the bytes
+pub mod Lengths
+-- a stream's samples, stretch by stretch
+pub mod Stream
+-- that each promise leaves one answer
+pub mod OnlyAnswer
+-- a part by the sender's rules
+pub mod Frames
+pub mod OnePart
+-- what becomes of the line at hand with a read's bytes, and a turn
+pub mod Becoming
+pub mod Turning
+-- what the calls from some place on come to
+pub mod Closing
+-- the program over all of its reads
+pub mod SendRun
+-- every text, and what is written so far
+pub mod AnyText
+-- a text of good lines, and how much is written
+pub mod GoodLines
+-- texts that meet what the laws ask
+pub mod Instances

@@ -1,0 +1,141 @@
+-- A part from a sender that has sent the symbols `xs` and has no padding due: its frame's symbols are sent behind them, and all of its samples are written. Assumes nothing.
+use mathlib.Core.Path.{_≡_, refl, sym, ap, _∙_}
+use mathlib.Core.Bool.{Bool}
+use mathlib.Core.List.{List, [], _∷_, _++_}
+use Prim.Native.Nat.{ℕ, _*_}
+use lib.IntN.{ℤ}
+use lib.ListN.{length, take, drop}
+use lib.Seq.{take-at}
+use lib.Ieee.{Float}
+use Rattle.numbers.specs.Firsts.{firsts}
+use Rattle.numbers.proofs.Firsts.{length-firsts}
+use Rattle.shaping.specs.Taps.{taps}
+use Rattle.modulator.specs.declared.SoftModulator.{SoftModulator}
+use Rattle.modulator.specs.declared.ModulatorFrame.{ModulatorFrame}
+use Rattle.modulator.specs.declared.Pending.{Pending}
+use Rattle.modulator.specs.Record.{fresh}
+use Rattle.modulator.specs.Frame.{Symbols}
+use Rattle.modulator.specs.Calls.{done, wrote, provided}
+use Rattle.modulator.specs.Calls.{read as readInto}
+use Rattle.modulator_run.specs.Rules.{Call, provide, read, Sent, Said, After, start, after, framed, drained, called, sentFrom, saidFrom, sentAll}
+use Rattle.modulator_run.specs.Run.{left, saidBy, recordFrom, answersFrom, recordAfter, Given, AllGiven}
+use Rattle.modulator_run.specs.Pieces.{counted}
+use Rattle.modulator_run.proofs.LastCall.{sent-behind}
+use Rattle.modulator_run.proofs.SenderRun.{answers-from}
+use Rattle.sending.specs.declared.Sending.{Sending}
+use Rattle.sending.specs.Text.{sampleBytes}
+use Rattle.sending.specs.Calls.{Left, emptyRoom, partOf}
+use Rattle.sending.specs.Run.{output, partCalls}
+use Rattle.sending.proofs.Bytes.{bytes-two, bytes-length}
+use Rattle.sending.proofs.Stream.{samplesBehind, samples-number}
+use Rattle.sending.proofs.Frames.{Gives, all-read, room-read, then-symbols, then-padding}
+
+-- the sender after the calls `cs`, by which the symbols `xs` were sent and no padding is left
+pub record Sits (m : SoftModulator) (cs : List Call) (xs : List Float) : Type 0 where
+  pub by : m ≡ recordAfter cs
+  pub given : AllGiven cs
+  pub symbols : sentAll taps 10 cs .symbols ≡ xs
+  pub padding : sentAll taps 10 cs .progress .«tx_delay_padding» ≡ 0
+
+-- ---- more calls
+record-behind : (m : SoftModulator) (cs ds : List Call) → recordFrom m (cs ++ ds) ≡ recordFrom (recordFrom m cs) ds
+unfolding recordFrom
+record-behind m [] ds = refl
+record-behind m (c ∷ cs) ds = record-behind (left m c .modulator) cs ds
+
+given-behind : (cs ds : List Call) → AllGiven cs → AllGiven ds → AllGiven (cs ++ ds)
+unfolding AllGiven
+given-behind [] ds g h = h
+given-behind (c ∷ cs) ds g h = (g .0, given-behind cs ds (g .1) h)
+
+both : {A : Type 0} {a b c d : A} → _≡_ {A = List A} (a ∷ (b ∷ [])) (c ∷ (d ∷ [])) → (a ≡ c) × (b ≡ d)
+both e = (cc, cc)
+
+read-called : (s : Sent) (room : List ℤ) → called taps 10 s (read room) ≡ drained taps 10 room s
+unfolding called
+read-called s room = refl
+
+-- what a part leaves
+pub record Done (l : Left) (cs : List Call) (xs : List Float) (new : List Float) (frame : ModulatorFrame) (symbols : List Float) : Type 0 where
+  pub answer : l .answer ≡ done
+  pub written : output l ≡ sampleBytes (samplesBehind xs new)
+  pub sits : Sits (l .sending .modulator) (cs ++ partCalls frame symbols) (xs ++ new)
+
+module _ (s : Sending) (cs : List Call) (xs : List Float) (sits : Sits (s .modulator) cs xs) (frame : ModulatorFrame) (symbols : List Float) (f : Symbols) (gives : Gives frame symbols f) where
+  abbrev m : SoftModulator
+  m = s .modulator
+
+  abbrev before : Sent
+  before = sentAll taps 10 cs
+
+  abbrev new : List Float
+  new = firsts (f .symbol) (f .count)
+
+  abbrev pending : Pending
+  pending = gives .pending (before .pending)
+
+  -- the frame is given
+  abbrev next : Sent
+  next = framed taps 10 f 0 pending before
+
+  calls-given : AllGiven (partCalls frame symbols)
+  unfolding AllGiven Given
+  calls-given = (gives .given, (tt, tt))
+
+  frame-called : called taps 10 before (provide frame symbols) ≡ after done [] next
+  frame-called = gives .calls before (sits .padding)
+
+  -- what the two calls say, by the record and by the rules
+  said : answersFrom m (partCalls frame symbols) ≡ saidFrom taps 10 before (partCalls frame symbols)
+  said = rw (sits .by) (answers-from cs (partCalls frame symbols) (sits .given) calls-given)
+
+  each-said : (saidBy (provided m frame symbols) ≡ called taps 10 before (provide frame symbols) .said)
+      × (saidBy (readInto (provided m frame symbols .modulator) emptyRoom) ≡ called taps 10 (called taps 10 before (provide frame symbols) .sent) (read emptyRoom) .said)
+  unfolding answersFrom saidFrom left
+  each-said = both said
+
+  frame-said : provided m frame symbols .answer ≡ done
+  frame-said = ap (λ (x : Said). x .answer) (each-said .0 ∙ ap (λ (a : After). a .said) frame-called)
+
+  read-said : saidBy (readInto (provided m frame symbols .modulator) emptyRoom) ≡ drained taps 10 emptyRoom next .said
+  read-said =
+      each-said .1
+      ∙ ap (λ (a : After). called taps 10 (a .sent) (read emptyRoom) .said) frame-called
+      ∙ ap (λ (a : After). a .said) (read-called next emptyRoom)
+
+  count-said : readInto (provided m frame symbols .modulator) emptyRoom .answer ≡ wrote (10 * f .count)
+  count-said = ap (λ (x : Said). x .answer) read-said ∙ all-read before f (gives .few) pending
+
+  room-said : readInto (provided m frame symbols .modulator) emptyRoom .room ≡ samplesBehind xs new ++ drop (10 * f .count) emptyRoom
+  room-said =
+      ap (λ (x : Said). x .room) read-said
+      ∙ room-read before f (gives .few) pending
+      ∙ ap (λ (l : List Float). samplesBehind l new ++ drop (10 * f .count) emptyRoom) (sits .symbols)
+
+  -- and what they leave
+  both-called : sentAll taps 10 (cs ++ partCalls frame symbols) ≡ drained taps 10 emptyRoom next .sent
+  unfolding sentFrom
+  both-called =
+      sent-behind taps 10 start cs (partCalls frame symbols)
+      ∙ ap (λ (a : After). called taps 10 (a .sent) (read emptyRoom) .sent) frame-called
+      ∙ ap (λ (a : After). a .sent) (read-called next emptyRoom)
+
+  sits-next : Sits (readInto (provided m frame symbols .modulator) emptyRoom .modulator) (cs ++ partCalls frame symbols) (xs ++ new)
+  unfolding recordFrom left
+  sits-next = record {
+    by = rw (sits .by) (sym (record-behind fresh cs (partCalls frame symbols)));
+    given = given-behind cs (partCalls frame symbols) (sits .given) calls-given;
+    symbols =
+        ap (λ (x : Sent). x .symbols) both-called ∙ then-symbols before f (gives .few) pending ∙ ap (λ (l : List Float). l ++ new) (sits .symbols);
+    padding = ap (λ (x : Sent). x .progress .«tx_delay_padding») both-called ∙ then-padding before f (gives .few) pending;
+  }
+
+  all-written : take (2 * (10 * f .count)) (sampleBytes (samplesBehind xs new ++ drop (10 * f .count) emptyRoom)) ≡ sampleBytes (samplesBehind xs new)
+  all-written =
+      let size : length (sampleBytes (samplesBehind xs new)) ≡ 2 * (10 * f .count) =
+      bytes-length (samplesBehind xs new) ∙ ap (λ (n : ℕ). 2 * n) (samples-number xs new ∙ ap (λ (n : ℕ). 10 * n) (length-firsts (f .symbol) (f .count))) in
+      ap (take (2 * (10 * f .count))) (bytes-two (samplesBehind xs new) (drop (10 * f .count) emptyRoom)) ∙ take-at (sampleBytes (samplesBehind xs new)) _ (2 * (10 * f .count)) size
+
+  pub part-done : (bad last : Bool) → Done (partOf s frame symbols bad last) cs xs new frame symbols
+  unfolding partOf counted
+  part-done bad last = record { answer = frame-said; written = rw (count-said, room-said) all-written; sits = sits-next }

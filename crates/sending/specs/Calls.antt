@@ -1,0 +1,130 @@
+-- What each call answers, leaves and has written. Assumes nothing.
+use mathlib.Core.Path.{_≡_}
+use mathlib.Core.Bool.{Bool, true, false, cond}
+use mathlib.Core.List.{List, [], _∷_, _++_}
+use Prim.Native.Nat.{ℕ, _+_, _-_, _*_, min}
+use lib.Dec.{ltb}
+use lib.IntN.{ℤ, pos}
+use lib.ListN.{length, take, drop, replicate}
+use lib.Ieee.{Float}
+use Rattle.modulator.specs.declared.SoftModulator.{SoftModulator}
+use Rattle.modulator.specs.declared.ModulatorFrame.{ModulatorFrame}
+use Rattle.modulator.specs.declared.ModulatorFrame.the-variants.{Preamble, Symbols as GivenSymbols, EndOfTransmission}
+use Rattle.modulator.specs.Record.{fresh}
+use Rattle.modulator.specs.Calls.{Paper, done, providedPaper, provided}
+use Rattle.modulator.specs.Calls.{Left as SenderLeft}
+use Rattle.modulator.specs.Calls.{read as readInto}
+use Rattle.modulator_run.specs.Pieces.{counted}
+use Rattle.house.specs.declared.Text.{Text}
+use Rattle.house.specs.Line.{goodLine, symbolsOf, noSymbols}
+use Rattle.house.specs.BadLine.{badLine, inRoom}
+use Rattle.sending.specs.declared.Sending.{Sending}
+use Rattle.sending.specs.declared.AfterPart.{AfterPart}
+use Rattle.sending.specs.Text.{hasFeed, Bad, none, inLine, sampleBytes}
+
+-- what a call leaves: the sender's answer, the record, the bytes with how many of them are to be written, whether the line at hand is bad, and
+-- whether the transmission has ended
+pub record Left : Type 0 where
+  pub answer : Paper
+  pub sending : Sending
+  pub bytes : List ℕ
+  pub length : ℕ
+  pub bad : Bool
+  pub last : Bool
+
+-- ---- a part: a frame is given, and then all of it is read
+abbrev pub withModulator : SoftModulator → Sending → Sending
+withModulator m s = record { modulator = m; line = s .line; have = s .have; number = s .number }
+
+-- room for the longest frame, the end of transmission
+abbrev pub emptyRoom : List ℤ
+emptyRoom = replicate 2720 (pos 0)
+
+unfoldable pub partOf : Sending → ModulatorFrame → List Float → Bool → Bool → Left
+partOf s frame symbols bad last =
+    let given : SenderLeft = provided (s .modulator) frame symbols in
+    let out : SenderLeft = readInto (given .modulator) emptyRoom in
+    record { answer = given .answer; sending = withModulator (out .modulator) s; bytes = sampleBytes (out .room); length = 2 * counted (out .answer); bad = bad; last = last }
+
+-- nothing is written
+abbrev pub quiet : Sending → Bool → Left
+quiet s bad = record { answer = done; sending = s; bytes = replicate 5440 0; length = 0; bad = bad; last = false }
+
+-- ---- "Send writes preamble (TxDelay 0)"
+unfoldable pub starting : Sending
+starting = record { modulator = fresh; line = replicate 97 0; have = 0; number = 1 }
+
+unfoldable pub opened : Left
+opened = partOf starting (Preamble (record { 0 = 0 })) noSymbols false false
+
+-- ---- ".. each line's 192 symbols": the line at hand grows up to its 97 bytes
+abbrev pub lacking : Sending → ℕ
+lacking s = 97 - s .have
+
+abbrev pub atHand : Sending → List ℕ
+atHand s = take (s .have) (s .line)
+
+-- the bytes go behind those that the line has, for as many as it lacks
+unfoldable pub held : Sending → List ℕ → Sending
+held s bytes =
+    let added : List ℕ = take (lacking s) bytes in
+    record { modulator = s .modulator; line = take (s .have) (s .line) ++ added ++ drop (s .have + length added) (s .line); have = s .have + length added; number = s .number }
+
+-- "from 1"; a line's number stays at the largest that a u64 holds
+abbrev pub largest : ℕ
+largest = 0xffff_ffff_ffff_ffff
+
+abbrev pub nextNumber : ℕ → ℕ
+nextNumber n = min (n + 1) largest
+
+abbrev pub nextLine : Sending → Sending
+nextLine s = record { modulator = s .modulator; line = s .line; have = 0; number = nextNumber (s .number) }
+
+-- "Any line that is not 96 capital digits and a line feed is bad": fewer than 97 bytes with a line feed among them, or 97 that are no good line. Fewer with no line feed may
+-- still become one.
+unfoldable pub judged : Sending → Left
+judged s =
+    cond (ltb (s .have) 97) (quiet s (hasFeed (atHand s)))
+    (cond (goodLine (s .line)) (partOf (nextLine s) GivenSymbols (symbolsOf (s .line)) false false)
+    (quiet s true))
+
+abbrev pub taken : Sending → List ℕ → Left
+taken s bytes = judged (held s bytes)
+
+-- ---- ".. and end of transmission"; "a last one without its line feed too": a line begun and not ended is bad
+unfoldable pub closed : Sending → Left
+closed s = partOf s EndOfTransmission noSymbols (ltb 0 (s .have)) true
+
+-- ---- a turn: a read that gives no bytes is the end of the input; "At the first bad line it stops reading, still ends the transmission"
+unfoldable pub turned : Sending → List ℕ → Left
+turned s [] = closed s
+turned s (byte ∷ bytes) = let l : Left = taken s (byte ∷ bytes) in cond (l .bad) (closed (l .sending)) l
+
+-- ---- ".. and writes `bad line N` and a line feed on standard error"
+unfoldable pub named : Bool → ℕ → Bad
+named bad number = cond bad (inLine number) none
+
+unfoldable pub words : Bad → Text
+words none = inRoom []
+words (inLine n) = inRoom (badLine n)
+
+-- ---- what the functions promise
+pub record Says (d : Left) (r : AfterPart) : Type 0 where
+  pub answers : providedPaper (r .answer) ≡ d .answer
+  pub leaves : r .sending ≡ d .sending
+  pub writes : r .bytes ≡ d .bytes
+  pub counts : r .length ≡ d .length
+  pub tells : r .bad ≡ d .bad
+  pub ends : r .last ≡ d .last
+
+abbrev pub open-says : AfterPart → Type 0
+open-says r = Says opened r
+
+abbrev pub lacks-says : Sending → ℕ → Type 0
+lacks-says s r = r ≡ lacking s
+
+abbrev pub turn-says : Sending → List ℕ → ℕ → AfterPart → Type 0
+turn-says s bytes n r = Says (turned s (take n bytes)) r
+
+abbrev pub last-words-says : AfterPart → Text → Type 0
+last-words-says part r = r ≡ words (named (part .bad) (part .sending .number))

@@ -1,0 +1,66 @@
+//! Holds the port against the old modem at scale: the archive that `tools/native beside` makes, and modem.rs as it
+//! stands, on the same random inputs, bit for bit. `tools/compare` builds and runs it; docs/COMPARISON.md says
+//! what was compared. A difference is printed with the smallest input found that shows it, and ends the run
+//! with status 1.
+
+#![allow(dead_code)]
+
+#[path = "../bits.rs"]
+mod bits;
+#[path = "../compare/mod.rs"]
+mod compare;
+#[path = "../decode.rs"]
+mod decode;
+#[path = "../encode.rs"]
+mod encode;
+#[path = "../harness.rs"]
+mod harness;
+#[path = "../house.rs"]
+mod house;
+#[path = "../modem/mod.rs"]
+mod modem;
+#[path = "../protocol.rs"]
+mod protocol;
+#[path = "../random.rs"]
+mod random;
+/// shaping.rs, the very file.
+mod shaping {
+    include!(env!("M17CORE_SHAPING"));
+}
+#[path = "../signal/mod.rs"]
+mod signal;
+
+use compare::tally::Tally;
+use compare::{listening, senders, sessions, steps, Difference};
+use random::Random;
+use std::env;
+use std::process::ExitCode;
+
+type Part = fn(&mut Random, u64, &mut Tally) -> Option<Difference>;
+
+fn main() -> ExitCode {
+    let words: Option<Vec<u64>> = env::args().skip(1).map(|word| word.parse().ok()).collect();
+    let Some([seed, samples, calls, records]) = words.as_deref() else {
+        eprintln!("usage: compare SEED SAMPLES CALLS RECORDS");
+        return ExitCode::from(2);
+    };
+    let parts: [(&str, Part, u64); 4] = [
+        ("recordings", listening::compare, *samples),
+        ("sessions", sessions::compare, *calls),
+        ("receiver records", steps::compare, *records),
+        ("sender records", senders::compare, *records),
+    ];
+    let mut tally = Tally::default();
+    for (i, (name, part, amount)) in parts.into_iter().enumerate() {
+        // A seed of its own for each part, so that one can be run again without the others.
+        let mut random = Random::new(seed.wrapping_mul(4).wrapping_add(i as u64));
+        if let Some(difference) = part(&mut random, amount, &mut tally) {
+            println!("DIFFERENCE in {name}: {}", difference.what);
+            println!("input: {}", difference.input);
+            return ExitCode::FAILURE;
+        }
+    }
+    println!("No difference. Compared:");
+    print!("{tally}");
+    ExitCode::SUCCESS
+}

@@ -1,0 +1,297 @@
+//! Both sides' records in one flat form, the one in which the crate `beside` takes them, and what differs
+//! between two of them. Floats are compared by their bits.
+
+use crate::decode::KINDS;
+use crate::modem::lay;
+use crate::modem::peek::{self, Control, Held, Sending};
+use crate::modem::{SoftDemodulator, SoftModulator};
+
+/// The places of the receiver's numbers. Up to `OWED` they are the record, behind it an answer.
+pub const FILTER_CURSOR: usize = 0;
+pub const RX_CURSOR: usize = 1;
+pub const COUNT: usize = 2;
+pub const KIND: usize = 3;
+pub const AGE: usize = 4;
+pub const WAIT_HELD: usize = 5;
+pub const WAIT_LEFT: usize = 6;
+pub const TIMER_HELD: usize = 7;
+pub const TIMER_END: usize = 8;
+pub const OWED: usize = 9;
+pub const REFUSAL: usize = 10;
+pub const ANSWER: usize = 11;
+pub const OFFERED_AT: usize = 12;
+pub const CARRIER: usize = 13;
+pub const NUMBERS: usize = 16;
+
+/// What stands for no kind.
+pub const NO_KIND: u64 = 4;
+
+/// Where the candidate's floats stand behind the ring.
+pub const DIFF: usize = 1920;
+pub const GAIN: usize = 1921;
+pub const SHIFT: usize = 1922;
+
+const RECEIVER_NAMES: [&str; OWED + 1] = [
+    "window cursor",
+    "ring cursor",
+    "count",
+    "kind",
+    "age",
+    "a wait held",
+    "wait left",
+    "a timer held",
+    "timer end",
+    "a reply owed",
+];
+
+#[derive(Clone)]
+pub struct Receiver {
+    pub window: [i16; 81],
+    pub floats: [f32; 1923],
+    pub numbers: [u64; NUMBERS],
+}
+
+impl Receiver {
+    pub fn empty() -> Self {
+        Receiver {
+            window: [0; 81],
+            floats: [0.0; 1923],
+            numbers: [0; NUMBERS],
+        }
+    }
+
+    pub fn ring(&self) -> &[f32; 1920] {
+        self.floats[..1920].try_into().expect("1,920 places")
+    }
+
+    pub fn cursors(&self) -> (usize, usize) {
+        (
+            self.numbers[FILTER_CURSOR] as usize,
+            self.numbers[RX_CURSOR] as usize,
+        )
+    }
+
+    /// A fit record's control, as the old modem has it: it owes no replies.
+    pub fn control(&self) -> Control {
+        let n = &self.numbers;
+        Control {
+            count: n[COUNT],
+            candidate: (n[KIND] < NO_KIND).then(|| Held {
+                burst: KINDS[n[KIND] as usize],
+                age: n[AGE] as u8,
+                diff: self.floats[DIFF],
+                gain: self.floats[GAIN],
+                shift: self.floats[SHIFT],
+            }),
+            wait: (n[WAIT_HELD] == 1).then_some(n[WAIT_LEFT] as u16),
+            timer: (n[TIMER_HELD] == 1).then_some(n[TIMER_END]),
+        }
+    }
+
+    pub fn set_control(&mut self, control: Control, owed: bool) {
+        let laid = numbers(self.cursors(), control, owed);
+        self.numbers[..=OWED].copy_from_slice(&laid);
+        self.floats[DIFF..].copy_from_slice(&three(control));
+    }
+}
+
+fn numbers(cursors: (usize, usize), control: Control, owed: bool) -> [u64; OWED + 1] {
+    let kind = |held: Held| KINDS.iter().position(|&kind| kind == held.burst);
+    [
+        cursors.0 as u64,
+        cursors.1 as u64,
+        control.count,
+        control
+            .candidate
+            .and_then(kind)
+            .map_or(NO_KIND, |place| place as u64),
+        control.candidate.map_or(0, |held| u64::from(held.age)),
+        u64::from(control.wait.is_some()),
+        control.wait.map_or(0, u64::from),
+        u64::from(control.timer.is_some()),
+        control.timer.unwrap_or(0),
+        u64::from(owed),
+    ]
+}
+
+fn three(control: Control) -> [f32; 3] {
+    control
+        .candidate
+        .map_or([0.0; 3], |held| [held.diff, held.gain, held.shift])
+}
+
+/// The record of the old modem.
+pub fn receiver(old: &SoftDemodulator) -> Receiver {
+    let (window, ring) = lay::rings(old);
+    let mut flat = Receiver::empty();
+    flat.window = *window;
+    flat.floats[..1920].copy_from_slice(ring);
+    let (filter, rx) = peek::cursors(old);
+    flat.numbers[FILTER_CURSOR] = filter as u64;
+    flat.numbers[RX_CURSOR] = rx as u64;
+    flat.set_control(peek::control(old), false);
+    flat
+}
+
+/// The old modem with a fit record's values in its private fields.
+pub fn old_receiver(flat: &Receiver) -> SoftDemodulator {
+    lay::receiver(flat.cursors(), &flat.window, flat.ring(), flat.control())
+}
+
+/// What differs after a sample, but for the rings: the record's numbers, the new filtered value, the
+/// candidate's floats.
+pub fn scalars_differ(old: &SoftDemodulator, port: &[u64], values: &[f32]) -> Option<String> {
+    let control = peek::control(old);
+    let ours = numbers(peek::cursors(old), control, false);
+    if let Some(i) = (0..=OWED).find(|&i| ours[i] != port[i]) {
+        return Some(say(RECEIVER_NAMES[i], ours[i], port[i]));
+    }
+    let [diff, gain, shift] = three(control);
+    let ours = [diff, gain, shift, peek::newest(old)];
+    let names = ["diff", "gain", "shift", "filtered value"];
+    (0..4)
+        .find(|&i| ours[i].to_bits() != values[i].to_bits())
+        .map(|i| say(names[i], pattern(ours[i]), pattern(values[i])))
+}
+
+pub fn receivers_differ(old: &Receiver, port: &Receiver) -> Option<String> {
+    if let Some(i) = (0..=OWED).find(|&i| old.numbers[i] != port.numbers[i]) {
+        return Some(say(RECEIVER_NAMES[i], old.numbers[i], port.numbers[i]));
+    }
+    if let Some(i) = (0..81).find(|&i| old.window[i] != port.window[i]) {
+        return Some(say(
+            &format!("sample in place {i}"),
+            old.window[i],
+            port.window[i],
+        ));
+    }
+    floats_differ("ring, diff, gain, shift: place", &old.floats, &port.floats)
+}
+
+/// The first place at which two lists of floats have different bits.
+pub fn floats_differ(name: &str, old: &[f32], port: &[f32]) -> Option<String> {
+    if old.len() != port.len() {
+        return Some(say(&format!("{name}: how many"), old.len(), port.len()));
+    }
+    (0..old.len())
+        .find(|&i| old[i].to_bits() != port[i].to_bits())
+        .map(|i| say(&format!("{name} {i}"), pattern(old[i]), pattern(port[i])))
+}
+
+pub fn say(name: &str, old: impl ToString, port: impl ToString) -> String {
+    format!(
+        "{name}: the old modem has {}, the port {}",
+        old.to_string(),
+        port.to_string()
+    )
+}
+
+/// Not-a-numbers have patterns too.
+pub fn pattern(value: f32) -> String {
+    format!("{:08x}", value.to_bits())
+}
+
+/// The places of the sender's numbers. Up to `CAPACITY` they are the record, behind it an answer.
+pub const CURSOR: usize = 0;
+pub const LENGTH: usize = 1;
+pub const READ: usize = 2;
+pub const PADDING: usize = 3;
+pub const IDLE_DUE: usize = 4;
+pub const END_OWED: usize = 5;
+pub const END_HELD: usize = 6;
+pub const END: usize = 7;
+pub const WISH: usize = 8;
+pub const LATENCY: usize = 9;
+pub const FILL: usize = 10;
+pub const CAPACITY: usize = 11;
+pub const SENDER_REFUSAL: usize = 12;
+pub const ACTION: usize = 13;
+pub const AMOUNT: usize = 14;
+pub const SENDER_NUMBERS: usize = 16;
+
+const SENDER_NAMES: [&str; CAPACITY + 1] = [
+    "window cursor",
+    "length",
+    "read place",
+    "padding",
+    "idle to be told",
+    "an end owed",
+    "an end to report",
+    "reported end",
+    "wish for a frame",
+    "latency",
+    "fill",
+    "capacity",
+];
+
+#[derive(Clone)]
+pub struct Sender {
+    pub store: [i16; 4000],
+    pub window: [f32; 81],
+    pub numbers: [u64; SENDER_NUMBERS],
+}
+
+impl Sender {
+    pub fn empty() -> Self {
+        Sender {
+            store: [0; 4000],
+            window: [0.0; 81],
+            numbers: [0; SENDER_NUMBERS],
+        }
+    }
+}
+
+pub fn sender(old: &SoftModulator) -> Sender {
+    let (cursor, window) = peek::window(old);
+    let kept = peek::sending(old);
+    let mut flat = Sender::empty();
+    flat.store = *lay::store(old);
+    flat.window = window;
+    flat.numbers[..=CAPACITY].copy_from_slice(&[
+        cursor as u64,
+        kept.length as u64,
+        kept.read as u64,
+        kept.padding as u64,
+        u64::from(kept.idle_due),
+        u64::from(kept.end_owed),
+        u64::from(kept.end.is_some()),
+        kept.end.unwrap_or(0) as u64,
+        u64::from(kept.wish),
+        kept.latency as u64,
+        kept.fill as u64,
+        kept.capacity as u64,
+    ]);
+    flat
+}
+
+/// The old modem with a fit record's values in its private fields.
+pub fn old_sender(flat: &Sender) -> SoftModulator {
+    let n = flat.numbers.map(|number| number as usize);
+    let kept = Sending {
+        length: n[LENGTH],
+        read: n[READ],
+        padding: n[PADDING],
+        idle_due: n[IDLE_DUE] == 1,
+        wish: n[WISH] == 1,
+        end_owed: n[END_OWED] == 1,
+        end: (n[END_HELD] == 1).then_some(n[END]),
+        fill: n[FILL],
+        capacity: n[CAPACITY],
+        latency: n[LATENCY],
+    };
+    lay::sender(&flat.store, n[CURSOR], &flat.window, kept)
+}
+
+pub fn senders_differ(old: &Sender, port: &Sender) -> Option<String> {
+    if let Some(i) = (0..=CAPACITY).find(|&i| old.numbers[i] != port.numbers[i]) {
+        return Some(say(SENDER_NAMES[i], old.numbers[i], port.numbers[i]));
+    }
+    samples_differ("store, place", &old.store, &port.store)
+        .or_else(|| floats_differ("window, place", &old.window, &port.window))
+}
+
+pub fn samples_differ(name: &str, old: &[i16], port: &[i16]) -> Option<String> {
+    (0..old.len())
+        .find(|&i| old[i] != port[i])
+        .map(|i| say(&format!("{name} {i}"), old[i], port[i]))
+}

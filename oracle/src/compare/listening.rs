@@ -1,0 +1,282 @@
+//! Recordings: both receivers from fresh, sample by sample.
+
+use super::flat::{self, floats_differ, receivers_differ, say, Receiver, ANSWER, CARRIER, NO_KIND};
+use super::flat::{OFFERED_AT, REFUSAL};
+use super::port::{self, Notes};
+use super::recordings::{recording, Recording};
+use super::smallest::{from_the_front, plainer};
+use super::tally::Tally;
+use super::values::{nan, payloads};
+use super::{caught, Difference};
+use crate::decode::{name, SyncBurst, KINDS};
+use crate::harness::{lay_replies, take_offer, Offer};
+use crate::modem::peek::{control, Control};
+use crate::modem::{Demodulator, SoftDemodulator};
+use crate::random::Random;
+
+/// The longest stretch between two comparisons of the whole rings.
+const STRETCH: usize = 4096;
+
+/// The room that is lent: the 192 symbols, and places that must stay as they are.
+const ROOM: usize = 200;
+
+/// Recordings until so many samples are compared, or one shows a difference.
+pub fn compare(random: &mut Random, samples: u64, tally: &mut Tally) -> Option<Difference> {
+    let mut number = 0;
+    while tally.samples < samples {
+        let recording = recording(random, number);
+        number += 1;
+        if let Some((at, what)) = difference(&recording.samples, &recording.replies, tally) {
+            return Some(smallest(recording, at, what));
+        }
+        tally.recordings += 1;
+    }
+    None
+}
+
+/// The shortest beginning, without what can be spared in front, and with zeros where they do.
+fn smallest(recording: Recording, at: usize, what: String) -> Difference {
+    let mut samples = recording.samples;
+    samples.truncate(at + 1);
+    let mut shows =
+        |part: &[i16]| difference(part, &recording.replies, &mut Tally::default()).is_some();
+    from_the_front(&mut samples, &mut shows);
+    plainer(&mut samples, 0, &mut shows);
+    from_the_front(&mut samples, &mut shows);
+    let shown = difference(&samples, &recording.replies, &mut Tally::default());
+    let what = shown.map_or(what, |(at, what)| {
+        format!("after sample {}: {what}", at + 1)
+    });
+    Difference {
+        what: format!(
+            "receiver, a recording of the kind '{}', {what}",
+            recording.name
+        ),
+        input: format!("replies {}, samples {samples:?}", recording.replies),
+    }
+}
+
+/// The place of the first sample after which the two differ, and in what.
+fn difference(samples: &[i16], replies: &str, tally: &mut Tally) -> Option<(usize, String)> {
+    lay_replies(replies);
+    take_offer();
+    let mut sides = Sides::new();
+    if let Some(what) = receivers_differ(&flat::receiver(&sides.old), &sides.port) {
+        return Some((0, what));
+    }
+    let mut at = 0;
+    while at < samples.len() {
+        let end = (at + STRETCH).min(samples.len());
+        match sides.stretch(&samples[at..end], tally) {
+            Ok(given) => at += given,
+            Err((i, what)) => return Some((at + i, what)),
+        }
+    }
+    None
+}
+
+struct Sides {
+    old: SoftDemodulator,
+    port: Receiver,
+    room: [f32; ROOM],
+    notes: Notes,
+    /// The last reply.
+    accepted: bool,
+}
+
+impl Sides {
+    fn new() -> Self {
+        let mut random = Random::new(1);
+        Sides {
+            old: SoftDemodulator::new(),
+            port: port::fresh_receiver(),
+            room: [(); ROOM].map(|()| nan(&mut random)),
+            notes: Notes::new(STRETCH),
+            accepted: false,
+        }
+    }
+
+    /// Samples up to an offer and its reply, or all of them; gives how many.
+    fn stretch(&mut self, samples: &[i16], tally: &mut Tally) -> Result<usize, (usize, String)> {
+        let before = self.port.clone();
+        let room = self.room;
+        let given = port::listen(&mut self.port, samples, &mut self.room, &mut self.notes);
+        for (i, &sample) in samples[..given].iter().enumerate() {
+            self.sample(i, sample, tally).map_err(|what| (i, what))?;
+        }
+        let last = given - 1;
+        self.bulk(before, room, samples, given)
+            .map_err(|what| (last, what))?;
+        tally.bulk += given as u64;
+        let written = if self.notes.numbers(last)[ANSWER] == NO_KIND {
+            0
+        } else {
+            192
+        };
+        let kept = floats_differ("room, place", &room[written..], &self.room[written..]);
+        unequal(kept).map_err(|what| (last, what))?;
+        tally.nan_kept += payloads(&room[written..]);
+        self.room = room;
+        match receivers_differ(&flat::receiver(&self.old), &self.port) {
+            Some(what) => Err((last, what)),
+            None => {
+                tally.whole += 1;
+                Ok(given)
+            }
+        }
+    }
+
+    /// One sample to the old modem, held against what the port noted.
+    fn sample(&mut self, i: usize, sample: i16, tally: &mut Tally) -> Result<(), String> {
+        let before = control(&self.old);
+        let frame = caught(|| self.old.demod(sample))?;
+        let after = control(&self.old);
+        let offer = take_offer();
+        let numbers = self.notes.numbers(i);
+        if numbers[REFUSAL] != 0 {
+            return Err(format!("the port refuses with {}", numbers[REFUSAL]));
+        }
+        if frame.is_some() != offer.as_ref().is_some_and(|offer| offer.accepted) {
+            return Err("the old modem's frame is not the reply's".to_string());
+        }
+        tally.samples += 1;
+        count(before, after, offer.as_ref(), tally);
+        if let Some(offer) = offer {
+            self.offer(i, &offer)?;
+            return self.reply(i, offer.accepted, tally);
+        }
+        if numbers[ANSWER] != NO_KIND {
+            return Err(say("offered kind", "none", numbers[ANSWER]));
+        }
+        carrier(&self.old, numbers[CARRIER], tally)?;
+        unequal(flat::scalars_differ(
+            &self.old,
+            numbers,
+            self.notes.values(i),
+        ))
+    }
+
+    /// The sample is finished by the reply; the old modem has finished it already.
+    fn reply(&mut self, i: usize, accepted: bool, tally: &mut Tally) -> Result<(), String> {
+        self.accepted = accepted;
+        port::reply(&mut self.port, accepted);
+        if self.port.numbers[REFUSAL] != 0 {
+            return Err(say("refusal of the reply", 0, self.port.numbers[REFUSAL]));
+        }
+        port::carrier(&mut self.port);
+        carrier(&self.old, self.port.numbers[ANSWER], tally)?;
+        let floats = &self.port.floats[flat::DIFF..];
+        let values = [floats[0], floats[1], floats[2], self.notes.values(i)[3]];
+        unequal(flat::scalars_differ(&self.old, &self.port.numbers, &values))
+    }
+
+    fn offer(&self, i: usize, offer: &Offer) -> Result<(), String> {
+        let numbers = self.notes.numbers(i);
+        let kind = KINDS
+            .get(numbers[ANSWER] as usize)
+            .map_or("none", |&kind| name(kind));
+        if kind != offer.kind {
+            return Err(say("offered kind", offer.kind, kind));
+        }
+        let count = control(&self.old).count;
+        if numbers[OFFERED_AT] != count {
+            return Err(say("the offer's sample number", count, numbers[OFFERED_AT]));
+        }
+        unequal(floats_differ("symbol", &offer.symbols, &self.room[..192]))
+    }
+
+    /// The same stretch in one call of `feed`, and the reply: the port with itself.
+    fn bulk(
+        &self,
+        mut record: Receiver,
+        mut room: [f32; ROOM],
+        samples: &[i16],
+        given: usize,
+    ) -> Result<(), String> {
+        let taken = port::feed(&mut record, samples, &mut room);
+        let noted = &self.notes.numbers(given - 1)[REFUSAL..=OFFERED_AT];
+        if taken != given || record.numbers[REFUSAL..=OFFERED_AT] != *noted {
+            return Err(format!(
+                "`feed` takes {taken} samples, `demod` {given}, or answers otherwise"
+            ));
+        }
+        unequal(floats_differ("room after `feed`, place", &self.room, &room))?;
+        if record.numbers[ANSWER] != NO_KIND {
+            port::reply(&mut record, self.accepted);
+        }
+        unequal(receivers_differ(&self.port, &record).map(|what| format!("`feed`: {what}")))
+    }
+}
+
+/// The Rust's own query always says no (listed); its timer is what is compared.
+fn carrier(old: &SoftDemodulator, answer: u64, tally: &mut Tally) -> Result<(), String> {
+    let held = control(old).timer.is_some();
+    if answer != u64::from(held) {
+        return Err(say("carrier (timer held)", held, answer));
+    }
+    if old.data_carrier_detect() {
+        return Err("the old modem's own query says yes".to_string());
+    }
+    tally.carrier_yes += answer;
+    Ok(())
+}
+
+fn unequal(what: Option<String>) -> Result<(), String> {
+    what.map_or(Ok(()), Err)
+}
+
+/// What a sample did, by the old modem's fields before and after it.
+fn count(before: Control, after: Control, offer: Option<&Offer>, tally: &mut Tally) {
+    let due = before.candidate.filter(|_| before.wait == Some(1));
+    let held = if due.is_some() {
+        None
+    } else {
+        before.candidate
+    };
+    count_timer(before, after, tally);
+    let older = held.zip(after.candidate);
+    let aged = older.is_some_and(|(held, now)| held.burst == now.burst && now.age == held.age + 1);
+    let changed = held != after.candidate;
+    let took = changed && !aged && after.candidate.is_some();
+    tally.ages += u64::from(changed && aged);
+    tally.takes += u64::from(took);
+    tally.replaced += u64::from(took && older.is_some_and(|(held, now)| held.burst != now.burst));
+    tally.ties += u64::from(took && older.is_some_and(|(held, now)| held.diff == now.diff));
+    if after.wait.is_some() && before.wait.is_none_or(|left| left == 1) {
+        tally.waits += 1;
+        tally.waits_kept += u64::from(changed);
+    }
+    match offer {
+        Some(offer) => count_offer(offer, took, tally),
+        None => {
+            let bert = due.is_some_and(|held| held.burst == SyncBurst::Bert);
+            tally.bert_due += u64::from(bert);
+        }
+    }
+}
+
+fn count_timer(before: Control, after: Control, tally: &mut Tally) {
+    match (before.timer, after.timer) {
+        (Some(_), None) => tally.timers_cleared += 1,
+        (was, Some(end)) if was != Some(end) => {
+            tally.timers_set += 1;
+            tally.timers_sooner += u64::from(was.is_some_and(|was| end < was));
+        }
+        _ => {}
+    }
+}
+
+fn count_offer(offer: &Offer, took: bool, tally: &mut Tally) {
+    tally.offers += 1;
+    match offer.kind {
+        "lsf" => tally.offers_lsf += 1,
+        "stream" => tally.offers_stream += 1,
+        _ => tally.offers_packet += 1,
+    }
+    if offer.accepted {
+        tally.accepted += 1;
+    } else {
+        tally.rejected += 1;
+        tally.taken_on_reject += u64::from(took);
+    }
+}

@@ -1,0 +1,248 @@
+//! Made-up receiver records: fit ones that no run reaches, and ones that one of document 01's phrases spoils.
+
+use super::flat::*;
+use super::refusals::tested;
+use super::steps::{Case, Step};
+use super::values::{in_range, nan, out_of_range};
+use crate::decode::{signs, sync_burst_correlation, SyncBurst, KINDS};
+use crate::modem::peek::{Control, Held};
+use crate::random::Random;
+use crate::shaping::RRC_48K;
+
+const LAST: u64 = 1 << 63;
+
+/// The bursts whose last symbol is positive, and the others.
+const UP: [SyncBurst; 3] = [
+    SyncBurst::Bert,
+    SyncBurst::Stream,
+    SyncBurst::EndOfTransmission,
+];
+const DOWN: [SyncBurst; 3] = [SyncBurst::Lsf, SyncBurst::Packet, SyncBurst::Preamble];
+
+pub fn made_up(random: &mut Random) -> Case {
+    let step = match random.below(16) {
+        0..=9 => Step::Sample {
+            sample: any_sample(random),
+            accepted: random.below(2) == 0,
+        },
+        10..=13 => Step::Reply {
+            accepted: random.below(4) == 0,
+        },
+        _ => Step::Query,
+    };
+    let mut record = rings(random);
+    let owed = matches!(step, Step::Reply { .. }) || random.below(60) == 0;
+    let eight = burst(random, &mut record, &step);
+    let control = control(random, owed, eight);
+    record.set_control(control, owed && random.below(40) > 0);
+    if random.below(3) > 0 {
+        lay_not_numbers(random, &mut record, &step);
+    }
+    if random.below(8) == 0 {
+        spoil(random, &mut record, &step);
+    }
+    let size = match random.below(40) {
+        0 => random.below(192),
+        1 => 0,
+        _ => 192 + random.below(9),
+    };
+    let room = (0..size).map(|_| nan(random)).collect();
+    Case { record, step, room }
+}
+
+fn any_sample(random: &mut Random) -> i16 {
+    match random.below(8) {
+        0 => *random.pick(&[0, i16::MAX, i16::MIN]),
+        _ => random.sample(),
+    }
+}
+
+/// Both rings with their cursors, and nothing else.
+fn rings(random: &mut Random) -> Receiver {
+    let mut record = Receiver::empty();
+    let level = *random.pick(&[0, 20, 500, 32_767]);
+    record.window = [(); 81].map(|()| random.around(level) as i16);
+    let scale = *random.pick(&[0.0, 1.0, 40.0, 1000.0, 1_000_000.0]);
+    for value in &mut record.floats[..1920] {
+        *value = in_range(random, scale);
+    }
+    record.numbers[FILTER_CURSOR] = random.below(81) as u64;
+    record.numbers[RX_CURSOR] = match random.below(4) {
+        0 => random.below(80) as u64,
+        _ => random.below(1920) as u64,
+    };
+    record
+}
+
+/// The filtered value of the window from a cursor on: one rounding an operation, in the Rust's order.
+fn filtered(window: &[i16; 81], cursor: usize) -> f32 {
+    let mut out = 0.0;
+    for (i, tap) in RRC_48K.iter().enumerate() {
+        out += tap * f32::from(window[(cursor + i) % 81]);
+    }
+    out
+}
+
+/// Lays a burst, more or less exact, in the seven places that the search reads besides the newest value, and
+/// gives the eight. What the newest value is hangs on the window.
+fn burst(random: &mut Random, record: &mut Receiver, step: &Step) -> [f32; 8] {
+    let (cursor, rx) = record.cursors();
+    let newest = match *step {
+        Step::Sample { sample, .. } => {
+            let mut window = record.window;
+            window[cursor] = sample;
+            filtered(&window, (cursor + 1) % 81)
+        }
+        _ => {
+            let newest = filtered(&record.window, cursor);
+            // What a reply searches: the newest value is the last sample's.
+            record.floats[(rx + 1919) % 1920] = newest;
+            newest
+        }
+    };
+    let after = if matches!(step, Step::Sample { .. }) {
+        rx + 1
+    } else {
+        rx
+    };
+    let place = |j: usize| (after + 1919 + 1920 - 10 * (7 - j)) % 1920;
+    if random.below(4) > 0 {
+        let signs = signs(*random.pick(if newest > 0.0 { &UP } else { &DOWN }));
+        let offset = newest.abs() * random.unit() * *random.pick(&[0.0, 0.05, 0.35]);
+        let gain = (newest - offset).abs();
+        let noise = gain * *random.pick(&[0.0, 0.01, 0.2, 0.5]);
+        for (j, sign) in signs[..7].iter().enumerate() {
+            record.floats[place(j)] = gain * sign + offset + noise * random.unit();
+        }
+    }
+    let mut eight = [newest; 8];
+    for (j, value) in eight[..7].iter_mut().enumerate() {
+        *value = record.floats[place(j)];
+    }
+    eight
+}
+
+fn control(random: &mut Random, owed: bool, eight: [f32; 8]) -> Control {
+    let mut count = match random.below(8) {
+        0 => LAST,
+        1 => LAST - 1,
+        2 => random.below(3) as u64,
+        _ => (u64::from(random.word()) << 31 | u64::from(random.word())) >> random.below(60),
+    };
+    if owed {
+        // A reply is owed for a sample, so the old modem's count before it is one less.
+        count = count.max(1);
+    }
+    let candidate = (!owed && random.below(5) > 0).then(|| held(random, eight));
+    let wait = (candidate.is_some() && random.below(2) == 0).then(|| match random.below(4) {
+        0 => 2,
+        1 => 1 + random.below(1839) as u16,
+        _ => 1,
+    });
+    let timer = (random.below(3) > 0).then(|| match random.below(7) {
+        0 => 0,
+        1 => LAST + 3840,
+        2 => count.saturating_sub(1),
+        3 => count,
+        4 => count + 1,
+        5 => count + 239,
+        _ => count + random.below(3900) as u64,
+    });
+    Control {
+        count,
+        candidate,
+        wait,
+        timer: timer.map(|end| end.min(LAST + 3840)),
+    }
+}
+
+/// A candidate; its diff is often that of the match at hand, or a step from it.
+fn held(random: &mut Random, eight: [f32; 8]) -> Held {
+    let kind = *random.pick(&KINDS);
+    let found = KINDS
+        .iter()
+        .map(|kind| sync_burst_correlation(kind.target(), &eight).0)
+        .find(|&diff| diff < 100.0);
+    let diff = match (found, random.below(5)) {
+        (Some(diff), 0) => diff,
+        (Some(diff), 1) => f32::from_bits(diff.to_bits() + 1),
+        (Some(diff), 2) if diff > 0.0 => f32::from_bits(diff.to_bits() - 1),
+        (_, 3) => *random.pick(&[0.0, -0.0, 1e-45, 2.4, 99.999_99]),
+        _ => random.unit().abs() * 3.0,
+    };
+    Held {
+        burst: kind,
+        age: *random.pick(&[1, 1, 2, 3, 9, 10, 100, 253, 254, 254]),
+        diff,
+        gain: *random.pick(&[16.0, 16.000_002, 100.0, 35_461.0, 1_000_000.0]),
+        shift: *random.pick(&[0.0, -0.0, 5.0, -700.25, 1_000_000.0, -1_000_000.0]),
+    }
+}
+
+/// Not-a-numbers and what is out of range, with payloads, in places that the call does not test.
+fn lay_not_numbers(random: &mut Random, record: &mut Receiver, step: &Step) {
+    let mut free = [true; 1920];
+    for place in tested(record, step) {
+        free[place] = false;
+    }
+    let one_in = *random.pick(&[1, 2, 30]);
+    for (place, free) in free.into_iter().enumerate() {
+        if free && random.below(one_in) == 0 {
+            record.floats[place] = out_of_range(random);
+        }
+    }
+}
+
+/// One thing, or two, that the unfit list names.
+fn spoil(random: &mut Random, record: &mut Receiver, step: &Step) {
+    for _ in 0..1 + random.below(2) {
+        let places: Vec<usize> = tested(record, step).collect();
+        let (n, f) = (&mut record.numbers, &mut record.floats);
+        match random.below(13) {
+            0 => n[FILTER_CURSOR] = *random.pick(&[81, 82, u64::MAX]),
+            // A cursor this large is tested no further.
+            1 => {
+                n[RX_CURSOR] = *random.pick(&[1920, 1921, u64::MAX]);
+                return;
+            }
+            2 => n[COUNT] = *random.pick(&[LAST + 1, u64::MAX]),
+            3 => (n[TIMER_HELD], n[TIMER_END]) = (1, *random.pick(&[LAST + 3841, u64::MAX])),
+            4 => hold(n, f, *random.pick(&[0, 255]), 1.0, 20.0, 0.0),
+            5 => {
+                let nan = nan(random);
+                let diff = *random.pick(&[-1e-45, 100.0, f32::INFINITY, nan]);
+                hold(n, f, 1, diff, 20.0, 0.0);
+            }
+            6 => {
+                let nan = nan(random);
+                let gain = *random.pick(&[15.999_999, 1_000_000.06, -16.0, nan]);
+                hold(n, f, 1, 1.0, gain, 0.0);
+            }
+            7 => hold(n, f, 1, 1.0, 20.0, out_of_range(random)),
+            8 => {
+                hold(n, f, 1, 1.0, 20.0, 0.0);
+                (n[WAIT_HELD], n[WAIT_LEFT]) = (1, *random.pick(&[0, 1840, 65_535]));
+            }
+            9 => {
+                let_go(n, f);
+                (n[WAIT_HELD], n[WAIT_LEFT]) = (1, 1 + random.below(1839) as u64);
+            }
+            10 => {
+                hold(n, f, 1, 1.0, 20.0, 0.0);
+                n[OWED] = 1;
+            }
+            _ if places.is_empty() => {}
+            _ => f[*random.pick(&places)] = out_of_range(random),
+        }
+    }
+}
+
+fn hold(n: &mut [u64; NUMBERS], f: &mut [f32; 1923], age: u64, diff: f32, gain: f32, shift: f32) {
+    (n[KIND], n[AGE]) = (2, age);
+    f[DIFF..].copy_from_slice(&[diff, gain, shift]);
+}
+
+fn let_go(n: &mut [u64; NUMBERS], f: &mut [f32; 1923]) {
+    (n[KIND], n[AGE]) = (NO_KIND, 0);
+    f[DIFF..].copy_from_slice(&[0.0; 3]);
+}

@@ -1,0 +1,98 @@
+//! Which refusal document 01 gives for a call: 'Refusal numbers' and the two unfit lists, the smallest number
+//! first; 0 for none. The old modem has none of them.
+
+use super::calls::{Call, Frame};
+use super::flat::*;
+use super::steps::Step;
+
+const LAST: u64 = 1 << 63;
+const LIMIT: f32 = 1_000_000.0;
+const LARGEST_COUNT: u64 = 16_777_216;
+
+fn within(value: f32, limit: f32) -> bool {
+    (-limit..=limit).contains(&value)
+}
+
+/// The ring's places that a call tests, newest first.
+pub fn tested(record: &Receiver, step: &Step) -> impl Iterator<Item = usize> {
+    let cursor = record.numbers[RX_CURSOR] as usize;
+    let due = record.numbers[WAIT_HELD] == 1 && record.numbers[WAIT_LEFT] == 1;
+    let (back, count) = match step {
+        Step::Sample { .. } => (10, if due { 191 } else { 7 }),
+        Step::Reply { .. } => (1, 8),
+        Step::Query => (0, 0),
+    };
+    (0..count).map(move |j| (cursor + 3840 - back - 10 * j) % 1920)
+}
+
+fn candidate_fit(record: &Receiver) -> bool {
+    let f = &record.floats;
+    record.numbers[KIND] == NO_KIND
+        || (1..=254).contains(&record.numbers[AGE])
+            && f[DIFF] >= 0.0
+            && f[DIFF] < 100.0
+            && (16.0..=LIMIT).contains(&f[GAIN])
+            && within(f[SHIFT], LIMIT)
+}
+
+fn wait_fit(record: &Receiver) -> bool {
+    let n = &record.numbers;
+    n[WAIT_HELD] == 0 || (1..=1839).contains(&n[WAIT_LEFT]) && n[KIND] != NO_KIND && n[OWED] == 0
+}
+
+fn receiver_fit(record: &Receiver, step: &Step) -> bool {
+    let n = &record.numbers;
+    n[FILTER_CURSOR] < 81
+        && n[RX_CURSOR] < 1920
+        && n[COUNT] <= LAST
+        && (n[TIMER_HELD] == 0 || n[TIMER_END] <= LAST + 3840)
+        && candidate_fit(record)
+        && wait_fit(record)
+        && !(n[OWED] == 1 && n[KIND] != NO_KIND)
+        && tested(record, step).all(|place| within(record.floats[place], LIMIT))
+}
+
+pub fn of_receiver(record: &Receiver, step: &Step, room: usize) -> u64 {
+    let n = &record.numbers;
+    if !receiver_fit(record, step) {
+        return 1;
+    }
+    match step {
+        Step::Sample { .. } if n[OWED] == 1 => 2,
+        Step::Sample { .. } if room < 192 => 4,
+        Step::Sample { .. } if n[COUNT] == LAST => 5,
+        Step::Reply { .. } if n[OWED] == 0 => 3,
+        _ => 0,
+    }
+}
+
+fn sender_fit(record: &Sender) -> bool {
+    let n = &record.numbers;
+    n[CURSOR] <= 80
+        && record.window.iter().all(|&value| within(value, 35_461.0))
+        && n[LENGTH] <= 4000
+        && n[READ] <= n[LENGTH]
+        && n[PADDING] <= 122_400
+        && [n[FILL], n[CAPACITY], n[LATENCY]]
+            .iter()
+            .all(|&count| count <= LARGEST_COUNT)
+        && n[FILL] <= n[CAPACITY]
+        && (n[END_HELD] == 0 || n[END] <= 2 * LARGEST_COUNT)
+}
+
+pub fn of_sender(record: &Sender, call: &Call) -> u64 {
+    if !sender_fit(record) {
+        return 1;
+    }
+    match call {
+        Call::Provide(Frame::Symbols, symbols) if symbols.len() != 192 => 6,
+        Call::Provide(Frame::Symbols, symbols)
+            if !symbols.iter().all(|&symbol| within(symbol, 1.0)) =>
+        {
+            7
+        }
+        Call::Update(counts) if counts.iter().any(|&count| count > LARGEST_COUNT) => 8,
+        Call::Update([fill, capacity, _]) if capacity < fill => 9,
+        _ => 0,
+    }
+}

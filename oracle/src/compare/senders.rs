@@ -1,0 +1,133 @@
+//! Made-up sender records, one call each.
+
+use super::calls::{written, Call, Pair};
+use super::flat::*;
+use super::sessions::{any_call, any_window};
+use super::smallest::plainer;
+use super::tally::Tally;
+use super::values::out_of_range;
+use super::Difference;
+use crate::bits::row;
+use crate::random::Random;
+
+/// So many records, or up to the first that shows a difference.
+pub fn compare(random: &mut Random, records: u64, tally: &mut Tally) -> Option<Difference> {
+    while tally.sender_records < records {
+        let mut record = made_up(random);
+        if random.below(8) == 0 {
+            spoil(random, &mut record);
+        }
+        let call = loop {
+            match any_call(random) {
+                Call::Window(..) => {}
+                call => break call,
+            }
+        };
+        if let Some(what) = difference(&record, &call, tally) {
+            return Some(smallest(record, &call, what));
+        }
+        tally.sender_records += 1;
+    }
+    None
+}
+
+fn smallest(mut record: Sender, call: &Call, what: String) -> Difference {
+    let shows = |record: &Sender| difference(record, call, &mut Tally::default()).is_some();
+    let mut store = record.store;
+    plainer(&mut store, 0, &mut |part| {
+        record.store.copy_from_slice(part);
+        shows(&record)
+    });
+    record.store = store;
+    let mut window = record.window;
+    plainer(&mut window, 0.0, &mut |part| {
+        record.window.copy_from_slice(part);
+        shows(&record)
+    });
+    record.window = window;
+    let what = difference(&record, call, &mut Tally::default()).unwrap_or(what);
+    Difference {
+        what: format!("sender, a made-up record, {what}"),
+        input: format!(
+            "{}; numbers {:?}; window {}; store {:?}",
+            written(call),
+            &record.numbers[..=CAPACITY],
+            row(&record.window),
+            record.store
+        ),
+    }
+}
+
+fn difference(record: &Sender, call: &Call, tally: &mut Tally) -> Option<String> {
+    // The old modem takes any record; it is asked only where the port does not refuse.
+    let mut pair = Pair {
+        old: old_sender(record),
+        port: record.clone(),
+        frames: record.numbers[PADDING] as usize,
+    };
+    match pair.call(call, tally) {
+        Err(what) => return Some(what),
+        Ok(false) => tally.sender_record_refusals += 1,
+        Ok(true) => {
+            tally.sender_record_calls += 1;
+            let ends = [i16::MAX, i16::MIN];
+            let cut = pair.port.store.iter().any(|sample| ends.contains(sample));
+            tally.cut_high += u64::from(cut && matches!(call, Call::Provide(..)));
+        }
+    }
+    None
+}
+
+/// A fit record. The store holds no sample at i16's ends, so that a cut one shows.
+fn made_up(random: &mut Random) -> Sender {
+    let mut record = Sender::empty();
+    let level = *random.pick(&[1, 1000, 32_766]);
+    record.store = [(); 4000].map(|()| random.around(level) as i16);
+    record.window = any_window(random);
+    let length: u64 = *random.pick(&[0, 1, 1920, 2720, 3999, 4000]);
+    let read = *random.pick(&[0, length / 2, length.saturating_sub(1), length]);
+    let padding = *random.pick(&[0, 0, 1, 80, 480, 122_400]);
+    let mut count = |most: usize| random.below(most + 1) as u64;
+    let (a, b) = (count(16_777_216), count(16_777_216));
+    let latency = count(16_777_216);
+    let end = count(33_554_432);
+    let flags = count(31);
+    record.numbers[..=CAPACITY].copy_from_slice(&[
+        random.below(81) as u64,
+        length,
+        read,
+        padding,
+        flags & 1,
+        flags >> 1 & 1,
+        flags >> 2 & 1,
+        if flags >> 2 & 1 == 1 { end } else { 0 },
+        flags >> 3 & 1,
+        if flags >> 4 == 1 {
+            latency
+        } else {
+            latency % 1000
+        },
+        a.min(b),
+        a.max(b),
+    ]);
+    record
+}
+
+/// One thing, or two, that the unfit list names.
+fn spoil(random: &mut Random, record: &mut Sender) {
+    for _ in 0..1 + random.below(2) {
+        let n = &mut record.numbers;
+        match random.below(10) {
+            0 => n[CURSOR] = *random.pick(&[81, 82, u64::MAX]),
+            1 => record.window[random.below(81)] = out_of_range(random),
+            2 => record.window[random.below(81)] = *random.pick(&[35_461.004, -35_461.004]),
+            3 => n[LENGTH] = *random.pick(&[4001, u64::MAX]),
+            4 => n[READ] = n[LENGTH].wrapping_add(1),
+            5 => n[PADDING] = *random.pick(&[122_401, u64::MAX]),
+            6 => n[FILL + random.below(2)] = *random.pick(&[16_777_217, u64::MAX]),
+            7 => n[LATENCY] = *random.pick(&[16_777_217, u64::MAX]),
+            8 => (n[FILL], n[CAPACITY]) = (1 + n[CAPACITY].min(16_777_215), n[CAPACITY]),
+            _ => (n[END_HELD], n[END]) = (1, *random.pick(&[33_554_433, u64::MAX])),
+        }
+    }
+}

@@ -1,0 +1,187 @@
+//! Sessions: both senders from fresh, call by call.
+
+use super::calls::{written, Call, Frame, Pair};
+use super::flat::{self, senders_differ, ACTION};
+use super::smallest::fewer;
+use super::tally::Tally;
+use super::values::nan;
+use super::{port, Difference};
+use crate::modem::SoftModulator;
+use crate::random::Random;
+use crate::shaping::RRC_48K;
+use crate::signal::DIBITS;
+
+/// Calls until so many are compared, or one shows a difference.
+pub fn compare(random: &mut Random, calls: u64, tally: &mut Tally) -> Option<Difference> {
+    while tally.calls < calls {
+        let session: Vec<Call> = (0..200).map(|_| any_call(random)).collect();
+        if let Some((at, what)) = difference(&session, tally) {
+            return Some(smallest(&session[..=at], what));
+        }
+        tally.sessions += 1;
+    }
+    None
+}
+
+fn smallest(calls: &[Call], what: String) -> Difference {
+    let mut calls = calls.to_vec();
+    fewer(&mut calls, &mut |part| {
+        difference(part, &mut Tally::default()).is_some()
+    });
+    let what = difference(&calls, &mut Tally::default()).map_or(what, |(_, what)| what);
+    let lines: Vec<String> = calls.iter().map(written).collect();
+    Difference {
+        what: format!("sender, a session from fresh, {what}"),
+        input: lines.join("; "),
+    }
+}
+
+/// The place of the first call after which the two differ, and in what.
+fn difference(calls: &[Call], tally: &mut Tally) -> Option<(usize, String)> {
+    let mut pair = Pair {
+        old: SoftModulator::new(),
+        port: port::fresh_sender(),
+        frames: 0,
+    };
+    if let Some(what) = senders_differ(&flat::sender(&pair.old), &pair.port) {
+        return Some((0, what));
+    }
+    for (i, call) in calls.iter().enumerate() {
+        let unread = pair.unread();
+        match pair.call(call, tally) {
+            Err(what) => return Some((i, format!("after call {}: {what}", i + 1))),
+            Ok(false) => tally.call_refusals += 1,
+            Ok(true) => count(call, unread, pair.port.numbers[ACTION], tally),
+        }
+    }
+    None
+}
+
+fn count(call: &Call, unread: bool, action: u64, tally: &mut Tally) {
+    match call {
+        Call::Window(..) => {
+            tally.windows += 1;
+            return;
+        }
+        Call::Provide(Frame::None, _) => tally.frames += 1,
+        Call::Provide(..) => {
+            tally.frames += 1;
+            tally.replaced_unread += u64::from(unread);
+        }
+        Call::Read(_) => tally.reads += 1,
+        Call::Update(_) => tally.updates += 1,
+        Call::Run => {
+            tally.actions += 1;
+            tally.ends += u64::from(action == 1);
+        }
+    }
+    tally.calls += 1;
+}
+
+/// Any call, one in thirty of them one that is refused.
+pub fn any_call(random: &mut Random) -> Call {
+    match random.below(60) {
+        0 | 1 => refused_call(random),
+        2 => Call::Window(random.below(81), Box::new(any_window(random))),
+        3..=5 => Call::Provide(Frame::None, unread_symbols(random)),
+        6..=8 => {
+            let steps = *random.pick(&[0, 1, 2, 3, 50, 255]);
+            Call::Provide(Frame::Preamble(steps), unread_symbols(random))
+        }
+        9..=12 => Call::Provide(Frame::Symbols, symbols(random)),
+        13..=14 => Call::Provide(Frame::End, unread_symbols(random)),
+        15..=30 => {
+            let sizes = [
+                0, 1, 9, 10, 81, 400, 960, 1919, 1920, 1921, 2720, 4000, 5000, 130_000,
+            ];
+            let most = *random.pick(&sizes);
+            Call::Read(if random.below(2) == 0 {
+                most
+            } else {
+                random.below(most + 1)
+            })
+        }
+        31..=42 => Call::Update(any_counts(random)),
+        _ => Call::Run,
+    }
+}
+
+fn any_counts(random: &mut Random) -> [u64; 3] {
+    let largest = *random.pick(&[0, 10, 1200, 4000, 100_000, 16_777_216]);
+    let mut count = || random.below(largest + 1) as u64;
+    let (a, b, latency) = (count(), count(), count());
+    let (fill, capacity) = (a.min(b), a.max(b));
+    let room = *random.pick(&[1999, 2000, 2001, 0, 16_777_216]);
+    match random.below(3) {
+        0 => [fill, (fill + room).min(16_777_216), latency],
+        1 => [0, capacity, latency],
+        _ => [fill, capacity, latency],
+    }
+}
+
+fn refused_call(random: &mut Random) -> Call {
+    let above = 16_777_217 + random.below(3) as u64;
+    match random.below(5) {
+        0 => {
+            let count = *random.pick(&[0, 1, 191, 193, 400]);
+            Call::Provide(Frame::Symbols, vec![0.5; count])
+        }
+        1 => {
+            let mut symbols = symbols(random);
+            let bad = *random.pick(&[1.000_000_1, -1.000_000_1, f32::INFINITY, f32::NAN]);
+            symbols[random.below(192)] = bad;
+            Call::Provide(Frame::Symbols, symbols)
+        }
+        2 => {
+            let mut counts = any_counts(random);
+            counts[random.below(3)] = above;
+            Call::Update(counts)
+        }
+        3 => Call::Update([u64::MAX, 0, 0]),
+        _ => {
+            let fill = 1 + random.below(5000) as u64;
+            Call::Update([fill, fill - 1, 0])
+        }
+    }
+}
+
+/// Symbols of every sort that is let through.
+fn symbols(random: &mut Random) -> Vec<f32> {
+    let corners = [0.0, -0.0, 1.0, -1.0, 1e-45, -1e-45, f32::MIN_POSITIVE];
+    let sort = random.below(4);
+    (0..192)
+        .map(|_| match sort {
+            0 => random.unit(),
+            1 => random.unit() / (1u32 << random.below(31)) as f32,
+            2 => *random.pick(&corners),
+            _ => *random.pick(&DIBITS),
+        })
+        .collect()
+}
+
+/// What stands beside a frame that takes nothing from it: not-a-numbers too, and any number of them.
+fn unread_symbols(random: &mut Random) -> Vec<f32> {
+    let count = *random.pick(&[0, 1, 192, 193]);
+    (0..count).map(|_| nan(random)).collect()
+}
+
+/// A window as no frame leaves it: its sums can pass i16.
+pub fn any_window(random: &mut Random) -> [f32; 81] {
+    let sort = random.below(4);
+    let side = if random.below(2) == 0 {
+        35_461.0
+    } else {
+        -35_461.0
+    };
+    let turn = random.below(81);
+    let mut window = [0.0; 81];
+    for (i, value) in window.iter_mut().enumerate() {
+        *value = match sort {
+            0 => random.unit() * 35_461.0,
+            1 => side * RRC_48K[(i + turn) % 81].signum(),
+            2 => *random.pick(&[0.0, -0.0, 35_461.0, -35_461.0, 1e-45, 1.0]),
+            _ => side,
+        };
+    }
+    window
+}

@@ -1,0 +1,294 @@
+//! One call on a made-up receiver record, to both sides.
+
+use super::flat::*;
+use super::port::{self, Notes};
+use super::receivers::made_up;
+use super::refusals::of_receiver;
+use super::smallest::plainer;
+use super::tally::Tally;
+use super::values::payloads;
+use super::{caught, Difference};
+use crate::bits::row;
+use crate::decode::{name, KINDS};
+use crate::harness::{lay_replies, take_offer, Offer};
+use crate::modem::peek::{control, Control, Held};
+use crate::modem::{lay, Demodulator, SoftDemodulator};
+use crate::random::Random;
+
+#[derive(Clone, Copy, Debug)]
+pub enum Step {
+    /// A sample, and the reply to the offer that it may bring.
+    Sample {
+        sample: i16,
+        accepted: bool,
+    },
+    Reply {
+        accepted: bool,
+    },
+    Query,
+}
+
+pub struct Case {
+    pub record: Receiver,
+    pub step: Step,
+    pub room: Vec<f32>,
+}
+
+/// So many records, or up to the first that shows a difference.
+pub fn compare(random: &mut Random, records: u64, tally: &mut Tally) -> Option<Difference> {
+    while tally.receiver_records < records {
+        let case = made_up(random);
+        if let Err(what) = compared(&case, tally) {
+            return Some(smallest(case, what));
+        }
+        tally.receiver_records += 1;
+    }
+    None
+}
+
+fn smallest(mut case: Case, what: String) -> Difference {
+    let mut floats = case.record.floats;
+    plainer(&mut floats[..1920], 0.0, &mut |part| {
+        case.record.floats[..1920].copy_from_slice(part);
+        compared(&case, &mut Tally::default()).is_err()
+    });
+    case.record.floats = floats;
+    let mut window = case.record.window;
+    plainer(&mut window, 0, &mut |part| {
+        case.record.window.copy_from_slice(part);
+        compared(&case, &mut Tally::default()).is_err()
+    });
+    case.record.window = window;
+    let shown = compared(&case, &mut Tally::default());
+    let what = shown.err().unwrap_or(what);
+    let laid = |(place, value): (usize, &f32)| format!("{place}: {}", pattern(*value));
+    let ring: Vec<String> = (case.record.floats[..1920].iter().enumerate())
+        .filter(|(_, value)| value.to_bits() != 0)
+        .map(laid)
+        .collect();
+    Difference {
+        what: format!("receiver, a made-up record, {what}"),
+        input: format!(
+            "{:?}; room {}; numbers {:?}; diff, gain, shift {}; window {:?}; ring, where it is not 0.0: {}",
+            case.step,
+            case.room.len(),
+            &case.record.numbers[..=OWED],
+            row(&case.record.floats[DIFF..]),
+            case.record.window,
+            ring.join(", ")
+        ),
+    }
+}
+
+fn compared(case: &Case, tally: &mut Tally) -> Result<(), String> {
+    let expected = of_receiver(&case.record, &case.step, case.room.len());
+    let mut port = case.record.clone();
+    let mut room = case.room.clone();
+    let mut notes = Notes::new(1);
+    match case.step {
+        Step::Sample { sample, .. } => {
+            port::listen(&mut port, &[sample], &mut room, &mut notes);
+            port.numbers[REFUSAL..].copy_from_slice(&notes.numbers[REFUSAL..]);
+            fed(case, sample, &port, &room)?;
+        }
+        Step::Reply { accepted } => port::reply(&mut port, accepted),
+        Step::Query => port::carrier(&mut port),
+    }
+    if port.numbers[REFUSAL] != expected {
+        return Err(say(
+            "refusal by document 01",
+            expected,
+            port.numbers[REFUSAL],
+        ));
+    }
+    if expected != 0 {
+        unchanged(case, &port, &room)
+            .map_err(|what| format!("after refusal {expected}, {what}"))?;
+        tally.record_refusals += 1;
+        tally.refused(expected);
+        tally.nan_refused += payloads(&port.floats) + payloads(&room);
+        return Ok(());
+    }
+    match case.step {
+        Step::Sample { sample, accepted } => sampled(case, sample, accepted, port, &room, tally),
+        Step::Reply { accepted } => {
+            count_minus_zeros(&port, accepted, tally);
+            replied(case, accepted, &port, tally)
+        }
+        Step::Query => queried(case, &port, &room, tally),
+    }
+}
+
+/// The room and the record are as they were, by their bytes.
+/// The same sample by `feed`: record, answer and room as by `demod`, by their bytes.
+fn fed(case: &Case, sample: i16, port: &Receiver, room: &[f32]) -> Result<(), String> {
+    let (mut record, mut lent) = (case.record.clone(), case.room.clone());
+    port::feed(&mut record, &[sample], &mut lent);
+    if record.numbers[REFUSAL..=OFFERED_AT] != port.numbers[REFUSAL..=OFFERED_AT] {
+        return Err("`feed` answers otherwise than `demod`".to_string());
+    }
+    same(receivers_differ(port, &record))?;
+    same(floats_differ("room after `feed`, place", room, &lent))
+}
+
+fn unchanged(case: &Case, port: &Receiver, room: &[f32]) -> Result<(), String> {
+    let what = receivers_differ(&case.record, port)
+        .or_else(|| floats_differ("room, place", &case.room, room));
+    what.map_or(Ok(()), |what| {
+        Err(format!("with what was there as the old: {what}"))
+    })
+}
+
+fn sampled(
+    case: &Case,
+    sample: i16,
+    accepted: bool,
+    mut port: Receiver,
+    room: &[f32],
+    tally: &mut Tally,
+) -> Result<(), String> {
+    let (old, offer) = old_demod(old_receiver(&case.record), sample, accepted)?;
+    let kind = KINDS
+        .get(port.numbers[ANSWER] as usize)
+        .map(|&kind| name(kind));
+    if kind != offer.as_ref().map(|offer| offer.kind) {
+        return Err(say(
+            "offered kind",
+            offer.map_or("none", |offer| offer.kind),
+            kind.unwrap_or("none"),
+        ));
+    }
+    let mut expected_room = case.room.clone();
+    let mut spared = case.record.numbers[WAIT_LEFT] > 1;
+    if let Some(offer) = offer {
+        spared = accepted;
+        expected_room[..192].copy_from_slice(&offer.symbols);
+        let count = control(&old).count;
+        if port.numbers[OFFERED_AT] != count {
+            return Err(say(
+                "the offer's sample number",
+                count,
+                port.numbers[OFFERED_AT],
+            ));
+        }
+        port::reply(&mut port, accepted);
+        if port.numbers[REFUSAL] != 0 {
+            return Err(say("refusal of the reply", 0, port.numbers[REFUSAL]));
+        }
+        tally.record_offers += 1;
+    }
+    same(receivers_differ(&receiver(&old), &port))?;
+    same(floats_differ("room, place", &expected_room, room))?;
+    tally.record_samples += 1;
+    tally.nan_kept += payloads(&port.floats) + payloads(room);
+    count_minus_zeros(&port, spared, tally);
+    let changed = port.numbers[KIND..=AGE] != case.record.numbers[KIND..=AGE];
+    tally.record_searches += u64::from(changed && port.numbers[KIND] != NO_KIND);
+    let tie = case.record.floats[DIFF] == port.floats[DIFF] && port.numbers[KIND] != NO_KIND;
+    let three = DIFF..=SHIFT;
+    tally.record_ties += u64::from(tie && case.record.floats[three.clone()] != port.floats[three]);
+    if port.numbers[AGE] == 255 {
+        refused_at_255(&mut port, &old, tally)?;
+    }
+    Ok(())
+}
+
+/// The one step behind document 01's age: the port refuses it, where the Rust goes on.
+fn refused_at_255(
+    port: &mut Receiver,
+    old: &SoftDemodulator,
+    tally: &mut Tally,
+) -> Result<(), String> {
+    let mut notes = Notes::new(1);
+    port::listen(port, &[0], &mut [0.0; 192], &mut notes);
+    if notes.numbers[REFUSAL] != 1 {
+        return Err(say(
+            "refusal at age 255, by document 01",
+            1,
+            notes.numbers[REFUSAL],
+        ));
+    }
+    same(receivers_differ(&receiver(old), port))?;
+    tally.aged_255 += 1;
+    Ok(())
+}
+
+/// The old modem has no reply: it asks for the frame, and searches, inside the sample. So it is given the
+/// record of one sample before, with an LSF frame due, and the same sample again.
+fn replied(case: &Case, accepted: bool, port: &Receiver, tally: &mut Tally) -> Result<(), String> {
+    let (filter, rx) = case.record.cursors();
+    let cursors = ((filter + 80) % 81, (rx + 1919) % 1920);
+    let sample = case.record.window[cursors.0];
+    let now = case.record.control();
+    // A timer that has run out would be cleared by the sample, which lies before the reply.
+    let stale = now.timer.is_some_and(|end| end < now.count);
+    let before = Control {
+        count: now.count - 1,
+        candidate: Some(Held {
+            burst: KINDS[0],
+            age: 1,
+            diff: 0.0,
+            gain: 16.0,
+            shift: 0.0,
+        }),
+        wait: Some(1),
+        timer: now.timer.filter(|_| !stale),
+    };
+    let old = lay::receiver(cursors, &case.record.window, case.record.ring(), before);
+    let (old, offer) = old_demod(old, sample, accepted)?;
+    if offer.is_none() {
+        return Err("the old modem does not ask for the frame".to_string());
+    }
+    let mut expected = receiver(&old);
+    if stale && expected.numbers[TIMER_HELD] == 0 {
+        expected.numbers[TIMER_HELD] = 1;
+        expected.numbers[TIMER_END] = case.record.numbers[TIMER_END];
+    }
+    same(receivers_differ(&expected, port))?;
+    tally.record_replies += 1;
+    tally.stale_timers += u64::from(stale);
+    tally.nan_kept += payloads(&port.floats);
+    let changed = port.numbers[..OWED] != case.record.numbers[..OWED];
+    tally.record_searched += u64::from(changed);
+    Ok(())
+}
+
+fn queried(case: &Case, port: &Receiver, room: &[f32], tally: &mut Tally) -> Result<(), String> {
+    unchanged(case, port, room)?;
+    let old = old_receiver(&case.record);
+    let held = control(&old).timer.is_some();
+    if port.numbers[ANSWER] != u64::from(held) {
+        return Err(say("carrier (timer held)", held, port.numbers[ANSWER]));
+    }
+    // The listed difference: the Rust's own query always says no.
+    if old.data_carrier_detect() {
+        return Err("the old modem says yes".to_string());
+    }
+    tally.record_queries += 1;
+    tally.record_carrier_yes += u64::from(held);
+    tally.nan_kept += payloads(&port.floats) + payloads(room);
+    Ok(())
+}
+
+fn old_demod(
+    mut old: SoftDemodulator,
+    sample: i16,
+    accepted: bool,
+) -> Result<(SoftDemodulator, Option<Offer>), String> {
+    lay_replies(if accepted { "a" } else { "r" });
+    take_offer();
+    caught(|| old.demod(sample))?;
+    Ok((old, take_offer()))
+}
+
+/// Whether one of the eight values that a search read is -0.0; `spared` where none was made.
+fn count_minus_zeros(port: &Receiver, spared: bool, tally: &mut Tally) {
+    let rx = port.numbers[RX_CURSOR] as usize;
+    let mut eight = (0..8).map(|j| port.floats[(rx + 1919 + 1920 - 10 * j) % 1920]);
+    let minus_zero = eight.any(|value| value.to_bits() == (-0.0f32).to_bits());
+    tally.minus_zeros += u64::from(minus_zero && !spared);
+}
+
+fn same(what: Option<String>) -> Result<(), String> {
+    what.map_or(Ok(()), Err)
+}

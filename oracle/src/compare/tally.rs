@@ -1,0 +1,112 @@
+//! Counts of what was compared, so that a run says what it covered.
+
+use std::fmt::{self, Display, Formatter};
+
+macro_rules! tally {
+    ($($name:ident: $words:literal,)*) => {
+        #[derive(Default)]
+        pub struct Tally {
+            $(pub $name: u64,)*
+        }
+
+        impl Display for Tally {
+            fn fmt(&self, out: &mut Formatter) -> fmt::Result {
+                $(writeln!(out, "{:>14}  {}", grouped(self.$name), $words)?;)*
+                Ok(())
+            }
+        }
+    };
+}
+
+tally! {
+    recordings: "recordings, each from a fresh receiver",
+    samples: "samples: the filtered value, the candidate's floats and ten numbers after each",
+    bulk: "of them fed in bulk too (`feed`), the record compared with that of `demod`",
+    whole: "times the whole window and ring were compared",
+    offers: "offers: kind, sample number and 192 symbols",
+    offers_lsf: "  of LSF",
+    offers_stream: "  of Stream",
+    offers_packet: "  of Packet",
+    accepted: "  accepted",
+    rejected: "  rejected, with the search by the reply",
+    taken_on_reject: "  rejected, and a candidate taken by that search",
+    bert_due: "BERT frames due",
+    takes: "candidates taken",
+    replaced: "  in the place of another kind",
+    ties: "  in the place of one with the very same diff",
+    ages: "ages raised",
+    waits: "waits set",
+    waits_kept: "  with the candidate replaced or aged on that very sample",
+    timers_set: "carrier timers set or moved",
+    timers_sooner: "  to a sooner end",
+    timers_cleared: "carrier timers cleared",
+    carrier_yes: "carrier queries answered yes after a sample, where the Rust says no (listed)",
+    sessions: "sender sessions, each from a fresh sender",
+    calls: "sender calls: the answer, the room, the store, the window and twelve numbers after each",
+    frames: "  frames provided",
+    replaced_unread: "  of them in the place of unread samples",
+    reads: "  reads",
+    updates: "  updates",
+    actions: "  action requests",
+    ends: "  of them answered with a transmit end",
+    windows: "made-up windows laid in a session",
+    call_refusals: "sender calls refused in a session, record and room unchanged; the Rust is not asked (listed)",
+    receiver_records: "made-up receiver records, one call each",
+    record_samples: "  samples accepted",
+    record_offers: "  offers among them, with the reply",
+    record_searches: "  searches that took or aged a candidate",
+    record_ties: "  candidates taken in the place of one with the very same diff",
+    record_replies: "  replies accepted",
+    record_searched: "  rejections among them whose search changed the record",
+    stale_timers: "  replies with a timer that has run out, of which the Rust was given none",
+    record_queries: "  carrier queries",
+    record_carrier_yes: "  of them answered yes, where the Rust says no (listed)",
+    minus_zeros: "  searches with a -0.0 among the eight values, which the port hears as 0.0 (listed)",
+    aged_255: "  ages of 254 that came back as 255; the record was then refused (listed)",
+    record_refusals: "  refused, record and room unchanged; the Rust is not asked (listed)",
+    sender_records: "made-up sender records, one call each",
+    sender_record_calls: "  accepted",
+    cut_high: "  frames with samples cut at 32,767 or -32,768",
+    sender_record_refusals: "  refused, record and room unchanged; the Rust is not asked (listed)",
+    refused_1: "calls refused with 1",
+    refused_2: "calls refused with 2",
+    refused_3: "calls refused with 3",
+    refused_4: "calls refused with 4",
+    refused_5: "calls refused with 5",
+    refused_6: "calls refused with 6",
+    refused_7: "calls refused with 7",
+    refused_8: "calls refused with 8",
+    refused_9: "calls refused with 9",
+    nan_kept: "not-a-numbers with a payload found again by their bytes after an accepted call",
+    nan_refused: "not-a-numbers with a payload found again by their bytes after a refused call",
+}
+
+impl Tally {
+    pub fn refused(&mut self, number: u64) {
+        let count = match number {
+            1 => &mut self.refused_1,
+            2 => &mut self.refused_2,
+            3 => &mut self.refused_3,
+            4 => &mut self.refused_4,
+            5 => &mut self.refused_5,
+            6 => &mut self.refused_6,
+            7 => &mut self.refused_7,
+            8 => &mut self.refused_8,
+            _ => &mut self.refused_9,
+        };
+        *count += 1;
+    }
+}
+
+/// A number in groups of three digits.
+fn grouped(number: u64) -> String {
+    let digits = number.to_string();
+    let mut out = String::new();
+    for (i, digit) in digits.chars().enumerate() {
+        if i > 0 && (digits.len() - i).is_multiple_of(3) {
+            out.push(',');
+        }
+        out.push(digit);
+    }
+    out
+}

@@ -1,0 +1,152 @@
+//! The two programs: texts for send, and recordings for receive in reads of a size. README.md gives the
+//! lines' forms.
+
+use crate::house::{bytes, received, sent};
+use crate::random::Random;
+
+pub fn write() -> String {
+    let mut list = Session::default();
+    whole(&mut list);
+    several(&mut list);
+    not_lossless(&mut list);
+    silence(&mut list);
+    bad_lines(&mut list);
+    list.lines
+}
+
+/// The client's whole case, in reads of several sizes, with an odd byte, and no lines at all.
+fn whole(list: &mut Session) {
+    list.send("whole", &headed("55F7", '0'));
+    for size in [512, 511, 1] {
+        list.receive(size);
+    }
+    list.append(&[0x5a]);
+    list.receive(512);
+    list.send("none", "");
+    list.receive(512);
+}
+
+/// A frame of each kind that is offered, and one of those that are not.
+fn several(list: &mut Session) {
+    let mut random = Random::new(31);
+    let frames = ["55F7", "FF5D", "DF55", "75FF"].map(|word| payload(&mut random, word));
+    list.send("several", &frames.concat());
+    list.receive(512);
+}
+
+/// A payload that ends in 75, and a Stream frame after it: the last four symbols of the one and the first four
+/// of the other are the Packet burst.
+fn not_lossless(list: &mut Session) {
+    let first = format!("55F7{}75\n", "0".repeat(90));
+    list.send("75-before-stream", &(first + &headed("FF5D", '0')));
+    list.receive(512);
+}
+
+fn silence(list: &mut Session) {
+    list.zeros(5000);
+    list.receive(512);
+    list.zeros(0);
+    list.receive(512);
+    list.append(&[1]);
+    list.receive(512);
+}
+
+/// Each kind of bad line as the first, the second and the third of three; a line without its line feed can
+/// only be the last.
+fn bad_lines(list: &mut Session) {
+    let good = headed("55F7", 'A');
+    let digits = good.trim_end();
+    let bad = [
+        ("empty", "\n".to_string()),
+        ("short", format!("{}\n", &digits[1..])),
+        ("long", format!("{digits}0\n")),
+        ("lower-case", format!("{}a\n", &digits[1..])),
+        ("no-digit", format!("G{}\n", &digits[1..])),
+        ("return", format!("{digits}\r\n")),
+        ("space", format!("{} \n", &digits[1..])),
+        ("nul", format!("{}\0\n", &digits[1..])),
+    ];
+    for (name, line) in &bad {
+        for place in 0..3 {
+            let mut lines = [&good; 3];
+            lines[place] = line;
+            let text: String = lines.map(String::as_str).concat();
+            list.send(&format!("{name}-{}", place + 1), &text);
+        }
+    }
+    for (name, end) in [("unended", digits), ("begun", "5"), ("half", &digits[..48])] {
+        for before in 0..3 {
+            list.send(
+                &format!("{name}-{}", before + 1),
+                &(good.repeat(before) + end),
+            );
+        }
+    }
+}
+
+fn headed(word: &str, digit: char) -> String {
+    format!("{word}{}\n", digit.to_string().repeat(92))
+}
+
+fn payload(random: &mut Random, word: &str) -> String {
+    let digits: String = (0..92).map(|_| format!("{:X}", random.below(16))).collect();
+    format!("{word}{digits}\n")
+}
+
+#[derive(Default)]
+struct Session {
+    lines: String,
+    recording: Vec<u8>,
+}
+
+impl Session {
+    /// The recording becomes what is sent for the text.
+    fn send(&mut self, name: &str, text: &str) {
+        let sent = sent(text.as_bytes());
+        self.recording = bytes(&sent.samples);
+        let bad = sent
+            .bad
+            .map_or(String::new(), |number| format!(" bad line {number}"));
+        self.say(&format!(
+            "send {name} {} = {} {}{bad}",
+            hexadecimal(text.as_bytes()),
+            sent.samples.len(),
+            adler(&self.recording)
+        ));
+    }
+
+    fn zeros(&mut self, samples: usize) {
+        self.recording = vec![0; 2 * samples];
+        self.say(&format!("zeros {samples}"));
+    }
+
+    fn append(&mut self, bytes: &[u8]) {
+        self.recording.extend_from_slice(bytes);
+        self.say(&format!("append {}", hexadecimal(bytes)));
+    }
+
+    fn receive(&mut self, size: usize) {
+        let lines = received(&self.recording);
+        self.say(&format!("receive {size}"));
+        self.lines.push_str(&lines.concat());
+        self.say(&format!("found {}", lines.len()));
+    }
+
+    fn say(&mut self, line: &str) {
+        self.lines.push_str(line);
+        self.lines.push('\n');
+    }
+}
+
+fn hexadecimal(bytes: &[u8]) -> String {
+    bytes.iter().map(|byte| format!("{byte:02x}")).collect()
+}
+
+/// Adler-32, so that a line tells a whole recording.
+fn adler(bytes: &[u8]) -> u32 {
+    let (sum, sums) = bytes.iter().fold((1, 0), |(sum, sums), &byte| {
+        let sum = (sum + u32::from(byte)) % 65_521;
+        (sum, (sums + sum) % 65_521)
+    });
+    65_536 * sums + sum
+}
