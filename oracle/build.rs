@@ -51,20 +51,9 @@ fn main() {
     println!("cargo:rerun-if-changed=build.rs");
     println!("cargo:rerun-if-changed=build");
     println!("cargo:rerun-if-changed=text.sha256");
-    link_the_port();
     if let Err(why) = lay_ready() {
         eprintln!("oracle: {why}");
         process::exit(1);
-    }
-}
-
-/// For the programs in src/bin: the archive that `PORT_ARCHIVE` names, and a new link whenever it is another.
-fn link_the_port() {
-    println!("cargo:rerun-if-env-changed=PORT_ARCHIVE");
-    let archive = PathBuf::from(env::var("PORT_ARCHIVE").unwrap_or_default());
-    if let Some(folder) = archive.parent() {
-        println!("cargo:rerun-if-changed={}", archive.display());
-        println!("cargo:rustc-link-search=native={}", folder.display());
     }
 }
 

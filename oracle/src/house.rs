@@ -32,7 +32,7 @@ pub(crate) fn accepts(burst: SyncBurst, window: &[f32; 192]) -> bool {
     word(burst) == Some(sliced)
 }
 
-fn line(window: &[f32; 192]) -> String {
+pub fn line(window: &[f32; 192]) -> String {
     let digits: String = window
         .chunks(2)
         .map(|pair| format!("{:X}", 4 * bits(pair[0]) + bits(pair[1])))

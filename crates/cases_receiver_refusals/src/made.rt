@@ -1,5 +1,4 @@
 // Made-up records: a fit one, which holds nothing, owes nothing and has taken a thousand samples, but for the parts that a line names.
-use crate::table;
 use demodulator::Candidate;
 use demodulator::Control;
 use demodulator::SoftDemodulator;
@@ -8,66 +7,51 @@ use demodulator::Wait;
 use demodulator::Waiting;
 use protocol::Kind;
 
-// A value of its own in each place, so that none can move unseen.
-fn ramp() -> [f32; 1920] {
-    let mut ring = [0.0f32; 1920];
-    let mut value: f32 = 0.0;
-    let mut place: usize = 0;
-    while place < 1920 {
-        ring[place] = value;
-        value = value + 1.0;
-        place += 1;
-    }
-    ring
-}
-
-// One value in all but so many places, which lie ten apart, back from the first.
-fn with_others(from: usize, but: usize, value: f32) -> [f32; 1920] {
-    let mut ring = ramp();
+// A value of its own in so many places, which lie ten apart, back from the first, and others elsewhere; with 1,920 there are no others, and none of the values can move unseen.
+fn laid(others: f32, but: usize, from: usize) -> [f32; 1920] {
     let newest = from % 1920;
+    let mut ring = [others; 1920];
+    let mut own: f32 = 0.0;
     let mut place: usize = 0;
     while place < 1920 {
         let back = (newest + 1920 - place) % 1920;
-        if (back % 10 != 0) | (but <= back / 10) {
-            ring[place] = value;
+        if (1920 <= but) | ((back % 10 == 0) & (back / 10 < but)) {
+            ring[place] = own;
         }
+        own = own + 1.0;
         place += 1;
     }
     ring
 }
 
-// Seven values of the LSF's burst in the places that a sample searches.
-fn with_lsf() -> [f32; 1920] {
-    let mut ring = ramp();
-    ring[1850] = 32.0;
-    ring[1860] = 32.0;
-    ring[1870] = 32.0;
-    ring[1880] = 32.0;
-    ring[1890] = -32.0;
-    ring[1900] = -32.0;
-    ring[1910] = 32.0;
+fn plain_ring(words: &[u8], place: usize) -> [f32; 1920] {
+    let others = cases_text::float_behind(words, b"others", 0.0);
+    let but = cases_text::count_behind(words, b"but", 1920) as usize;
+    let mut ring = laid(others, but, place);
+    let at = place % 1920;
+    ring[at] = cases_text::float_behind(words, b"value", ring[at]);
     ring
 }
 
-pub(crate) fn first_place(parts: &[u8]) -> usize {
-    table::count(parts, b"from", 0) as usize
-}
-
-fn ring(parts: &[u8]) -> [f32; 1920] {
-    if table::names(parts, b"others") {
-        let but = table::count(parts, b"but", 0) as usize;
-        with_others(first_place(parts), but, table::float(parts, b"others", 0.0))
-    } else if table::names(parts, b"burst") {
-        with_lsf()
-    } else {
-        ramp()
+// A burst lays seven values of the LSF's in the places that a sample searches.
+fn ring(burst: bool, plain: [f32; 1920]) -> [f32; 1920] {
+    let mut ring = plain;
+    if burst {
+        ring[1850] = 32.0;
+        ring[1860] = 32.0;
+        ring[1870] = 32.0;
+        ring[1880] = 32.0;
+        ring[1890] = -32.0;
+        ring[1900] = -32.0;
+        ring[1910] = 32.0;
     }
+    ring
 }
 
 // Beside the LSF's seven values the middle tap brings the eighth.
-fn window(parts: &[u8]) -> [i16; 81] {
+fn window(burst: bool) -> [i16; 81] {
     let mut window = [0i16; 81];
-    if table::names(parts, b"burst") {
+    if burst {
         window[41] = -89;
     } else {
         window[7] = 12345;
@@ -75,78 +59,60 @@ fn window(parts: &[u8]) -> [i16; 81] {
     window
 }
 
-fn kind(parts: &[u8]) -> Kind {
-    if table::names(parts, b"bert") {
-        Kind::Bert
-    } else {
-        Kind::Lsf
+fn kind(words: &[u8]) -> Kind {
+    if cases_text::names(words, b"bert") {
+        return Kind::Bert;
     }
+    Kind::Lsf
 }
 
-fn age(parts: &[u8]) -> u8 {
-    let age = table::count(parts, b"age", 1) % 256;
-    age as u8
-}
-
-fn held(parts: &[u8]) -> Candidate {
+fn candidate(words: &[u8]) -> Candidate {
+    if !cases_text::names(words, b"held") {
+        return Candidate::Nothing;
+    }
+    let age = cases_text::count_behind(words, b"age", 1) % 256;
     Candidate::Held {
-        kind: kind(parts),
-        age: age(parts),
-        diff: table::float(parts, b"diff", 1.0),
-        gain: table::float(parts, b"gain", 20.0),
-        shift: table::float(parts, b"shift", 5.0),
+        kind: kind(words),
+        age: age as u8,
+        diff: cases_text::float_behind(words, b"diff", 1.0),
+        gain: cases_text::float_behind(words, b"gain", 20.0),
+        shift: cases_text::float_behind(words, b"shift", 5.0),
     }
 }
 
-fn candidate(parts: &[u8]) -> Candidate {
-    if table::names(parts, b"held") {
-        held(parts)
-    } else {
-        Candidate::Nothing
-    }
-}
-
-fn wait(parts: &[u8]) -> Wait {
-    let left = table::count(parts, b"wait", 65536);
+fn wait(words: &[u8]) -> Wait {
+    let left = cases_text::count_behind(words, b"wait", 65536);
     if left < 65536 {
-        Wait::Due(Waiting { left: left as u16 })
-    } else {
-        Wait::Free
+        return Wait::Due(Waiting { left: left as u16 });
     }
+    Wait::Free
 }
 
-fn timer(parts: &[u8]) -> Timer {
-    if table::names(parts, b"timer") {
-        Timer::Until(table::count(parts, b"timer", 0))
-    } else {
-        Timer::Off
+fn timer(words: &[u8]) -> Timer {
+    if cases_text::names(words, b"timer") {
+        return Timer::Until(cases_text::count_behind(words, b"timer", 0));
     }
+    Timer::Off
 }
 
-fn control(parts: &[u8]) -> Control {
+fn control(words: &[u8]) -> Control {
     Control {
-        candidate: candidate(parts),
-        wait: wait(parts),
-        dcd: timer(parts),
-        owed: table::names(parts, b"owed"),
-        sample: table::count(parts, b"count", 1000),
+        candidate: candidate(words),
+        wait: wait(words),
+        dcd: timer(words),
+        owed: cases_text::names(words, b"owed"),
+        sample: cases_text::count_behind(words, b"count", 1000),
     }
 }
 
-fn filter_cursor(parts: &[u8]) -> usize {
-    table::count(parts, b"filter_cursor", 0) as usize
-}
-
-fn ring_cursor(parts: &[u8]) -> usize {
-    table::count(parts, b"ring_cursor", 0) as usize
-}
-
-pub(crate) fn record(parts: &[u8]) -> SoftDemodulator {
+// With the value that the words name, if any, in this place of the ring; where they name others, the places that those leave out lie back from it.
+pub(crate) fn record(words: &[u8], place: usize) -> SoftDemodulator {
+    let burst = cases_text::names(words, b"burst");
     SoftDemodulator {
-        filter_win: window(parts),
-        filter_cursor: filter_cursor(parts),
-        rx_win: ring(parts),
-        rx_cursor: ring_cursor(parts),
-        control: control(parts),
+        filter_win: window(burst),
+        filter_cursor: cases_text::count_behind(words, b"filter_cursor", 0) as usize,
+        rx_win: ring(burst, plain_ring(words, place)),
+        rx_cursor: cases_text::count_behind(words, b"ring_cursor", 0) as usize,
+        control: control(words),
     }
 }

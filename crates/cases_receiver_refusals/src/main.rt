@@ -1,14 +1,30 @@
-// What the receiver refuses and what it still takes, on made-up records. A line of the table cites the paper and, behind its colon, says what the record has in place of the fit one's parts; it is written again with the answers to every call. The expected answers were worked out from the paper.
-mod answers;
+// What the receiver refuses and what it still takes, on made-up records. A line of the table has three cells, between them bars: the phrase of document 01 that decides it, the record in words, and the calls in words, each made on that same record. The line is written again, and behind one more bar the answers to its calls. The expected answers are written by hand from document 01, by the phrase in the first cell.
+mod answer;
 mod calls;
 mod made;
+mod places;
 mod same;
-mod table;
+
+// The calls from the second on. Words are counted from 1, since the space behind a bar ends an empty one.
+fn put_more(record: &[u8], calls: &[u8]) {
+    let mut k: usize = 2;
+    while k < calls.len() {
+        let call = cases_text::word(calls, k);
+        if 0 < call.len() {
+            answer::put_text(answer::NEXT);
+            places::put_answer(record, call);
+        }
+        k += 1;
+    }
+}
 
 fn answer_line(line: &[u8]) {
+    let record = cases_text::cell(line, 1);
+    let calls = cases_text::cell(line, 2);
     io::write_all(1, line);
-    let colon = bytes::scan::find(line, 0, line.len(), b':');
-    answers::put_answers(&line[colon..]);
+    io::write_all(1, b" | ");
+    places::put_answer(record, cases_text::word(calls, 1));
+    put_more(record, calls);
     cases_text::end_line();
 }
 

@@ -1,11 +1,46 @@
-// Made-up records: a fit one, but for the parts that a line names.
-use crate::table;
+// Made-up records: a fit one, but for what a line names.
 use modulator::EndReport;
 use modulator::OutputBuffer;
 use modulator::Pending;
 use modulator::Progress;
 use modulator::SampleCount;
 use modulator::SoftModulator;
+
+// The names' places in the fit line, which is in `count`.
+const CURSOR: usize = 0;
+
+const LENGTH: usize = 2;
+
+const READ_PLACE: usize = 4;
+
+const PADDING: usize = 6;
+
+const FILL: usize = 8;
+
+const CAPACITY: usize = 10;
+
+const LATENCY: usize = 12;
+
+pub(crate) const GIVEN: usize = 14;
+
+pub(crate) const PLACE: usize = 16;
+
+pub(crate) const ROOM: usize = 18;
+
+pub(crate) const TO_FILL: usize = 20;
+
+pub(crate) const TO_CAPACITY: usize = 22;
+
+pub(crate) const TO_LATENCY: usize = 24;
+
+// The number that a line names, or else the fit line's. It has the counts of the fit record, and then the operands of the calls.
+pub(crate) fn count(parts: &[u8], place: usize) -> usize {
+    let fit =
+        b"cursor 3 length 8 read_place 2 padding 5 fill 100 capacity 200 latency 30 given 192 place 0 room 16 to_fill 0 to_capacity 2000 to_latency 0";
+    let name = cases_text::word(fit, place);
+    let own = cases_text::count_behind(fit, name, 0);
+    cases_text::count_behind(parts, name, own) as usize
+}
 
 // A sample of its own in each place, so that none can move unseen: place i holds 1000 + i.
 fn store() -> [i16; 4000] {
@@ -32,30 +67,32 @@ fn ramp() -> [f32; 81] {
     window
 }
 
-fn window(parts: &[u8]) -> [f32; 81] {
-    if table::names(parts, b"window") {
-        [table::float(parts, b"window", 0.0); 81]
-    } else {
-        ramp()
+// The line may name a value for all places, and one for this place alone.
+fn window(parts: &[u8], place: usize) -> [f32; 81] {
+    let mut window = ramp();
+    let named = cases_text::place_behind(parts, b"window");
+    if 0 < named {
+        window = [cases_text::float(cases_text::word(parts, named)); 81];
     }
-}
-
-fn cursor(parts: &[u8]) -> usize {
-    table::count(parts, b"cursor", 3) as usize
+    let at = place % 81;
+    let own = window[at];
+    window[at] = cases_text::float_behind(parts, b"value", own);
+    window
 }
 
 fn progress(parts: &[u8]) -> Progress {
     Progress {
-        next_len: table::count(parts, b"length", 8) as usize,
-        next_read: table::count(parts, b"read_place", 2) as usize,
-        tx_delay_padding: table::count(parts, b"padding", 5) as usize,
+        next_len: count(parts, LENGTH),
+        next_read: count(parts, READ_PLACE),
+        tx_delay_padding: count(parts, PADDING),
     }
 }
 
 // An end is owed, or else reported, with the wish for a frame.
 fn pending(parts: &[u8]) -> Pending {
-    if table::names(parts, b"report") {
-        let end = table::count(parts, b"report", 0) as usize;
+    let named = cases_text::place_behind(parts, b"report");
+    if 0 < named {
+        let end = cases_text::decimal(cases_text::word(parts, named)) as usize;
         Pending {
             update_idle: true,
             calculate_tx_end: false,
@@ -74,30 +111,28 @@ fn pending(parts: &[u8]) -> Pending {
 
 fn buffer(parts: &[u8]) -> OutputBuffer {
     OutputBuffer {
-        output_latency: table::count(parts, b"latency", 30) as usize,
-        samples_in_buf: table::count(parts, b"fill", 100) as usize,
-        buf_capacity: table::count(parts, b"capacity", 200) as usize,
+        output_latency: count(parts, LATENCY),
+        samples_in_buf: count(parts, FILL),
+        buf_capacity: count(parts, CAPACITY),
     }
 }
 
-fn record(parts: &[u8]) -> SoftModulator {
+fn record(parts: &[u8], place: usize) -> SoftModulator {
     SoftModulator {
         next_transmission: store(),
-        filter_win: window(parts),
-        filter_cursor: cursor(parts),
+        filter_win: window(parts, place),
+        filter_cursor: count(parts, CURSOR),
         progress: progress(parts),
         pending: pending(parts),
         buffer: buffer(parts),
     }
 }
 
-// The record that the line before took, a fresh one, or a made-up one.
-pub(crate) fn start(taken: SoftModulator, parts: &[u8]) -> SoftModulator {
-    if table::names(parts, b"then") {
-        taken
-    } else if table::names(parts, b"fresh") {
-        SoftModulator::new()
-    } else {
-        record(parts)
+// The record that the line before left, a fresh one, or a made-up one. The cell begins with a space.
+pub(crate) fn start(before: SoftModulator, parts: &[u8], place: usize) -> SoftModulator {
+    match cases_text::place_behind(b"then fresh", cases_text::word(parts, 1)) {
+        1 => before,
+        2 => SoftModulator::new(),
+        _ => record(parts, place),
     }
 }

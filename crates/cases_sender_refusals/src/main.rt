@@ -1,26 +1,21 @@
-// What the sender refuses and what it still takes, on made-up records, and sessions of several calls. A line of the table cites the paper and, behind its colon, says what the record and the operands have in place of the fit ones; it is written again with the answers to every call. The expected answers were worked out from the paper.
-mod answers;
+// What the sender refuses and what it still takes, on made-up records, and sessions of several calls. A line of the table has three cells, ` | ` between them: the phrase of document 01 that
+// decides the line; the record and the operands of its calls, so far as they are not those of `made`; and the calls, each of them made on that record. The line is written again, and
+// behind it a fourth cell, the answers, `; ` between them. The expected answers are written by hand from document 01, by the phrase in the first cell.
+mod answer;
 mod calls;
+mod line;
 mod made;
 mod same;
-mod table;
+mod shown;
 
 use modulator::SoftModulator;
-
-fn answer_line(m: SoftModulator, line: &[u8]) -> SoftModulator {
-    io::write_all(1, line);
-    let colon = bytes::scan::find(line, 0, line.len(), b':');
-    let next = answers::answered(m, &line[colon..]);
-    cases_text::end_line();
-    next
-}
 
 fn replay(text: &[u8]) {
     let mut m = SoftModulator::new();
     let mut at: usize = 0;
     while at < text.len() {
         let end = bytes::scan::find(text, at, text.len(), b'\n');
-        m = answer_line(m, &text[at..end]);
+        m = line::answered(m, &text[at..end]);
         at = end + 1;
     }
 }

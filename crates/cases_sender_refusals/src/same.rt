@@ -1,25 +1,9 @@
-// What is not as it was.
+// Whether two records are the same, one not-a-number as good as another.
 use modulator::EndReport;
+use modulator::OutputBuffer;
+use modulator::Pending;
+use modulator::Progress;
 use modulator::SoftModulator;
-
-// Equal to the bit, a zero's sign included; one not-a-number is as good as another.
-fn same_float(a: f32, b: f32) -> bool {
-    if a == b {
-        if a == 0.0 { 1.0 / a == 1.0 / b } else { true }
-    } else {
-        (a != a) & (b != b)
-    }
-}
-
-fn same_window(a: [f32; 81], b: [f32; 81]) -> bool {
-    let mut all = true;
-    let mut i: usize = 0;
-    while i < 81 {
-        all = all & same_float(a[i], b[i]);
-        i += 1;
-    }
-    all
-}
 
 fn same_store(a: [i16; 4000], b: [i16; 4000]) -> bool {
     let mut all = true;
@@ -31,95 +15,59 @@ fn same_store(a: [i16; 4000], b: [i16; 4000]) -> bool {
     all
 }
 
-fn is_reported(report: EndReport) -> bool {
-    if let EndReport::Nothing = report {
-        false
-    } else {
-        true
+fn same_window(a: [f32; 81], b: [f32; 81]) -> bool {
+    let mut all = true;
+    let mut i: usize = 0;
+    while i < 81 {
+        all = all & cases_text::same_float(a[i], b[i]);
+        i += 1;
+    }
+    all
+}
+
+fn same_progress(a: Progress, b: Progress) -> bool {
+    (a.next_len == b.next_len)
+        & (a.next_read == b.next_read)
+        & (a.tx_delay_padding == b.tx_delay_padding)
+}
+
+fn same_report(a: EndReport, b: EndReport) -> bool {
+    match a {
+        EndReport::Nothing => match b {
+            EndReport::Nothing => true,
+            EndReport::After(_) => false,
+        },
+        EndReport::After(end) => match b {
+            EndReport::Nothing => false,
+            EndReport::After(other) => end.0 == other.0,
+        },
     }
 }
 
-fn end_of(report: EndReport) -> usize {
-    match report {
-        EndReport::Nothing => 0,
-        EndReport::After(end) => end.0,
-    }
+fn same_pending(a: Pending, b: Pending) -> bool {
+    let report = a.report_tx_end;
+    let other = b.report_tx_end;
+    (a.update_idle == b.update_idle)
+        & (a.calculate_tx_end == b.calculate_tx_end)
+        & (a.try_get_frame == b.try_get_frame)
+        & same_report(report, other)
 }
 
-// A record in numbers, but for its store and its window.
-pub(crate) struct Seen {
-    pub cursor: usize,
-    pub length: usize,
-    pub read: usize,
-    pub padding: usize,
-    pub idle: bool,
-    pub owed: bool,
-    pub reported: bool,
-    pub end: usize,
-    pub wish: bool,
-    pub latency: usize,
-    pub fill: usize,
-    pub capacity: usize,
+fn same_buffer(a: OutputBuffer, b: OutputBuffer) -> bool {
+    (a.output_latency == b.output_latency)
+        & (a.samples_in_buf == b.samples_in_buf)
+        & (a.buf_capacity == b.buf_capacity)
 }
 
-pub(crate) fn look_at(m: SoftModulator) -> Seen {
-    let progress = m.progress;
-    let pending = m.pending;
-    let report = pending.report_tx_end;
-    let buffer = m.buffer;
-    Seen {
-        cursor: m.filter_cursor,
-        length: progress.next_len,
-        read: progress.next_read,
-        padding: progress.tx_delay_padding,
-        idle: pending.update_idle,
-        owed: pending.calculate_tx_end,
-        reported: is_reported(report),
-        end: end_of(report),
-        wish: pending.try_get_frame,
-        latency: buffer.output_latency,
-        fill: buffer.samples_in_buf,
-        capacity: buffer.buf_capacity,
-    }
-}
-
-// What a read changes.
-fn same_progress(a: Seen, b: Seen) -> bool {
-    (a.read == b.read) & (a.padding == b.padding)
-}
-
-fn same_seen(a: Seen, b: Seen) -> bool {
-    (a.cursor == b.cursor)
-        & (a.length == b.length)
-        & (a.idle == b.idle)
-        & (a.owed == b.owed)
-        & (a.reported == b.reported)
-        & (a.end == b.end)
-        & (a.wish == b.wish)
-        & (a.latency == b.latency)
-        & (a.fill == b.fill)
-        & (a.capacity == b.capacity)
-}
-
-fn same_arrays(a: SoftModulator, b: SoftModulator) -> bool {
+pub(crate) fn same(a: SoftModulator, b: SoftModulator) -> bool {
     let store = a.next_transmission;
-    let stores = b.next_transmission;
+    let other_store = b.next_transmission;
     let window = a.filter_win;
-    let windows = b.filter_win;
-    same_store(store, stores) & same_window(window, windows)
-}
-
-// 0 where nothing is new, 1 where only the read place or the padding is, and 2 where anything else is.
-fn news_of(before: Seen, after: Seen, arrays: bool) -> u64 {
-    if !(same_seen(before, after) & arrays) {
-        2
-    } else if !same_progress(before, after) {
-        1
-    } else {
-        0
-    }
-}
-
-pub(crate) fn news(a: SoftModulator, b: SoftModulator) -> u64 {
-    news_of(look_at(a), look_at(b), same_arrays(a, b))
+    let other_window = b.filter_win;
+    same_store(store, other_store)
+        & same_window(window, other_window)
+        & (a.filter_cursor == b.filter_cursor)
+        & same_progress(a.progress, b.progress)
+        & same_pending(a.pending, b.pending)
+        & same_buffer(a.buffer, b.buffer)
 }

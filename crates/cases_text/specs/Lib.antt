@@ -1,3 +1,4 @@
 -- What the cases read.
 pub mod Places
 pub mod Numbers
+pub mod Behind

@@ -1,6 +1,6 @@
--- The numbers that a word holds. Assumes nothing.
+-- The numbers that a word holds, and when two floats are the same. Assumes nothing.
 use mathlib.Core.Path.{_≡_}
-use mathlib.Core.Bool.{true, false, cond}
+use mathlib.Core.Bool.{Bool, true, false, cond}
 use mathlib.Core.List.{List}
 use Prim.Native.Nat.{ℕ, zero, suc, _+_, _*_, _-_, _%_, _<_, min}
 use lib.Dec.{ltb, leb}
@@ -54,3 +54,7 @@ sampleOf word = cond (begins word 45) (signed 15 true (numberOf 10 (between word
 
 abbrev pub sample-says : List ℕ → ℤ → Type 0
 sample-says word r = r ≡ sampleOf word
+
+-- the same float to the bit; not-a-number is one value here
+abbrev pub same-float-says : Float → Float → Bool → Type 0
+same-float-says a b r = (r ≡ true → a ≡ b) × (a ≡ b → r ≡ true)

@@ -4,7 +4,7 @@ ghost use mathlib.Core.Path.{_≡_};
 ghost use Prim.Native.Nat.{_<_};
 ghost use lib.Ieee.{binary32, ofBits};
 ghost use Rattle.numbers.specs.Cut.{signed};
-ghost use Rattle.cases_text.specs.Numbers.{Digit, appended, numberOf, decimal-says, hexadecimal-says, float-says, sample-says};
+ghost use Rattle.cases_text.specs.Numbers.{Digit, appended, numberOf, decimal-says, hexadecimal-says, float-says, same-float-says, sample-says};
 
 fn digit(letter: u8) -> u64
     ensures { λ r. ⌜ Digit letter r ⌝ }
@@ -82,6 +82,21 @@ pub fn float(word: &[u8]) -> f32
     }
     let pattern = number(word, 16) % 0x1_0000_0000;
     of_pattern(pattern as u32)
+}
+
+// Equal to the bit; one not-a-number is as good as another.
+pub fn same_float(a: f32, b: f32) -> bool
+    ensures { λ r. ⌜ same-float-says a b r ⌝ }
+{
+    if a != a {
+        b != b
+    } else if b != b {
+        false
+    } else {
+        let pattern = f32::to_bits(a);
+        let other = f32::to_bits(b);
+        pattern == other
+    }
 }
 
 fn with_sign(negative: bool, size: u64) -> i16

@@ -10,12 +10,13 @@ use lib.Ieee.{Float}
 use borrow.Author.Tests.{lt-ltb, le-ltb, eq-eqb, ne-eqb}
 use Rattle.protocol.specs.declared.Refusal.{Refusal}
 use Rattle.protocol.specs.Refusals.{paperNumber}
-use Rattle.demodulator.specs.declared.Control.{Control}
+use Rattle.search.specs.declared.Control.{Control}
+use Rattle.search.specs.declared.Reply.{Reply}
+use Rattle.search.specs.Turn.{Outcome, sampled}
 use Rattle.demodulator.specs.declared.SoftDemodulator.{SoftDemodulator}
-use Rattle.demodulator.specs.declared.Reply.{Reply}
 use Rattle.demodulator.specs.declared.step.Places.{Places}
 use Rattle.demodulator.specs.declared.step.Stepped.{Stepped}
-use Rattle.demodulator.specs.Turn.{Outcome, eight, sampled}
+use Rattle.demodulator.specs.Spans.{eight}
 use Rattle.demodulator.specs.Record.{assembled, back, stored}
 use Rattle.demodulator.specs.Fit.{recordFit, fitForSample, fitForReply}
 use Rattle.demodulator.specs.Calls.{refusal, done, carrier, refused, finished, taken, demodulated, settled, answered, timerHeld, detected}

@@ -9,16 +9,17 @@ use lib.ListN.{length}
 use lib.Ieee.{Float}
 use mir.Syntax.{w16}
 use mir.Val.{SFits}
-use Rattle.demodulator.specs.declared.Control.{Control}
+use Rattle.search.specs.declared.Control.{Control}
+use Rattle.search.specs.Turn.{Outcome, quiet, offer, sampled}
+use Rattle.search.proofs.Passing.{by-test}
 use Rattle.demodulator.specs.declared.SoftDemodulator.{SoftDemodulator}
 use Rattle.demodulator.specs.declared.step.Places.{Places}
 use Rattle.demodulator.specs.declared.step.Stepped.{Stepped}
-use Rattle.demodulator.specs.Turn.{Outcome, quiet, offer, eight, sampled}
+use Rattle.demodulator.specs.Spans.{eight}
 use Rattle.demodulator.specs.Record.{assembled, back, stored}
 use Rattle.demodulator.specs.Fit.{fitForSample}
 use Rattle.demodulator.specs.Calls.{Left, refused, finished, taken, demodulated}
 use Rattle.demodulator.specs.Steps.{Rings, Steps}
-use Rattle.demodulator.proofs.Passing.{by-test}
 use Rattle.demodulator.proofs.Stepping.{stored-rings}
 
 abbrev RingsOf : SoftDemodulator → Type 0

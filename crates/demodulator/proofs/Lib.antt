@@ -1,20 +1,8 @@
--- The laws of the receiver's record, of its search and of its calls. Assumes nothing.
+-- The laws of the receiver's record and of its calls. Assumes nothing.
 -- the ring's reader, and what a store does to it
 pub mod Readers
--- a fit control, clause by clause
-pub mod Clauses
 -- what a fit record is known to be
 pub mod Fitness
--- readers that agree lead to the same search
-pub mod Searching
--- an age rises by one at most
-pub mod Passing
--- six bursts from one hearing
-pub mod Sensing
--- what a sample comes to, by the wait
-pub mod Turning
--- what comes before a search leaves a fit control fit
-pub mod TurnFits
 -- a call by what applies
 pub mod Demodulating
 -- what a record's type says of its window

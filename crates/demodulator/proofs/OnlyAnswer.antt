@@ -7,10 +7,10 @@ use lib.IntN.{ℤ}
 use lib.Ieee.{Float}
 use Rattle.numbers.proofs.Answer.{same-answer}
 use Rattle.protocol.proofs.Numbers.{numbered, numbered-back}
+use Rattle.search.specs.declared.Reply.{Reply}
 use Rattle.demodulator.specs.declared.SoftDemodulator.{SoftDemodulator}
 use Rattle.demodulator.specs.declared.Heard.{Heard}
 use Rattle.demodulator.specs.declared.Heard.the-variants.{Refused as HeardRefused, Quiet, Offered}
-use Rattle.demodulator.specs.declared.Reply.{Reply}
 use Rattle.demodulator.specs.declared.Replied.{Replied}
 use Rattle.demodulator.specs.declared.Replied.the-variants.{Refused as ReplyRefused, Done}
 use Rattle.demodulator.specs.declared.Carrier.{Carrier}

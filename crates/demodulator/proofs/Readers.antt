@@ -10,7 +10,7 @@ use lib.Ieee.{Float, nan}
 use Rattle.numbers.specs.Firsts.{firsts}
 use Rattle.numbers.proofs.Firsts.{firsts-at}
 use Rattle.demodulator.specs.declared.SoftDemodulator.{SoftDemodulator}
-use Rattle.demodulator.specs.Turn.{eight}
+use Rattle.demodulator.specs.Spans.{eight}
 use Rattle.demodulator.specs.Record.{ringBack, back, filteredAfter, stored}
 
 -- ---- places

@@ -1,5 +1,5 @@
 -- Small instances of the laws of a step, at a fresh record: what the laws ask can be met. Assumes nothing.
-use mathlib.Core.Path.{_≡_, refl, sym}
+use mathlib.Core.Path.{_≡_, refl}
 use mathlib.Core.Bool.{true}
 use mathlib.Core.List.{List}
 use Prim.Native.Nat.{ℕ, zero, suc, _≤_, _<_}
@@ -14,20 +14,22 @@ use Rattle.numbers.specs.Below.{allBelow}
 use Rattle.numbers.specs.Firsts.{firsts}
 use Rattle.decode.specs.Correlator.{inRange}
 use Rattle.decode.specs.Parts.{valuesOf}
+use Rattle.search.specs.declared.Turn.the-variants.{Look}
+use Rattle.search.specs.Search.{searched}
+use Rattle.search.specs.Turn.{cleared, counted}
+use Rattle.search.specs.Fit.{candidateFit, waitFit, controlFit}
+use Rattle.search.specs.Turns.{waitedTurn}
+use Rattle.search.specs.Ready.{counts, ready, turn-of-says}
 use Rattle.demodulator.specs.declared.SoftDemodulator.{SoftDemodulator}
 use Rattle.demodulator.specs.declared.Heard.the-variants.{Quiet}
-use Rattle.demodulator.specs.declared.turn.Turn.the-variants.{Look}
 use Rattle.demodulator.specs.declared.step.Places.{Places}
-use Rattle.demodulator.specs.Search.{searched}
-use Rattle.demodulator.specs.Turn.{eight, counted}
+use Rattle.demodulator.specs.Spans.{eight}
 use Rattle.demodulator.specs.Record.{freshControl, fresh, assembled, back, windowAfter, filteredAfter, stored}
-use Rattle.demodulator.specs.Fit.{candidateFit, waitFit, controlFit, recordFit, fitForSample}
+use Rattle.demodulator.specs.Fit.{recordFit, fitForSample}
 use Rattle.demodulator.specs.Calls.{demodulated, demod-says}
-use Rattle.demodulator.specs.Parts.{Stores, SearchReady}
-use Rattle.demodulator.specs.Steps.{Counts, Turns, Rings, Accepts}
-use Rattle.demodulator.proofs.Turning.{sampled-free, looked}
-use Rattle.demodulator.proofs.TurnFits.{counted-fit}
-use Rattle.demodulator.proofs.Stepping.{window-fits, new-in-range, stored-eight, accepts-inside, accepts-counts, seen, search-ready, looks}
+use Rattle.demodulator.specs.Parts.{Stores}
+use Rattle.demodulator.specs.Steps.{Rings, Accepts}
+use Rattle.demodulator.proofs.Stepping.{window-fits, new-in-range, stored-eight, accepts-inside, accepts-control, accepts-counts, seen, search-ready, looks}
 use Rattle.demodulator.proofs.LentAgain.{demodulated-rings}
 
 -- ---- a fresh record, a room and a sample
@@ -61,7 +63,10 @@ fresh-accepts = record { rings = fresh-rings; fit = fresh-for-sample; no-reply =
 accepts-inside-meets : (0 < 81) × (0 < 1920)
 accepts-inside-meets = accepts-inside fresh-accepts
 
-accepts-counts-meets : Counts freshControl
+accepts-control-meets : T (controlFit 10 freshControl)
+accepts-control-meets = accepts-control fresh-accepts
+
+accepts-counts-meets : counts freshControl ≡ true
 accepts-counts-meets = accepts-counts fresh-accepts
 
 window-fits-meets : SFits w16 (getD (windowAfter fresh (pos 1)) 80 (pos 0))
@@ -95,20 +100,22 @@ unfolding fresh
 seen-meets = seen (fresh .«filter_win») (after .«filter_win») (fresh .«rx_win») (after .«rx_win») start freshControl (pos 1) fresh-stores values values-held 7 (lit< tt)
 
 counted-control : T (controlFit 10 (counted freshControl))
-counted-control = counted-fit 10 freshControl (accepts-counts-meets .fit) (lit< tt)
+unfolding controlFit candidateFit waitFit cleared
+counted-control = tt
 
-search-ready-meets : SearchReady (counted freshControl) values
+search-ready-meets : ready (counted freshControl) values ≡ true
 search-ready-meets = search-ready (fresh .«filter_win») (after .«filter_win») (fresh .«rx_win») (after .«rx_win») start freshControl (pos 1) fresh-stores room fresh-accepts one-fits values values-held (counted freshControl) counted-control
 
-fresh-turns : Turns freshControl (Look (counted freshControl))
-fresh-turns = record { comes-to = λ v. sym (sampled-free 10 v freshControl refl); looks = λ d e. rw (← looked (counted freshControl) d e) counted-control }
+fresh-turns : turn-of-says freshControl (Look (counted freshControl))
+unfolding waitedTurn
+fresh-turns = refl
 
 looks-meets :
     demod-says fresh (pos 1) room
     (record { answer = Quiet; demodulator = assembled (after .«filter_win») 1 (after .«rx_win») 1 (searched 10 (valuesOf values) (counted freshControl)) })
     room
 unfolding fresh
-looks-meets = looks (fresh .«filter_win») (after .«filter_win») (fresh .«rx_win») (after .«rx_win») start freshControl (pos 1) fresh-stores room fresh-accepts (Look (counted freshControl)) fresh-turns (counted freshControl) refl values values-held (searched 10 (valuesOf values) (counted freshControl)) refl
+looks-meets = looks (fresh .«filter_win») (after .«filter_win») (fresh .«rx_win») (after .«rx_win») start freshControl (pos 1) fresh-stores room fresh-accepts (Look (counted freshControl)) fresh-turns one-fits (counted freshControl) refl values values-held (searched 10 (valuesOf values) (counted freshControl)) (rw search-ready-meets)
 
 demodulated-rings-meets : Rings (demodulated fresh (pos 1) room .demodulator .«filter_win») (demodulated fresh (pos 1) room .demodulator .«rx_win»)
 demodulated-rings-meets = demodulated-rings fresh (pos 1) room one-fits fresh-rings

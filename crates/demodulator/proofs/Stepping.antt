@@ -3,10 +3,11 @@ use mathlib.Core.Path.{_≡_, refl, sym, ap, _∙_}
 use mathlib.Core.Logic.{⊎-elim}
 use mathlib.Core.Bool.{true}
 use mathlib.Core.List.{List, [], _∷_}
-use Prim.Native.Nat.{ℕ, zero, suc, _+_, _-_, _*_, _%_, _<_}
+use Prim.Native.Nat.{ℕ, zero, suc, _+_, _-_, _*_, _%_, _^_, _<_}
 use native.Mathlib.Nat.{eq-or-lt-of-le, le-of-suc-le-suc}
 use native.Mathlib.Omega.{arith}
 use lib.Dec.{T}
+use borrow.Author.Tests.{lt-ltb}
 use lib.IntN.{ℤ, pos}
 use lib.ListN.{length, getD, set, length-set}
 use lib.Ieee.{Float}
@@ -14,28 +15,35 @@ use lib.Ieee.Fits.{and-r}
 use mir.Syntax.{w16}
 use mir.Val.{SFits}
 use Rattle.numbers.specs.Firsts.{firsts, written}
+use Rattle.numbers.proofs.Tests.{holds}
 use Rattle.protocol.specs.declared.Kind.{Kind}
 use Rattle.shaping.proofs.Receiver.{filter-samples-bounded}
 use Rattle.decode.specs.Correlator.{inRange}
 use Rattle.decode.specs.Parts.{valuesOf}
 use Rattle.decode.proofs.Heard.{within-range}
-use Rattle.demodulator.specs.declared.Control.{Control}
+use Rattle.search.specs.declared.Control.{Control}
+use Rattle.search.specs.declared.Turn.{Turn}
+use Rattle.search.specs.declared.Turn.the-variants.{Rest, Offer, Look}
+use Rattle.search.specs.Search.{searched}
+use Rattle.search.specs.Turn.{Outcome, quiet, offer, sampled}
+use Rattle.search.specs.Fit.{controlFit}
+use Rattle.search.specs.Turns.{comesTo}
+use Rattle.search.specs.Ready.{counts, ready, turn-of-says, searched-says}
+use Rattle.search.proofs.Fitness.{fit-ready}
+use Rattle.search.proofs.SampleTurn.{Turns, turns}
+use Rattle.search.proofs.Searching.{searched-same}
 use Rattle.demodulator.specs.declared.SoftDemodulator.{SoftDemodulator}
 use Rattle.demodulator.specs.declared.Heard.{Heard}
 use Rattle.demodulator.specs.declared.Heard.the-variants.{Quiet, Offered}
-use Rattle.demodulator.specs.declared.turn.Turn.{Turn}
-use Rattle.demodulator.specs.declared.turn.Turn.the-variants.{Rest, Offer, Look}
 use Rattle.demodulator.specs.declared.step.Places.{Places}
-use Rattle.demodulator.specs.Search.{searched}
-use Rattle.demodulator.specs.Turn.{Outcome, quiet, offer, eight, symbolAt, sampled}
+use Rattle.demodulator.specs.Spans.{eight, symbolAt}
 use Rattle.demodulator.specs.Record.{assembled, back, withControl, windowAfter, filteredAfter, stored}
-use Rattle.demodulator.specs.Fit.{cursorsFit, controlFit, recordFit, fitForSample}
+use Rattle.demodulator.specs.Fit.{cursorsFit, recordFit, fitForSample}
 use Rattle.demodulator.specs.Calls.{Left, heardPaper, finished, demod-says}
-use Rattle.demodulator.specs.Parts.{Stores, SearchReady}
-use Rattle.demodulator.specs.Steps.{Counts, comesTo, Turns, Rings, Accepts}
-use Rattle.demodulator.proofs.Fitness.{holds, record-facts, fit-ready, sample-record, sample-seven}
+use Rattle.demodulator.specs.Parts.{Stores}
+use Rattle.demodulator.specs.Steps.{Rings, Accepts}
+use Rattle.demodulator.proofs.Fitness.{record-facts, sample-record, sample-seven}
 use Rattle.demodulator.proofs.Readers.{stored-newest, stored-tens, eight-at}
-use Rattle.demodulator.proofs.Searching.{searched-same}
 use Rattle.demodulator.proofs.Demodulating.{sample-taken}
 
 -- ---- the window
@@ -79,11 +87,14 @@ module _ {window : List ℤ} {ring room : List Float} {at : Places} {c : Control
       let f = record-facts (assembled window (at .«filter_cursor») ring (at .«rx_cursor») c) (sample-record _ (accepts .fit)) in
       (f .window-cursor, f .ring-cursor)
 
-  pub accepts-counts : Counts c
+  pub accepts-control : T (controlFit 10 c)
   unfolding recordFit
-  accepts-counts =
+  accepts-control =
       let m = assembled window (at .«filter_cursor») ring (at .«rx_cursor») c in
-      record { fit = and-r (cursorsFit m) (controlFit 10 c) (holds (sample-record m (accepts .fit))); count = accepts .count }
+      and-r (cursorsFit m) (controlFit 10 c) (holds (sample-record m (accepts .fit)))
+
+  pub accepts-counts : counts c ≡ true
+  accepts-counts = lt-ltb (c .sample) (2 ^ 63) (accepts .count)
 
 module _ (window window′ : List ℤ) (ring ring′ : List Float) (at : Places) (c : Control) (x : ℤ) (stores : Stores window (at .«filter_cursor») ring (at .«rx_cursor») x window′ ring′) where
   abbrev before : SoftDemodulator
@@ -101,7 +112,7 @@ module _ (window window′ : List ℤ) (ring ring′ : List Float) (at : Places)
 
   module _ (room : List Float) (accepts : Accepts window ring at c room) where
     -- what a search is handed
-    pub search-ready : SFits w16 x → (values : List Float) → values ≡ firsts (eight 10 (back (after c))) 8 → (d : Control) → T (controlFit 10 d) → SearchReady d values
+    pub search-ready : SFits w16 x → (values : List Float) → values ≡ firsts (eight 10 (back (after c))) 8 → (d : Control) → T (controlFit 10 d) → ready d values ≡ true
     search-ready fits values e d =
         let rings = accepts .rings in
         fit-ready d values (λ i l. rw (seen values e i l) (stored-eight before x (rings .samples) fits (accepts .fit) (rings .places) i l))
@@ -117,9 +128,12 @@ module _ (window window′ : List ℤ) (ring ring′ : List Float) (at : Places)
         record { answers = a ∙ sym (ap (λ (p : Left). p .answer) t); leaves = kept d ∙ l ∙ sym (ap (λ (p : Left). p .demodulator) t); writes = w ∙ sym (ap (λ (p : Left). p .room) t) }
 
     -- and so by its turn
-    module _ (r : Turn) (turns : Turns c r) where
-      comes : (o : Turn) → r ≡ o → comesTo (eight 10 (back (stored before x))) o ≡ sampled 10 (eight 10 (back (stored before x))) c
-      comes o told = ap (comesTo (eight 10 (back (stored before x)))) (sym told) ∙ turns .comes-to (eight 10 (back (stored before x)))
+    module _ (r : Turn) (says : turn-of-says c r) where
+      turned : Turns c r
+      turned = turns c r (accepts-control accepts) (accepts-counts accepts) says
+
+      comes : (o : Turn) → r ≡ o → comesTo 10 (eight 10 (back (stored before x))) o ≡ sampled 10 (eight 10 (back (stored before x))) c
+      comes o told = ap (comesTo 10 (eight 10 (back (stored before x)))) (sym told) ∙ turned .comes-to (eight 10 (back (stored before x)))
 
       pub rests : (d : Control) → r ≡ Rest d → demod-says before x room (record { answer = Quiet; demodulator = after d }) room
       rests d told = step-says (quiet d) (comes (Rest d) told) Quiet d room refl refl refl
@@ -130,7 +144,8 @@ module _ (window window′ : List ℤ) (ring ring′ : List Float) (at : Places)
           step-says (offer kind gain shift d) (comes (Offer kind gain shift d) told) (Offered (record { kind = kind; sample = d .sample })) d room′ refl refl
           (w ∙ ap (λ (m : SoftDemodulator). written (symbolAt 10 gain shift (back m)) 192 room) (stores c))
 
-      pub looks : (d : Control) → r ≡ Look d → (values : List Float) → values ≡ firsts (eight 10 (back (after c))) 8 → (found : Control) → found ≡ searched 10 (valuesOf values) d
+      pub looks : SFits w16 x → (d : Control) → r ≡ Look d → (values : List Float) → values ≡ firsts (eight 10 (back (after c))) 8 → (found : Control) → searched-says d values found
           → demod-says before x room (record { answer = Quiet; demodulator = after found }) room
-      looks d told values e found f =
+      looks fits d told values e found says-found =
+          let f : found ≡ searched 10 (valuesOf values) d = rw (search-ready fits values e d (turned .looks d told)) at says-found in
           step-says (quiet found) (ap quiet (f ∙ searched-same 10 (valuesOf values) (eight 10 (back (stored before x))) (seen values e) d) ∙ comes (Look d) told) Quiet found room refl refl refl

@@ -10,19 +10,20 @@ use lib.Ieee.{Float}
 use Rattle.numbers.specs.Firsts.{written}
 use Rattle.protocol.specs.declared.Kind.{Kind}
 use Rattle.protocol.specs.Refusals.{paperNumber}
-use Rattle.demodulator.specs.declared.Timer.{Timer}
-use Rattle.demodulator.specs.declared.Timer.the-variants.{Off, Until}
+use Rattle.search.specs.declared.Timer.{Timer}
+use Rattle.search.specs.declared.Timer.the-variants.{Off, Until}
+use Rattle.search.specs.declared.Reply.{Reply}
+use Rattle.search.specs.Turn.{Outcome, quiet, offer, sampled, replied}
 use Rattle.demodulator.specs.declared.SoftDemodulator.{SoftDemodulator}
 use Rattle.demodulator.specs.declared.Heard.{Heard}
 use Rattle.demodulator.specs.declared.Heard.the-variants.{Refused as HeardRefused, Quiet, Offered}
-use Rattle.demodulator.specs.declared.Reply.{Reply}
 use Rattle.demodulator.specs.declared.Replied.{Replied}
 use Rattle.demodulator.specs.declared.Replied.the-variants.{Refused as ReplyRefused, Done}
 use Rattle.demodulator.specs.declared.Carrier.{Carrier}
 use Rattle.demodulator.specs.declared.Carrier.the-variants.{Refused as CarrierRefused, Detected}
 use Rattle.demodulator.specs.declared.AfterSample.{AfterSample}
 use Rattle.demodulator.specs.declared.AfterReply.{AfterReply}
-use Rattle.demodulator.specs.Turn.{Outcome, quiet, offer, eight, symbolAt, sampled, replied}
+use Rattle.demodulator.specs.Spans.{eight, symbolAt}
 use Rattle.demodulator.specs.Record.{back, fresh, stored, withControl}
 use Rattle.demodulator.specs.Fit.{recordFit, fitForSample, fitForReply}
 

@@ -1,73 +1,18 @@
--- Document 01's 'Unfit receiver', phrase by phrase in its order: a record is fit where no phrase applies. Over p, the samples in a symbol, where a limit is a multiple of it. Assumes nothing.
-use mathlib.Core.Bool.{Bool, true, false, not, _&&_, cond}
-use Prim.Native.Nat.{ℕ, _+_, _*_, _^_}
-use lib.Dec.{eqb, leb, ltb}
-use lib.Ieee.{Float, binary32, ofBits, lt, le}
+-- Document 01's 'Unfit receiver', the phrases of the rings, around those of the control: a record is fit where no phrase applies. Assumes nothing.
+use mathlib.Core.Bool.{Bool, _&&_, cond}
+use Prim.Native.Nat.{ℕ, _+_, _*_}
+use lib.Dec.{eqb, ltb}
 use Rattle.numbers.specs.Below.{allBelow}
-use Rattle.decode.specs.Correlator.{leastGain, threshold, inRange}
-use Rattle.demodulator.specs.declared.Candidate.{Candidate}
-use Rattle.demodulator.specs.declared.Candidate.the-variants.{Nothing, Held}
-use Rattle.demodulator.specs.declared.Wait.{Wait}
-use Rattle.demodulator.specs.declared.Wait.the-variants.{Free, Due}
-use Rattle.demodulator.specs.declared.Timer.{Timer}
-use Rattle.demodulator.specs.declared.Timer.the-variants.{Off, Until}
-use Rattle.demodulator.specs.declared.Control.{Control}
+use Rattle.decode.specs.Correlator.{inRange}
+use Rattle.search.specs.declared.Wait.{Wait}
+use Rattle.search.specs.declared.Wait.the-variants.{Free, Due}
+use Rattle.search.specs.Fit.{controlFit}
 use Rattle.demodulator.specs.declared.SoftDemodulator.{SoftDemodulator}
 use Rattle.demodulator.specs.Record.{back}
 
 -- "a cursor at or past its ring's length (81, 1,920)"
 abbrev pub cursorsFit : SoftDemodulator → Bool
 cursorsFit m = ltb (m .«filter_cursor») 81 && ltb (m .«rx_cursor») 1920
-
--- "count above 2^63"
-abbrev pub countFit : Control → Bool
-countFit c = leb (c .sample) (2 ^ 63)
-
--- "timer end above 2^63 + 3,840"
-abbrev pub timerFit : ℕ → Timer → Bool
-timerFit p Off = true
-timerFit p (Until end) = leb end (2 ^ 63 + 384 * p)
-
--- "age outside 1 to 254"
-abbrev pub ageFit : ℕ → Bool
-ageFit age = leb 1 age && leb age 254
-
--- "diff below 0 or not below 100"
-abbrev pub diffFit : Float → Bool
-diffFit diff = le (ofBits binary32 0) diff && lt diff threshold
-
--- "gain not within 16 to 1,000,000"
-abbrev pub gainFit : Float → Bool
-gainFit gain = le leastGain gain && le gain (ofBits binary32 0x4974_2400)
-
--- "shift not within ±1,000,000"
-abbrev pub shiftFit : Float → Bool
-shiftFit shift = inRange shift
-
-unfoldable pub candidateFit : Candidate → Bool
-candidateFit Nothing = true
-candidateFit (Held kind age diff gain shift) = ageFit age && diffFit diff && gainFit gain && shiftFit shift
-
-abbrev pub held : Candidate → Bool
-held Nothing = false
-held (Held kind age diff gain shift) = true
-
--- "a wait outside 1 to 1,839, or held without a candidate, or with a reply owed"
-unfoldable pub waitFit : ℕ → Wait → Candidate → Bool → Bool
-waitFit p Free candidate owed = true
-waitFit p (Due w) candidate owed = leb 1 (w .left) && ltb (w .left) (184 * p) && held candidate && not owed
-
--- "a reply owed with a candidate held"
-abbrev pub replyFit : Bool → Candidate → Bool
-replyFit owed candidate = not (owed && held candidate)
-
-unfoldable pub controlFit : ℕ → Control → Bool
-controlFit p c =
-    countFit c
-    && timerFit p (c .dcd)
-    && candidateFit (c .candidate)
-    && waitFit p (c .wait) (c .candidate) (c .owed)
-    && replyFit (c .owed) (c .candidate)
 
 -- all but the filtered values: "a call that gives neither tests no filtered value"
 unfoldable pub recordFit : SoftDemodulator → Bool

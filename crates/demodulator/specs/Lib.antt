@@ -1,6 +1,5 @@
--- The receiver's rules for one call: what the control goes through, what makes a record fit, and what each call answers and leaves.
-pub mod Search
-pub mod Turn
+-- The receiver's rules for one call: how the rings are read, what makes a record fit, and what each call answers and leaves.
+pub mod Spans
 pub mod Record
 pub mod Fit
 pub mod Parts

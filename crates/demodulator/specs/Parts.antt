@@ -1,20 +1,11 @@
--- What the crate's own functions ask and promise: those that are lent the rings, the definitions of `Record` and `Fit`, of a record that is given by its parts; and those of the
--- search, the definitions of `Search`, of eight values that are heard once for six bursts. Assumes nothing.
+-- What the crate's own functions ask and promise that are lent the rings: the definitions of `Record` and `Fit`, of a record that is given by its parts. Assumes nothing.
 use mathlib.Core.Path.{_≡_}
 use mathlib.Core.Bool.{Bool}
-use mathlib.Core.List.{List, map}
-use Prim.Native.Nat.{ℕ, _+_, _%_, _^_, _≤_, _<_}
-use lib.Dec.{T}
+use mathlib.Core.List.{List}
+use Prim.Native.Nat.{ℕ, _+_, _%_}
 use lib.IntN.{ℤ}
-use lib.Ieee.{Float, lt}
-use Rattle.protocol.specs.declared.Kind.{Kind}
-use Rattle.protocol.specs.declared.SyncBurst.{SyncBurst}
-use Rattle.protocol.specs.declared.SyncBurst.the-variants.{Frame}
-use Rattle.decode.specs.declared.Spread.{Spread}
-use Rattle.decode.specs.Correlator.{threshold, heard, inRange}
-use Rattle.decode.specs.Parts.{valuesOf, spreadOf, answerFrom}
-use Rattle.demodulator.specs.declared.Control.{Control}
-use Rattle.demodulator.specs.Search.{ageOf, carried, tried, passed}
+use lib.Ieee.{Float}
+use Rattle.search.specs.declared.Control.{Control}
 use Rattle.demodulator.specs.Record.{assembled, stored}
 use Rattle.demodulator.specs.Fit.{recordFit, fitForSample, fitForReply}
 
@@ -32,33 +23,3 @@ TestsForSample ring windowCursor ringCursor c r = (window : List ℤ) → r ≡ 
 
 abbrev pub TestsForReply : List Float → ℕ → ℕ → Control → Bool → Type 0
 TestsForReply ring windowCursor ringCursor c r = (window : List ℤ) → r ≡ fitForReply (assembled window windowCursor ring ringCursor c)
-
--- ---- the search
--- what the six bursts are compared from: the eight values `vs` as they are heard, `us`, and the spread of these
-pub record Sensed (vs us : List Float) (s : Spread) : Type 0 where
-  pub values : us ≡ map heard vs
-  pub spread : s ≡ spreadOf (valuesOf us)
-
-abbrev pub Carries : SyncBurst → List Float → Spread → Control → Control → Type 0
-Carries burst us s c r = (vs : List Float) → Sensed vs us s → r ≡ carried 10 burst (valuesOf vs) c
-
-abbrev pub Tries : Kind → List Float → Spread → Control → Control → Type 0
-Tries kind us s c r = (vs : List Float) → Sensed vs us s → r ≡ tried 10 (valuesOf vs) kind c
-
-abbrev pub Passes : List Float → Spread → Control → Control → Type 0
-Passes us s c r = (vs : List Float) → Sensed vs us s → r ≡ passed 10 (valuesOf vs) c
-
--- an age is a byte, so there is to be room for one more where the kind matches
-pub record TryReady (c : Control) (kind : Kind) (us : List Float) (s : Spread) : Type 0 where
-  pub age : T (lt (answerFrom (Frame kind) (valuesOf us) s .diff) threshold) → ageOf (c .candidate) ≤ 254
-  pub count : c .sample ≤ 2 ^ 63
-
-pub record SearchReady (c : Control) (vs : List Float) : Type 0 where
-  pub range : (i : ℕ) → i < 8 → T (inRange (valuesOf vs i))
-  pub age : ageOf (c .candidate) ≤ 254
-  pub count : c .sample ≤ 2 ^ 63
-
-pub record PassReady (c : Control) (us : List Float) (s : Spread) : Type 0 where
-  pub eight : List Float
-  pub sensed : Sensed eight us s
-  pub ready : SearchReady c eight

@@ -7,10 +7,10 @@ use lib.ListN.{getD, set, replicate}
 use lib.Ieee.{Float, nan, binary32, ofBits}
 use Rattle.shaping.specs.Taps.{taps}
 use Rattle.shaping.specs.Sum.{dot, sampleAt}
-use Rattle.demodulator.specs.declared.Candidate.the-variants.{Nothing}
-use Rattle.demodulator.specs.declared.Wait.the-variants.{Free}
-use Rattle.demodulator.specs.declared.Timer.the-variants.{Off}
-use Rattle.demodulator.specs.declared.Control.{Control}
+use Rattle.search.specs.declared.Candidate.the-variants.{Nothing}
+use Rattle.search.specs.declared.Wait.the-variants.{Free}
+use Rattle.search.specs.declared.Timer.the-variants.{Off}
+use Rattle.search.specs.declared.Control.{Control}
 use Rattle.demodulator.specs.declared.SoftDemodulator.{SoftDemodulator}
 
 abbrev pub freshControl : Control

@@ -1,51 +1,23 @@
--- What the functions of a turn and of a step ask and promise: the definitions of `Turn`, of the control alone, and those of `Calls`, of a record that is given by its parts.
--- Assumes nothing.
+-- What the functions of a step ask and promise: the definitions of `Calls`, of a record that is given by its parts. Assumes nothing.
 use mathlib.Core.Path.{_≡_}
 use mathlib.Core.Bool.{true, false}
 use mathlib.Core.List.{List}
 use Prim.Native.Nat.{ℕ, _^_, _≤_, _<_}
-use lib.Dec.{T}
 use lib.IntN.{ℤ, pos}
 use lib.ListN.{length, getD}
 use lib.Ieee.{Float}
 use mir.Syntax.{w16}
 use mir.Val.{SFits}
 use Rattle.protocol.specs.declared.Refusal.{Refusal}
-use Rattle.demodulator.specs.declared.Candidate.{Candidate}
-use Rattle.demodulator.specs.declared.Control.{Control}
+use Rattle.search.specs.declared.Control.{Control}
 use Rattle.demodulator.specs.declared.Heard.the-variants.{Refused}
-use Rattle.demodulator.specs.declared.turn.Turn.{Turn}
-use Rattle.demodulator.specs.declared.turn.Turn.the-variants.{Rest, Offer, Look}
 use Rattle.demodulator.specs.declared.step.Places.{Places}
 use Rattle.demodulator.specs.declared.step.Stepped.{Stepped}
-use Rattle.demodulator.specs.Search.{searched}
-use Rattle.demodulator.specs.Turn.{Outcome, quiet, offer, due, sampled}
 use Rattle.demodulator.specs.Record.{assembled}
-use Rattle.demodulator.specs.Fit.{controlFit, fitForSample}
+use Rattle.demodulator.specs.Fit.{fitForSample}
 use Rattle.demodulator.specs.Calls.{demod-says}
 
--- ---- a turn
--- fit, and not at the last count
-pub record Counts (c : Control) : Type 0 where
-  pub fit : T (controlFit 10 c)
-  pub count : c .sample < 2 ^ 63
-
--- what a turn comes to, by the eight values
-abbrev pub comesTo : (ℕ → Float) → Turn → Outcome
-comesTo v (Rest c) = quiet c
-comesTo v (Offer kind gain shift c) = offer kind gain shift c
-comesTo v (Look c) = quiet (searched 10 v c)
-
-pub record TurnsDue (candidate : Candidate) (c : Control) (r : Turn) : Type 0 where
-  pub comes-to : (v : ℕ → Float) → comesTo v r ≡ due 10 v candidate c
-  pub looks : (d : Control) → r ≡ Look d → d ≡ c
-
-pub record Turns (c : Control) (r : Turn) : Type 0 where
-  pub comes-to : (v : ℕ → Float) → comesTo v r ≡ sampled 10 v c
-  pub looks : (d : Control) → r ≡ Look d → T (controlFit 10 d)
-
--- ---- a sample, over lent rings
--- what their types say of them: samples of 16 bits, and 1,920 places. Of an array that is lent nothing of that is known; a record by value has it, and hands it on
+-- what the types of lent rings say of them: samples of 16 bits, and 1,920 places. Of an array that is lent nothing of that is known; a record by value has it, and hands it on
 pub record Rings (window : List ℤ) (ring : List Float) : Type 0 where
   pub samples : (i : ℕ) → SFits w16 (getD window i (pos 0))
   pub places : length ring ≡ 1920

@@ -7,47 +7,14 @@ ghost use Rattle.demodulator.specs.Calls.{new-says, demod-says, reply-sa
 mod feed;
 mod fit;
 mod ring;
-mod search;
 mod step;
-mod turn;
 
-// A place that may be decoded, or none.
-pub enum Candidate {
-    Nothing,
-    Held {
-        kind: Kind,
-        age: u8,
-        diff: f32,
-        gain: f32,
-        shift: f32,
-    },
-}
-
-// How many samples are still to come before a frame is due.
-pub struct Waiting {
-    pub left: u16,
-}
-
-// No frame is awaited, or one is.
-pub enum Wait {
-    Free,
-    Due(Waiting),
-}
-
-// The carrier timer: not held, or held to the end of a sample.
-pub enum Timer {
-    Off,
-    Until(u64),
-}
-
-// All but the two rings, so that a search takes and gives back no array.
-pub struct Control {
-    pub candidate: Candidate,
-    pub wait: Wait,
-    pub dcd: Timer,
-    pub owed: bool,
-    pub sample: u64,
-}
+pub use search::Candidate;
+pub use search::Control;
+pub use search::Reply;
+pub use search::Timer;
+pub use search::Wait;
+pub use search::Waiting;
 
 pub struct SoftDemodulator {
     pub filter_win: [i16; 81],
@@ -68,12 +35,6 @@ pub enum Heard {
     Refused(Refusal),
     Quiet,
     Offered(Offer),
-}
-
-// What an offer is replied with.
-pub enum Reply {
-    Accepted,
-    Rejected,
 }
 
 // What a reply is answered with.
@@ -169,7 +130,7 @@ impl SoftDemodulator {
             };
         }
         let values = ring::eight(&self.rx_win, self.rx_cursor);
-        let settled = turn::replied(control, reply, values);
+        let settled = search::replied(control, reply, values);
         let mut demodulator = self;
         demodulator.control = settled;
         AfterReply {

@@ -5,7 +5,7 @@ ghost use lib.ListN.{length};
 ghost use Rattle.numbers.specs.Below.{allBelow};
 ghost use Rattle.numbers.specs.Firsts.{firsts, written};
 ghost use Rattle.decode.specs.Correlator.{inRange};
-ghost use Rattle.demodulator.specs.Turn.{eight, symbolAt};
+ghost use Rattle.demodulator.specs.Spans.{eight, symbolAt};
 ghost use Rattle.demodulator.specs.Record.{ringBack};
 ghost use Rattle.demodulator.specs.Parts.{Stores};
 

@@ -1,13 +1,12 @@
 // One sample, over rings that the caller lends: nothing large is copied.
-use crate::Control;
 use crate::Heard;
 use crate::Offer;
 use crate::fit;
 use crate::ring;
-use crate::search;
-use crate::turn;
-use crate::turn::Turn;
 use protocol::Refusal;
+use search::Control;
+use search::LAST_COUNT;
+use search::Turn;
 ghost use mathlib.Core.Path.{_≡_};
 ghost use Rattle.demodulator.specs.Steps.{Rings, Accepts, Steps, unmoved};
 
@@ -45,7 +44,7 @@ fn advance(
         filter_cursor: filter_next,
         rx_cursor: rx_next,
     };
-    let turn = turn::turn_of(control);
+    let turn = search::turn_of(control);
     match turn {
         Turn::Rest(rested) => Stepped {
             answer: Heard::Quiet,
@@ -111,7 +110,7 @@ pub(crate) fn step(
     if room.len() < 192 {
         return refused(Refusal::RoomTooSmall, places, control);
     }
-    if control.sample == fit::LAST {
+    if control.sample == LAST_COUNT {
         return refused(Refusal::CountAtItsEnd, places, control);
     }
     advance(filter_win, rx_win, places, control, sample, room)

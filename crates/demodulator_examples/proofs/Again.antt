@@ -10,6 +10,7 @@ use lib.ListN.{length, getD, length-append, getD-replicate, List·getD-append}
 use lib.Seq.{getD-append-add}
 use lib.Ieee.{Float, binary32, ofBits, ofInt, add, mul}
 use Rattle.numbers.specs.Sum.{nought, sumTo}
+use Rattle.numbers.proofs.Tests.{lt-or-le}
 use Rattle.numbers.proofs.Firsts.{firsts-at}
 use Rattle.shaping.specs.Taps.{taps}
 use Rattle.shaping.specs.Sum.{dot}
@@ -23,7 +24,7 @@ use Rattle.demodulator_run.proofs.Hearing.{filtered-taken}
 use Rattle.demodulator_run.proofs.Sixteen.{taps-size}
 use Rattle.demodulator_examples.proofs.Steps.{Hits}
 use Rattle.demodulator_examples.proofs.Table.{pause, listed}
-use Rattle.demodulator_examples.proofs.Sketch.{Sketch, samples, number, part, long, lt-or-le}
+use Rattle.demodulator_examples.proofs.Sketch.{Sketch, samples, number, part, long}
 
 pause-zero : (n k : ℕ) → k < n → getD (pause n) k (pos 0) ≡ pos 0
 unfolding pause
@@ -47,7 +48,7 @@ module _ (S : Sketch) where
   -- ---- the samples
   zeros-at : (k : ℕ) → 72 ≤ k → k < 1972 → getD twice k (pos 0) ≡ pos 0
   zeros-at k a b =
-      let two : length (S .front ++ (S .x ∷ S .y ∷ [])) ≡ 72 = length-append (S .front) (S .x ∷ S .y ∷ []) ∙ (let s = S .seventy in omega arith) in
+      let two : length (S .front ++ (S .x ∷ S .y ∷ [])) ≡ 72 = length-append (S .front) (S .x ∷ S .y ∷ []) ∙ (let s = S .facts .seventy in omega arith) in
       List·getD-append (samples S) (samples S) (pos 0) k (let n = number S in omega arith)
       ∙ ap (λ (l : List ℤ). getD l k (pos 0)) (sym (append-assoc (S .front) (S .x ∷ S .y ∷ []) (pause 1900)))
       ∙ getD-append-right (S .front ++ (S .x ∷ S .y ∷ [])) (pause 1900) k (omega arith)

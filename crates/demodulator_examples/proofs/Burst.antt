@@ -10,27 +10,29 @@ use lib.IntN.{ℤ}
 use lib.ListN.{length, length-append}
 use lib.Ieee.{Float}
 use lib.Ieee.Bits.{is-true}
+use Rattle.numbers.proofs.Tests.{holds}
 use Rattle.shaping.specs.Taps.{taps}
 use Rattle.protocol.specs.declared.Kind.{Kind}
-use Rattle.demodulator.specs.declared.Candidate.{Candidate}
-use Rattle.demodulator.specs.declared.Candidate.the-variants.{Nothing, Held}
-use Rattle.demodulator.specs.declared.Wait.the-variants.{Free}
-use Rattle.demodulator.specs.declared.Timer.{Timer}
-use Rattle.demodulator.specs.declared.Timer.the-variants.{Off}
-use Rattle.demodulator.specs.declared.Control.{Control}
-use Rattle.demodulator.specs.declared.Reply.the-variants.{Accepted}
-use Rattle.demodulator.specs.Search.{sameKind, taken}
-use Rattle.demodulator.specs.Turn.{Outcome, quiet, offer, counted, owing, sampled}
+use Rattle.search.specs.declared.Candidate.{Candidate}
+use Rattle.search.specs.declared.Candidate.the-variants.{Nothing, Held}
+use Rattle.search.specs.declared.Wait.the-variants.{Free}
+use Rattle.search.specs.declared.Timer.{Timer}
+use Rattle.search.specs.declared.Timer.the-variants.{Off}
+use Rattle.search.specs.declared.Control.{Control}
+use Rattle.search.specs.declared.Reply.the-variants.{Accepted}
+use Rattle.search.specs.Search.{sameKind, taken}
+use Rattle.search.specs.Turn.{Outcome, quiet, offer, counted, owing, sampled}
 use Rattle.demodulator_run.specs.Rules.{Call, sample, reply, Heard, After, start, settled, accepted, called, heardFrom, heardAll}
 use Rattle.demodulator_run.specs.Marks.{Mark, First, FellDue, isRefusal, logAll}
 use Rattle.demodulator_run.specs.Demands.{Ear, earOf, at, In}
 use Rattle.demodulator_run.specs.Exact.{ByRules, lastSample}
-use Rattle.demodulator_run.proofs.Listing.{yes→T, same-self}
+use Rattle.demodulator_run.specs.Stretch.{Sixteen}
+use Rattle.demodulator_run.proofs.Listing.{same-self}
 use Rattle.demodulator_run.proofs.Demand.{earAll, fedAll}
 use Rattle.demodulator_run.proofs.Demand48.{log-exact-48}
 use Rattle.demodulator_run.proofs.Pass.{controlled, passBy}
 use Rattle.demodulator_run.proofs.Worked.{room}
-use Rattle.demodulator_examples.proofs.Fed.{fed, fed-split, fed-append, Sixteen, fed-sampled, eightAt, taken-in, next, heard-append, fed-heard}
+use Rattle.demodulator_examples.proofs.Fed.{fed, fed-split, fed-append, fed-sampled, eightAt, taken-in, next, heard-append, fed-heard}
 use Rattle.demodulator_examples.proofs.Steps.{standing, waiting, Hits, none, next-search, next-first, quiet-run, wait-run}
 
 -- ---- an accepted sample
@@ -116,7 +118,7 @@ module _ (front : List ℤ) (x y : ℤ) (more : List ℤ) (seventy : length fron
     takes =
         let (t, e) = after-70 in
         marked-after all small few (First 71 k) front x (y ∷ more) refl (standing front Nothing Free t 70) e refl (lit< tt)
-        (counted (controlled Nothing Free t false 70), inl (refl, refl), (refl, refl, yes→T (first k ∙ ap₁ k)))
+        (counted (controlled Nothing Free t false 70), inl (refl, refl), (refl, refl, holds (first k ∙ ap₁ k)))
       where
         ap₁ : (j : Kind) → sameKind j j ≡ true
         ap₁ j = is-true (sameKind j j) (same-self j)

@@ -9,15 +9,16 @@ use lib.Dec.{lit≤, lit<}
 use lib.IntN.{ℤ}
 use lib.ListN.{length}
 use lib.Ieee.{lt}
+use Rattle.numbers.proofs.Tests.{holds}
 use Rattle.shaping.specs.Taps.{taps}
 use Rattle.protocol.specs.declared.Kind.the-variants.{Lsf, Stream}
 use Rattle.protocol.specs.declared.SyncBurst.the-variants.{Frame}
 use Rattle.decode.specs.declared.Correlation.{Correlation}
 use Rattle.decode.specs.Correlator.{correlation}
-use Rattle.demodulator.specs.declared.Timer.the-variants.{Until}
+use Rattle.search.specs.declared.Timer.the-variants.{Until}
 use Rattle.demodulator_run.specs.Marks.{logAll}
 use Rattle.demodulator_run.specs.Demands.{at, In, Started, DueAt, Shown, shownAt, dueMark, Cause, Corner, Replaces, Ear, DueBy, LiesAt}
-use Rattle.demodulator_run.proofs.Listing.{yes→T, no→⊥}
+use Rattle.demodulator_run.proofs.Listing.{no→⊥}
 use Rattle.demodulator_run.proofs.Demand48.{due-once-48, due-from-48, symbol-zero-48}
 use Rattle.demodulator_run.proofs.Pass.{Step, pass-lost, pass-hit}
 use Rattle.demodulator_examples.proofs.Table.{listed}
@@ -125,4 +126,4 @@ replaced-due =
 
 pub replaced-rule : (K : Known laterSmaller 1911 (shownAt (shaped laterSmaller) Stream 72)) × Replaces (shaped laterSmaller) 71 Lsf 72 Stream
 replaced-rule =
-    (known laterSmaller 1911 (shownAt (shaped laterSmaller) Stream 72) (lit≤ tt) replaced-due, (lit< tt, yes→T (at-72 laterSmaller Stream), λ t. no→⊥ later-not-above t))
+    (known laterSmaller 1911 (shownAt (shaped laterSmaller) Stream 72) (lit≤ tt) replaced-due, (lit< tt, holds (at-72 laterSmaller Stream), λ t. no→⊥ later-not-above t))

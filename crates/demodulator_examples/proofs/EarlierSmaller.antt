@@ -4,7 +4,6 @@ use mathlib.Core.Bool.{false}
 use mathlib.Core.List.{List, [], _∷_, _++_, map}
 use lib.Dec.{T}
 use lib.IntN.{ℤ, pos, negsuc}
-use lib.ListN.{length}
 use lib.Ieee.{Float, binary32, ofBits, ofInt, add, sub, mul, div, neg, lt, eq}
 use Rattle.numbers.specs.Sum.{sumTo}
 use Rattle.numbers.specs.Firsts.{firsts}
@@ -13,13 +12,13 @@ use Rattle.numbers.specs.Below.{anyBelow, allBelow}
 use Rattle.shaping.specs.Taps.{taps}
 use Rattle.shaping.specs.Sum.{dot}
 use Rattle.protocol.specs.Bursts.{signsOf}
-use Rattle.protocol.specs.declared.Kind.the-variants.{Lsf, Bert, Stream, Packet}
+use Rattle.protocol.specs.declared.Kind.the-variants.{Stream, Packet}
 use Rattle.protocol.specs.declared.SyncBurst.the-variants.{Frame}
 use Rattle.decode.specs.Correlator.{heard, highest, lowest, gainOf, shiftOf, symbolOf, distanceOf, summed, diffOf, correlation, matches}
-use Rattle.demodulator.specs.Search.{sameKind}
+use Rattle.search.specs.Search.{sameKind}
 use Rattle.demodulator_run.specs.Filter.{sampleNo, filtered}
-use Rattle.demodulator_examples.proofs.Steps.{Hits}
-use Rattle.demodulator_examples.proofs.Table.{allSixteen, listed, silent}
+use Rattle.demodulator_examples.proofs.Table.{allSixteen, listed, matched}
+use Rattle.demodulator_examples.proofs.Fits.{Fits, tested, fits}
 
 -- the first 70; two more follow
 unfoldable pub front : List ℤ
@@ -51,31 +50,12 @@ pub tabled : firsts (filtered taps 10 (front ++ (x ∷ y ∷ []))) 73 ≡ table
 unfolding front table firsts filtered sampleNo dot sumTo taps ofBits ofInt add mul
 tabled = refl
 
-pub quiet : T (allBelow 71 (silent table))
-unfolding allBelow silent table ofBits matches correlation diffOf summed sumTo distanceOf symbolOf shiftOf gainOf highest lowest heard larger smaller sizeOf add sub mul div lt eq neg ofInt signsOf anyBelow
-quiet = tt
+passes : T (tested front x y table Packet (sameKind Stream))
+unfolding tested front allSixteen allBelow matched table ofBits matches correlation diffOf summed sumTo distanceOf symbolOf shiftOf gainOf highest lowest heard larger smaller sizeOf add sub mul div lt eq neg ofInt signsOf anyBelow
+passes = tt
 
-pub first : Hits (listed table 71) (sameKind Packet)
-unfolding table ofBits matches correlation diffOf summed sumTo distanceOf symbolOf shiftOf gainOf highest lowest heard larger smaller sizeOf add sub mul div lt eq neg ofInt signsOf anyBelow
-first Lsf = refl
-first Bert = refl
-first Stream = refl
-first Packet = refl
-
-pub second : Hits (listed table 72) (sameKind Stream)
-unfolding table ofBits matches correlation diffOf summed sumTo distanceOf symbolOf shiftOf gainOf highest lowest heard larger smaller sizeOf add sub mul div lt eq neg ofInt signsOf anyBelow
-second Lsf = refl
-second Bert = refl
-second Stream = refl
-second Packet = refl
-
-pub seventy : length front ≡ 70
-unfolding front
-seventy = refl
-
-pub small : T (allSixteen (front ++ (x ∷ y ∷ [])))
-unfolding front allSixteen
-small = tt
+pub facts : Fits front x y table Packet (sameKind Stream)
+facts = fits front x y table Packet (sameKind Stream) passes
 
 -- the second diff is not above the first
 pub diffs : lt (correlation (Frame Packet) (listed table 71) .diff) (correlation (Frame Stream) (listed table 72) .diff) ≡ false

@@ -9,16 +9,16 @@ use lib.IntN.{ℤ}
 use lib.ListN.{length}
 use lib.Ieee.{Float}
 use lib.Ieee.Bits.{is-false}
-use mir.Syntax.{w16}
-use mir.Val.{SFits}
 use Rattle.shaping.specs.Taps.{taps}
-use Rattle.demodulator.specs.declared.Reply.the-variants.{Accepted}
-use Rattle.demodulator.specs.Turn.{Outcome, quiet, offer, eight, owing, sampled, replied}
+use Rattle.search.specs.declared.Reply.the-variants.{Accepted}
+use Rattle.search.specs.Turn.{Outcome, quiet, offer, owing, sampled, replied}
+use Rattle.demodulator.specs.Spans.{eight}
 use Rattle.demodulator.specs.Calls.{done}
 use Rattle.demodulator_laws.proofs.SampleFits.{controlOf}
 use Rattle.demodulator_run.specs.Filter.{ago}
 use Rattle.demodulator_run.specs.Rules.{Call, sample, reply, Heard, After, refused, settled, accepted, given, answered, called, heardFrom}
 use Rattle.demodulator_run.specs.Run.{Callable, Sampled}
+use Rattle.demodulator_run.specs.Stretch.{Sixteen}
 use Rattle.demodulator_run.proofs.Count.{sampled-count}
 use Rattle.demodulator_run.proofs.Worked.{room}
 
@@ -37,20 +37,6 @@ unfolding fed
 fed-split xs x ys = fed-append xs (x ∷ ys)
 
 -- ---- i16s
-unfoldable pub Sixteen : List ℤ → Type 0
-Sixteen [] = Unit {0}
-Sixteen (x ∷ xs) = SFits w16 x × Sixteen xs
-
-pub sixteen-append : (xs ys : List ℤ) → Sixteen xs → Sixteen ys → Sixteen (xs ++ ys)
-unfolding Sixteen
-sixteen-append [] ys s t = t
-sixteen-append (x ∷ xs) ys s t = (s .0, sixteen-append xs ys (s .1) t)
-
-pub sixteen-front : (xs ys : List ℤ) → Sixteen (xs ++ ys) → Sixteen xs
-unfolding Sixteen
-sixteen-front [] ys s = tt
-sixteen-front (x ∷ xs) ys s = (s .0, sixteen-front xs ys (s .1))
-
 pub fed-sampled : (xs : List ℤ) → Sixteen xs → Sampled (fed xs)
 unfolding fed Sixteen Sampled Callable
 fed-sampled [] s = tt

@@ -20,7 +20,8 @@ use Rattle.protocol.specs.declared.Kind.the-variants.{Stream}
 use Rattle.protocol.specs.declared.SyncBurst.the-variants.{Frame}
 use Rattle.decode.specs.declared.Correlation.{Correlation}
 use Rattle.decode.specs.Correlator.{heard, highest, lowest, gainOf, shiftOf, symbolOf, distanceOf, summed, diffOf, correlation}
-use Rattle.demodulator.specs.Turn.{eight, symbolAt, sampled}
+use Rattle.search.specs.Turn.{sampled}
+use Rattle.demodulator.specs.Spans.{eight, symbolAt}
 use Rattle.demodulator.specs.Calls.{frame}
 use Rattle.demodulator_run.specs.Filter.{filtered, ago}
 use Rattle.demodulator_run.specs.Rules.{Call, sample, Heard, Said, After, start, accepted, given, called, heardFrom, heardAll}
@@ -33,12 +34,12 @@ use Rattle.demodulator_run.proofs.Calling.{settled-samples, heard-extends}
 use Rattle.demodulator_run.proofs.LogExact.{not-refused}
 use Rattle.demodulator_run.proofs.Hearing.{filtered-taken}
 use Rattle.demodulator_run.proofs.Sixteen.{taps-size}
-use Rattle.demodulator_run.proofs.ReceiverRun.{next-call}
+use Rattle.demodulator_run.proofs.ReceiverRun.{sampled-front, next-call}
 use Rattle.demodulator_run.proofs.Demand48.{due-offered-48}
 use Rattle.demodulator_examples.proofs.Fed.{fed, heard-append}
 use Rattle.demodulator_examples.proofs.Table.{listed}
 use Rattle.demodulator_examples.proofs.Sketch.{Sketch, samples, calls, shaped, hears, correlates, heard-samples, fed-number, sampled as small}
-use Rattle.demodulator_examples.proofs.OneBurst.{oneBurst, table as oneTable, second}
+use Rattle.demodulator_examples.proofs.OneBurst.{oneBurst, table as oneTable}
 use Rattle.demodulator_examples.proofs.EarlierLarger.{earlierLarger, table as cornerTable}
 use Rattle.demodulator_examples.proofs.DueFrames.{one-burst-due, corner-due}
 use Rattle.demodulator_examples.proofs.SecondFrame.{both, first-frame, second-frame}
@@ -53,11 +54,6 @@ finds = due-offered-48 (calls oneBurst) (small oneBurst) 1911 (shownAt (shaped o
 
 pub finds-another : OfferedAt taps 10 1910 (shownAt (shaped earlierLarger) Stream 71) (calls earlierLarger)
 finds-another = due-offered-48 (calls earlierLarger) (small earlierLarger) 1910 (shownAt (shaped earlierLarger) Stream 71) refl corner-due
-
-sampled-front : (cs ds : List Call) → Sampled (cs ++ ds) → Sampled cs
-unfolding Sampled
-sampled-front [] ds s = tt
-sampled-front (c ∷ cs) ds s = (s .0, sampled-front cs ds (s .1))
 
 -- ---- 3: it always offers one window. The two offers' windows differ in their first symbol.
 module _ {cs : List Call} {d : ℕ} {w : Shown} (O : OfferedAt taps 10 d w cs) where
@@ -144,6 +140,6 @@ windows-differ e =
     true≢false (sym low ∙ ap (λ (l : List Float). lt (getD l 0 nought) half) e ∙ high)
 
 -- ---- 4: it works to its first frame and idles. The same burst given twice is offered twice: at 1,911, and at 3,883.
-pub works-on : OfferedAt taps 10 1911 (shownAt (earOf taps 10 (both oneBurst refl second)) Stream 71) (fed (both oneBurst refl second))
-    × ((w : Shown) × (w .kind ≡ Stream) × OfferedAt taps 10 3883 w (fed (both oneBurst refl second)))
-works-on = (first-frame oneBurst refl second, second-frame oneBurst refl second)
+pub works-on : OfferedAt taps 10 1911 (shownAt (earOf taps 10 (both oneBurst refl (oneBurst .facts .second))) Stream 71) (fed (both oneBurst refl (oneBurst .facts .second)))
+    × ((w : Shown) × (w .kind ≡ Stream) × OfferedAt taps 10 3883 w (fed (both oneBurst refl (oneBurst .facts .second))))
+works-on = (first-frame oneBurst refl (oneBurst .facts .second), second-frame oneBurst refl (oneBurst .facts .second))

@@ -9,34 +9,36 @@ use lib.Dec.{lit≤, lit<}
 use lib.IntN.{ℤ}
 use lib.ListN.{length, length-append}
 use lib.Ieee.{Float, lt}
+use Rattle.numbers.proofs.Tests.{holds}
 use Rattle.shaping.specs.Taps.{taps}
 use Rattle.protocol.specs.declared.Kind.{Kind}
 use Rattle.protocol.specs.declared.Kind.the-variants.{Stream, Packet}
 use Rattle.protocol.specs.declared.SyncBurst.the-variants.{Frame}
 use Rattle.decode.specs.declared.Correlation.{Correlation}
 use Rattle.decode.specs.Correlator.{correlation}
-use Rattle.demodulator.specs.declared.Wait.the-variants.{Free}
-use Rattle.demodulator.specs.declared.Timer.{Timer}
-use Rattle.demodulator.specs.declared.Control.{Control}
-use Rattle.demodulator.specs.declared.Reply.the-variants.{Accepted}
-use Rattle.demodulator.specs.Search.{rank, sameKind, taken}
-use Rattle.demodulator.specs.Turn.{cleared, counted, waited, sampled as turned}
+use Rattle.search.specs.declared.Wait.the-variants.{Free}
+use Rattle.search.specs.declared.Timer.{Timer}
+use Rattle.search.specs.declared.Control.{Control}
+use Rattle.search.specs.declared.Reply.the-variants.{Accepted}
+use Rattle.search.specs.Search.{rank, sameKind, taken}
+use Rattle.search.specs.Turn.{cleared, counted, waited, sampled as turned}
 use Rattle.demodulator_run.specs.Rules.{Call, sample, reply, Heard, After, start, called, heardFrom, heardAll}
 use Rattle.demodulator_run.specs.Run.{Sampled}
 use Rattle.demodulator_run.specs.Marks.{Mark, Anew, Failed, isRefusal, searchedMarks, waitedMarks, sampledMarks, repliedMarks, stepMarks, calledMarks, logFrom, logAll}
 use Rattle.demodulator_run.specs.Demands.{Ear, earOf, at, In, Switched, WaitSet, SwitchHeld}
-use Rattle.demodulator_run.proofs.Listing.{yes→T}
+use Rattle.demodulator_run.specs.Stretch.{Sixteen}
 use Rattle.demodulator_run.proofs.Pass.{Step, controlled, searchStep, passBy, search-pass, pass-hit}
 use Rattle.demodulator_run.proofs.Phase.{kept-past}
 use Rattle.demodulator_run.proofs.Run.{kept-all}
 use Rattle.demodulator_run.proofs.Demand.{earAll}
 use Rattle.demodulator_run.proofs.Demand48.{alone-48, again-48, switch-earlier-48, switch-held-48}
 use Rattle.demodulator_run.proofs.Worked.{room}
-use Rattle.demodulator_examples.proofs.Fed.{fed, fed-split, fed-sampled, Sixteen, sixteen-front, eightAt, taken-in, settled-heard}
+use Rattle.demodulator_run.proofs.Sixteen.{sixteen-front}
+use Rattle.demodulator_examples.proofs.Fed.{fed, fed-split, fed-sampled, eightAt, taken-in, settled-heard}
 use Rattle.demodulator_examples.proofs.Steps.{standing, Hits, none, hears}
 use Rattle.demodulator_examples.proofs.Table.{sixteen-test, listed, hits-listed, at-listed, silent-listed}
 use Rattle.demodulator_examples.proofs.Burst.{is-accepted, marked-after, part71, length71, after-71}
-use Rattle.demodulator_examples.proofs.EarlierSmaller.{front, x, y, table, tabled, quiet, first, second, seventy, small, diffs}
+use Rattle.demodulator_examples.proofs.EarlierSmaller.{front, x, y, table, tabled, facts, diffs}
 
 abbrev pub samples : List ℤ
 samples = front ++ (x ∷ y ∷ [])
@@ -48,13 +50,13 @@ abbrev pub ear : Ear
 ear = earOf taps 10 samples
 
 sixteen : Sixteen samples
-sixteen = sixteen-test samples small
+sixteen = sixteen-test samples (facts .small)
 
 pub sampled : Sampled calls
 sampled = fed-sampled samples sixteen
 
 number : length samples ≡ 72
-number = length-append front (x ∷ y ∷ []) ∙ (let s = seventy in omega arith)
+number = length-append front (x ∷ y ∷ []) ∙ (let s = facts .seventy in omega arith)
 
 few : length samples ≤ 2 ^ 63
 few = let n = number in omega arith
@@ -64,13 +66,13 @@ whole : samples ≡ samples ++ []
 whole = sym (append-nil samples)
 
 quiet-before : (n : ℕ) → n ≤ 70 → Hits (ear n) none
-quiet-before = silent-listed samples samples [] whole 72 number table tabled 70 (lit≤ tt) quiet
+quiet-before = silent-listed samples samples [] whole 72 number table tabled 70 (lit≤ tt) (facts .quiet)
 
 at-71 : Hits (ear 71) (sameKind Packet)
-at-71 = hits-listed samples samples [] whole 72 number table tabled 71 (lit≤ tt) (sameKind Packet) first
+at-71 = hits-listed samples samples [] whole 72 number table tabled 71 (lit≤ tt) (sameKind Packet) (facts .first)
 
 at-72 : Hits (ear 72) (sameKind Stream)
-at-72 = hits-listed samples samples [] whole 72 number table tabled 72 (lit≤ tt) (sameKind Stream) second
+at-72 = hits-listed samples samples [] whole 72 number table tabled 72 (lit≤ tt) (sameKind Stream) (facts .second)
 
 below : lt (at ear Packet 71 .diff) (at ear Stream 72 .diff) ≡ false
 below =
@@ -86,18 +88,18 @@ abbrev holding : Timer → Heard
 holding t = standing before (taken Packet (at ear Packet 71)) Free t 71
 
 held : (t : Timer) × (heardAll taps 10 (fed before) ≡ holding t)
-held = after-71 front x y [] seventy sixteen few quiet-before Packet at-71
+held = after-71 front x y [] (facts .seventy) sixteen few quiet-before Packet at-71
 
 -- ---- and at 72
 part : samples ≡ before ++ (y ∷ [])
-part = part71 front x y [] seventy sixteen few
+part = part71 front x y [] (facts .seventy) sixteen few
 
 pub switched : Switched (logAll taps 10 calls) 72 Packet Stream
 switched =
     let (t, e) = held in
     let m : Correlation = at ear Packet 71 in (
       marked-after samples sixteen few (Anew 72 Packet Stream) before y [] part (holding t) e refl (lit< tt)
-          (counted (holding t .control), inl (refl, refl), (refl, yes→T (at-72 Stream), (m .diff, (1, m .gain, m .shift, refl), below))),
+          (counted (holding t .control), inl (refl, refl), (refl, holds (at-72 Stream), (m .diff, (1, m .gain, m .shift, refl), below))),
       λ q. let r = ap rank q in omega arith,
     )
 
@@ -115,7 +117,7 @@ search-72 t =
     )
 
 heard-72 : ear 72 ≡ eightAt (before ++ (y ∷ []))
-heard-72 = hears samples before y [] 71 (length71 front x y [] seventy sixteen few) part (lit< tt)
+heard-72 = hears samples before y [] 71 (length71 front x y [] (facts .seventy) sixteen few) part (lit< tt)
 
 called-72 : (t : Timer) → calledMarks taps 10 (holding t) (sample y room) ≡ Anew 72 Packet Stream ∷ []
 unfolding calledMarks stepMarks sampledMarks waitedMarks

@@ -7,6 +7,7 @@ pub mod Steps
 pub mod Burst
 -- what is heard, from a table
 pub mod Table
+pub mod Fits
 -- demand 3 on 72 samples and zeros
 pub mod Sketch
 -- three lists of samples

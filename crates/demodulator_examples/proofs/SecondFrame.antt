@@ -10,30 +10,33 @@ use lib.Dec.{T, lit≤, lit<}
 use lib.IntN.{ℤ, pos}
 use lib.ListN.{length, length-append}
 use lib.Ieee.Bits.{is-true}
+use Rattle.numbers.proofs.Tests.{holds, lt-or-le}
 use Rattle.numbers.proofs.Below.{all-below}
 use Rattle.shaping.specs.Taps.{taps}
 use Rattle.protocol.specs.declared.Kind.{Kind}
 use Rattle.decode.specs.declared.Correlation.{Correlation}
-use Rattle.demodulator.specs.declared.Candidate.the-variants.{Nothing, Held}
-use Rattle.demodulator.specs.declared.Wait.the-variants.{Free}
-use Rattle.demodulator.specs.declared.Timer.{Timer}
-use Rattle.demodulator.specs.declared.Timer.the-variants.{Until}
-use Rattle.demodulator.specs.Search.{sameKind}
-use Rattle.demodulator.specs.Turn.{counted, offered}
+use Rattle.search.specs.declared.Candidate.the-variants.{Nothing, Held}
+use Rattle.search.specs.declared.Wait.the-variants.{Free}
+use Rattle.search.specs.declared.Timer.{Timer}
+use Rattle.search.specs.declared.Timer.the-variants.{Until}
+use Rattle.search.specs.Search.{sameKind}
+use Rattle.search.specs.Turn.{counted, offered}
 use Rattle.demodulator_run.specs.Rules.{Heard, start, heardFrom, heardAll}
 use Rattle.demodulator_run.specs.Run.{Sampled}
 use Rattle.demodulator_run.specs.Marks.{First, logAll}
 use Rattle.demodulator_run.specs.Demands.{Ear, earOf, at, In, Shown, shownAt, dueMark, Cause, Matches}
 use Rattle.demodulator_run.specs.Exact.{OfferedAt, lastSample}
-use Rattle.demodulator_run.proofs.Listing.{yes→T, no→⊥, same-self, same→≡}
+use Rattle.demodulator_run.specs.Stretch.{Sixteen}
+use Rattle.demodulator_run.proofs.Listing.{no→⊥, same-self, same→≡}
 use Rattle.demodulator_run.proofs.Demand.{fedAll}
 use Rattle.demodulator_run.proofs.Demand48.{due-cause-48, due-offered-48}
 use Rattle.demodulator_run.proofs.Pass.{Step, controlled, pass-lost}
-use Rattle.demodulator_examples.proofs.Fed.{fed, fed-append, fed-sampled, Sixteen, sixteen-append, next, heard-append}
+use Rattle.demodulator_run.proofs.Sixteen.{sixteen-append}
+use Rattle.demodulator_examples.proofs.Fed.{fed, fed-append, fed-sampled, next, heard-append}
 use Rattle.demodulator_examples.proofs.Steps.{standing, Hits, none, next-due, quiet-run}
-use Rattle.demodulator_examples.proofs.Table.{pause, pause-split, pause-suc, pause-length, listed, silent, silent-none, hits-listed, silent-listed}
+use Rattle.demodulator_examples.proofs.Table.{pause, pause-split, pause-suc, pause-length, listed, silent, hits-matched, hits-listed, silent-listed}
 use Rattle.demodulator_examples.proofs.Burst.{one-more, ear-all, fed-all, marked-after, part72, length71, before-due, falls-due}
-use Rattle.demodulator_examples.proofs.Sketch.{Sketch, samples, sixteen, number, part, long, lt-or-le}
+use Rattle.demodulator_examples.proofs.Sketch.{Sketch, samples, sixteen, number, part, long}
 use Rattle.demodulator_examples.proofs.Again.{twice, begun, hits-again}
 
 module _ (S : Sketch) (gives : offered (S .kind) ≡ true) (fades : Hits (listed (S .table) 72) none) where
@@ -64,10 +67,10 @@ module _ (S : Sketch) (gives : offered (S .kind) ≡ true) (fades : Hits (listed
   begins = same ∙ ap (λ (l : List ℤ). l ++ samples S) (part S) ∙ append-assoc (begun S) (pause 1899) (samples S)
 
   none-before : (n : ℕ) → n ≤ 70 → Hits (hear n) none
-  none-before = silent-listed both (begun S) (pause 1899 ++ samples S) begins 73 (long S) (S .table) (S .tabled) 70 (lit≤ tt) (S .quiet)
+  none-before = silent-listed both (begun S) (pause 1899 ++ samples S) begins 73 (long S) (S .table) (S .tabled) 70 (lit≤ tt) (S .facts .quiet)
 
   at-71 : Hits (hear 71) (sameKind (S .kind))
-  at-71 = hits-listed both (begun S) (pause 1899 ++ samples S) begins 73 (long S) (S .table) (S .tabled) 71 (lit≤ tt) (sameKind (S .kind)) (S .first)
+  at-71 = hits-listed both (begun S) (pause 1899 ++ samples S) begins 73 (long S) (S .table) (S .tabled) 71 (lit≤ tt) (sameKind (S .kind)) (S .facts .first)
 
   at-72 : Hits (hear 72) none
   at-72 = hits-listed both (begun S) (pause 1899 ++ samples S) begins 73 (long S) (S .table) (S .tabled) 72 (lit≤ tt) none fades
@@ -86,7 +89,7 @@ module _ (S : Sketch) (gives : offered (S .kind) ≡ true) (fades : Hits (listed
 
   waits : (t : Timer) × (heardAll taps 10 (fed upToDue) ≡ standing upToDue (Held (S .kind) 1 (m .diff) (m .gain) (m .shift)) lastSample t 1910)
   waits =
-      before-due (S .front) (S .x) (S .y) (pause 1900 ++ samples S) (S .seventy) both-sixteen few none-before (S .kind) at-71 none at-72 (Held (S .kind) 1 (m .diff) (m .gain) (m .shift)) 1839
+      before-due (S .front) (S .x) (S .y) (pause 1900 ++ samples S) (S .facts .seventy) both-sixteen few none-before (S .kind) at-71 none at-72 (Held (S .kind) 1 (m .diff) (m .gain) (m .shift)) 1839
       (λ t. (Until (72 + 384 * 10), ap (λ (s : Step). s .control) (pass-lost 10 (λ i. at hear i 72) t false 72 1 (m .diff) (m .gain) (m .shift) (S .kind))))
       (pause 1838) (pos 0) (pause 61 ++ samples S) goes (let n = pause-length 1838 in omega arith) (lit≤ tt)
 
@@ -102,11 +105,11 @@ module _ (S : Sketch) (gives : offered (S .kind) ≡ true) (fades : Hits (listed
   length-offered : length offered1911 ≡ 1911
   length-offered =
       length-append upToDue (pos 0 ∷ []) ∙ ap (λ (n : ℕ). n + 1) (length-append first72 (pause 1838) ∙ ap (λ (n : ℕ). n + length (pause 1838)) (length-append (S .front ++ (S .x ∷ [])) (S .y ∷ [])))
-      ∙ (let a = pause-length 1838 in let b = length71 (S .front) (S .x) (S .y) (pause 1900 ++ samples S) (S .seventy) both-sixteen few in omega arith)
+      ∙ (let a = pause-length 1838 in let b = length71 (S .front) (S .x) (S .y) (pause 1900 ++ samples S) (S .facts .seventy) both-sixteen few in omega arith)
 
   rest : both ≡ offered1911 ++ (pause 61 ++ samples S)
   rest =
-      part72 (S .front) (S .x) (S .y) (pause 1900 ++ samples S) (S .seventy) both-sixteen few
+      part72 (S .front) (S .x) (S .y) (pause 1900 ++ samples S) (S .facts .seventy) both-sixteen few
       ∙ ap (λ (l : List ℤ). first72 ++ l) goes
       ∙ sym (append-assoc first72 (pause 1838) (pos 0 ∷ (pause 61 ++ samples S)))
       ∙ sym (append-assoc upToDue (pos 0 ∷ []) (pause 61 ++ samples S))
@@ -118,13 +121,13 @@ module _ (S : Sketch) (gives : offered (S .kind) ≡ true) (fades : Hits (listed
   rest-split = rest ∙ ap (λ (l : List ℤ). offered1911 ++ l) (sym (append-assoc (pause 61) (S .front) (S .x ∷ S .y ∷ pause 1900)))
 
   length-between : length between ≡ 131
-  length-between = length-append (pause 61) (S .front) ∙ (let a = pause-length 61 in let b = S .seventy in omega arith)
+  length-between = length-append (pause 61) (S .front) ∙ (let a = pause-length 61 in let b = S .facts .seventy in omega arith)
 
   heard-again : (n : ℕ) → 223 ≤ n → n ≤ 2045 → (hit : Kind → Bool) → Hits (listed (S .table) (n - 1972)) hit → Hits (hear n) hit
   heard-again n a b hit h = subst (λ (l : List ℤ). Hits (earOf taps 10 l n) hit) (sym same) (hits-again S n a b hit h)
 
   silent-again : (n : ℕ) → 1911 < n → n ≤ 2042 → Hits (hear n) none
-  silent-again n a b = heard-again n (omega arith) (omega arith) none (silent-none (S .table) (n - 1972) (all-below 71 (silent (S .table)) (S .quiet) (n - 1972) (omega arith)))
+  silent-again n a b = heard-again n (omega arith) (omega arith) none (hits-matched (S .table) (n - 1972) none (all-below 71 (silent (S .table)) (S .facts .quiet) (n - 1972) (omega arith)))
 
   abbrev upTo2042 : List ℤ
   upTo2042 = offered1911 ++ between
@@ -140,7 +143,7 @@ module _ (S : Sketch) (gives : offered (S .kind) ≡ true) (fades : Hits (listed
 
   -- ---- the second take, and its frame
   at-2043 : Hits (hear 2043) (sameKind (S .kind))
-  at-2043 = heard-again 2043 (lit≤ tt) (lit≤ tt) (sameKind (S .kind)) (S .first)
+  at-2043 = heard-again 2043 (lit≤ tt) (lit≤ tt) (sameKind (S .kind)) (S .facts .first)
 
   at-2044 : Hits (hear 2044) none
   at-2044 = heard-again 2044 (lit≤ tt) (lit≤ tt) none fades
@@ -150,7 +153,7 @@ module _ (S : Sketch) (gives : offered (S .kind) ≡ true) (fades : Hits (listed
       let (t, e) = rests in
       marked-after both both-sixteen few (First 2043 (S .kind)) upTo2042 (S .x) (S .y ∷ pause 1900) (rest-split ∙ sym (append-assoc offered1911 between (S .x ∷ S .y ∷ pause 1900)))
       (standing upTo2042 Nothing Free t 2042) e refl (lit< tt)
-      (counted (controlled Nothing Free t false 2042), inl (refl, refl), (refl, refl, yes→T (at-2043 (S .kind) ∙ is-true (sameKind (S .kind) (S .kind)) (same-self (S .kind)))))
+      (counted (controlled Nothing Free t false 2042), inl (refl, refl), (refl, refl, holds (at-2043 (S .kind) ∙ is-true (sameKind (S .kind) (S .kind)) (same-self (S .kind)))))
 
   both-fed : fedAll taps 10 (fed both) ≡ 3944
   both-fed = fed-all both both-sixteen few ∙ both-number
@@ -159,7 +162,7 @@ module _ (S : Sketch) (gives : offered (S .kind) ≡ true) (fades : Hits (listed
   pub first-frame : OfferedAt taps 10 1911 (shownAt hear (S .kind) 71) (fed both)
   first-frame =
       due-offered-48 (fed both) both-sampled 1911 (shownAt hear (S .kind) 71) gives
-      (falls-due (S .front) (S .x) (S .y) (pause 1900 ++ samples S) (S .seventy) both-sixteen few none-before (S .kind) at-71 none at-72 (Held (S .kind) 1 (m .diff) (m .gain) (m .shift)) 1839
+      (falls-due (S .front) (S .x) (S .y) (pause 1900 ++ samples S) (S .facts .seventy) both-sixteen few none-before (S .kind) at-71 none at-72 (Held (S .kind) 1 (m .diff) (m .gain) (m .shift)) 1839
       (λ t. (Until (72 + 384 * 10), ap (λ (s : Step). s .control) (pass-lost 10 (λ i. at hear i 72) t false 72 1 (m .diff) (m .gain) (m .shift) (S .kind))))
       (pause 1838) (pos 0) (pause 61 ++ samples S) goes (let n = pause-length 1838 in omega arith) (lit≤ tt) (S .kind) 1 (m .diff) (m .gain) (m .shift) refl)
 

@@ -1,60 +1,51 @@
 -- 72 samples at whose 71st a kind matches for the first time, given with a table of their filtered values, and then zeros: what the theorems of demand 3 say of them. Assumes nothing.
 use mathlib.Core.Path.{_≡_, refl, sym, ap, _∙_, subst}
-use mathlib.Core.Bool.{Bool, true, false, not}
-use mathlib.Core.Logic.{_⊎_, inl, inr}
+use mathlib.Core.Bool.{Bool, false}
+use mathlib.Core.Logic.{inl, inr}
 use mathlib.Core.List.{List, [], _∷_, _++_, append-assoc}
-use Prim.Native.Nat.{ℕ, suc, _+_, _-_, _^_, _≤_, _<_}
+use Prim.Native.Nat.{ℕ, suc, _+_, _-_, _^_, _≤_}
 use native.Mathlib.Nat.{le-refl}
 use native.Mathlib.Omega.{arith}
-use lib.Dec.{T, ltb, ltb→lt, nltb→le, lit≤}
+use lib.Dec.{T, lit≤}
 use lib.IntN.{ℤ, pos}
 use lib.ListN.{length, length-append}
 use lib.Ieee.{Float}
 use Rattle.numbers.specs.Firsts.{firsts}
-use Rattle.numbers.specs.Below.{allBelow}
+use Rattle.numbers.proofs.Tests.{lt-or-le}
 use Rattle.shaping.specs.Taps.{taps}
 use Rattle.protocol.specs.declared.Kind.{Kind}
 use Rattle.protocol.specs.declared.SyncBurst.the-variants.{Frame}
 use Rattle.decode.specs.Correlator.{correlation}
-use Rattle.demodulator.specs.declared.Candidate.the-variants.{Held}
-use Rattle.demodulator.specs.declared.Wait.the-variants.{Free}
-use Rattle.demodulator.specs.declared.Timer.{Timer}
-use Rattle.demodulator.specs.Search.{sameKind, taken}
+use Rattle.search.specs.declared.Candidate.the-variants.{Held}
+use Rattle.search.specs.declared.Wait.the-variants.{Free}
+use Rattle.search.specs.declared.Timer.{Timer}
+use Rattle.search.specs.Search.{sameKind, taken}
 use Rattle.demodulator_run.specs.Filter.{filtered}
 use Rattle.demodulator_run.specs.Rules.{Call, heardAll}
 use Rattle.demodulator_run.specs.Run.{Sampled}
 use Rattle.demodulator_run.specs.Marks.{FellDue, logAll}
 use Rattle.demodulator_run.specs.Demands.{Ear, earOf, at, In, Started, DueAt, Shown, dueMark, Cause, Matches}
+use Rattle.demodulator_run.specs.Stretch.{Sixteen}
 use Rattle.demodulator_run.proofs.Listing.{same→≡, no→⊥}
 use Rattle.demodulator_run.proofs.Demand.{earAll, fedAll}
 use Rattle.demodulator_run.proofs.Demand48.{due-span-48, due-span-sharp-48, due-rule-48}
 use Rattle.demodulator_run.proofs.Pass.{controlled, passBy}
-use Rattle.demodulator_examples.proofs.Fed.{fed, fed-sampled, Sixteen, sixteen-append}
+use Rattle.demodulator_run.proofs.Sixteen.{sixteen-append}
+use Rattle.demodulator_examples.proofs.Fed.{fed, fed-sampled}
 use Rattle.demodulator_examples.proofs.Steps.{Hits, none, waiting}
-use Rattle.demodulator_examples.proofs.Table.{pause, pause-split, pause-suc, pause-length, allSixteen, sixteen-test, sixteen-pause, listed, silent, silent-none, listens, hits-listed, at-listed, silent-listed}
+use Rattle.demodulator_examples.proofs.Table.{pause, pause-split, pause-suc, pause-length, sixteen-test, sixteen-pause, listed, silent, hits-matched, listens, hits-listed, at-listed, silent-listed}
+use Rattle.demodulator_examples.proofs.Fits.{Fits}
 use Rattle.demodulator_examples.proofs.Burst.{heard-all, ear-all, fed-all, takes, falls-due}
-
-pub lt-or-le : (a b : ℕ) → (a < b) ⊎ (b ≤ a)
-lt-or-le a b = go (ltb a b) (ltb→lt a b) (nltb→le a b)
-  where
-    go : (t : Bool) → (T t → a < b) → (T (not t) → b ≤ a) → (a < b) ⊎ (b ≤ a)
-    go true f g = inl (f tt)
-    go false f g = inr (g tt)
 
 pub record Sketch : Type 0 where
   pub front : List ℤ
   pub x : ℤ
   pub y : ℤ
   pub table : List Float
-  -- the kind that matches at 71, and which do at 72
   pub kind : Kind
   pub hit : Kind → Bool
-  pub seventy : length front ≡ 70
-  pub small : T (allSixteen (front ++ (x ∷ y ∷ [])))
   pub tabled : firsts (filtered taps 10 (front ++ (x ∷ y ∷ pos 0 ∷ []))) 74 ≡ table
-  pub quiet : T (allBelow 71 (silent table))
-  pub first : Hits (listed table 71) (sameKind kind)
-  pub second : Hits (listed table 72) hit
+  pub facts : Fits front x y table kind hit
   pub lost : hit kind ≡ false
   pub over : T (silent table 73)
 
@@ -70,13 +61,13 @@ module _ (S : Sketch) where
   shaped = earOf taps 10 samples
 
   pub sixteen : Sixteen samples
-  sixteen = subst Sixteen (append-assoc (S .front) (S .x ∷ S .y ∷ []) (pause 1900)) (sixteen-append (S .front ++ (S .x ∷ S .y ∷ [])) (pause 1900) (sixteen-test _ (S .small)) (sixteen-pause 1900))
+  sixteen = subst Sixteen (append-assoc (S .front) (S .x ∷ S .y ∷ []) (pause 1900)) (sixteen-append (S .front ++ (S .x ∷ S .y ∷ [])) (pause 1900) (sixteen-test _ (S .facts .small)) (sixteen-pause 1900))
 
   pub sampled : Sampled calls
   sampled = fed-sampled samples sixteen
 
   pub number : length samples ≡ 1972
-  number = length-append (S .front) (S .x ∷ S .y ∷ pause 1900) ∙ (let a = S .seventy in let b = pause-length 1900 in omega arith)
+  number = length-append (S .front) (S .x ∷ S .y ∷ pause 1900) ∙ (let a = S .facts .seventy in let b = pause-length 1900 in omega arith)
 
   few : length samples ≤ 2 ^ 63
   few = let e = number in omega arith
@@ -89,7 +80,7 @@ module _ (S : Sketch) where
 
   -- ---- what is heard
   pub long : length (S .front ++ (S .x ∷ S .y ∷ pos 0 ∷ [])) ≡ 73
-  long = length-append (S .front) (S .x ∷ S .y ∷ pos 0 ∷ []) ∙ (let a = S .seventy in omega arith)
+  long = length-append (S .front) (S .x ∷ S .y ∷ pos 0 ∷ []) ∙ (let a = S .facts .seventy in omega arith)
 
   first-zero : pause 1900 ≡ pos 0 ∷ pause 1899
   unfolding pause
@@ -108,20 +99,20 @@ module _ (S : Sketch) where
   correlates = at-listed samples (S .front ++ (S .x ∷ S .y ∷ pos 0 ∷ [])) (pause 1899) part 73 long (S .table) (S .tabled)
 
   none-before : (n : ℕ) → n ≤ 70 → Hits (shaped n) none
-  none-before = silent-listed samples (S .front ++ (S .x ∷ S .y ∷ pos 0 ∷ [])) (pause 1899) part 73 long (S .table) (S .tabled) 70 (lit≤ tt) (S .quiet)
+  none-before = silent-listed samples (S .front ++ (S .x ∷ S .y ∷ pos 0 ∷ [])) (pause 1899) part 73 long (S .table) (S .tabled) 70 (lit≤ tt) (S .facts .quiet)
 
   at-71 : Hits (shaped 71) (sameKind (S .kind))
-  at-71 = hits 71 (lit≤ tt) (sameKind (S .kind)) (S .first)
+  at-71 = hits 71 (lit≤ tt) (sameKind (S .kind)) (S .facts .first)
 
   pub at-72 : Hits (shaped 72) (S .hit)
-  at-72 = hits 72 (lit≤ tt) (S .hit) (S .second)
+  at-72 = hits 72 (lit≤ tt) (S .hit) (S .facts .second)
 
   at-73 : Hits (shaped 73) none
-  at-73 = hits 73 (lit≤ tt) none (silent-none (S .table) 73 (S .over))
+  at-73 = hits 73 (lit≤ tt) none (hits-matched (S .table) 73 none (S .over))
 
   -- ---- the take, and the span
   pub started : Started (logAll taps 10 calls) 71
-  started = (S .kind, takes (S .front) (S .x) (S .y) (pause 1900) (S .seventy) sixteen few none-before (S .kind) at-71)
+  started = (S .kind, takes (S .front) (S .x) (S .y) (pause 1900) (S .facts .seventy) sixteen few none-before (S .kind) at-71)
 
   pub spans : (d : ℕ) × DueAt (logAll taps 10 calls) d × (71 + 1839 ≤ d) × (d ≤ 71 + 1879)
   spans = due-span-48 calls sampled 71 started (let e = fed-number in omega arith)
@@ -137,7 +128,7 @@ module _ (S : Sketch) where
         let goes : pause 1900 ≡ pause (left - 1) ++ (pos 0 ∷ pause (1900 - left)) =
         ap pause {x = 1900} {y = (left - 1) + suc (1900 - left)} (omega arith) ∙ pause-split (left - 1) (suc (1900 - left)) ∙ ap (λ (l : List ℤ). pause (left - 1) ++ l) (pause-suc (1900 - left)) in
         let enough : length (pause (left - 1)) + 1 ≡ left = let e = pause-length (left - 1) in omega arith in
-        falls-due (S .front) (S .x) (S .y) (pause 1900) (S .seventy) sixteen few none-before (S .kind) at-71 (S .hit) at-72 (Held j age diff gain shift) left leaves
+        falls-due (S .front) (S .x) (S .y) (pause 1900) (S .facts .seventy) sixteen few none-before (S .kind) at-71 (S .hit) at-72 (Held j age diff gain shift) left leaves
         (pause (left - 1)) (pos 0) (pause (1900 - left)) goes enough (omega arith) j age diff gain shift refl
 
   -- ---- where it comes from

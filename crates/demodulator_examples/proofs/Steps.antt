@@ -13,14 +13,14 @@ use Rattle.shaping.specs.Taps.{taps}
 use Rattle.protocol.specs.declared.Kind.{Kind}
 use Rattle.protocol.specs.declared.SyncBurst.the-variants.{Frame}
 use Rattle.decode.specs.Correlator.{correlation, matches}
-use Rattle.demodulator.specs.declared.Candidate.{Candidate}
-use Rattle.demodulator.specs.declared.Candidate.the-variants.{Nothing, Held}
-use Rattle.demodulator.specs.declared.Wait.{Wait}
-use Rattle.demodulator.specs.declared.Wait.the-variants.{Free, Due}
-use Rattle.demodulator.specs.declared.Timer.{Timer}
-use Rattle.demodulator.specs.declared.Control.{Control}
-use Rattle.demodulator.specs.Search.{withTimer, sameKind, taken, searched}
-use Rattle.demodulator.specs.Turn.{counted, cleared, offered, owing, due, waited, sampled}
+use Rattle.search.specs.declared.Candidate.{Candidate}
+use Rattle.search.specs.declared.Candidate.the-variants.{Nothing, Held}
+use Rattle.search.specs.declared.Wait.{Wait}
+use Rattle.search.specs.declared.Wait.the-variants.{Free, Due}
+use Rattle.search.specs.declared.Timer.{Timer}
+use Rattle.search.specs.declared.Control.{Control}
+use Rattle.search.specs.Search.{withTimer, sameKind, taken, searched}
+use Rattle.search.specs.Turn.{counted, cleared, offered, owing, due, waited, sampled}
 use Rattle.demodulator_run.specs.Rules.{Heard, heardFrom}
 use Rattle.demodulator_run.specs.Demands.{earOf}
 use Rattle.demodulator_run.specs.Exact.{lastSample}

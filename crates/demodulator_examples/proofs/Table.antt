@@ -1,6 +1,6 @@
 -- What is heard in a run, read from a table of its first filtered values: so that each is worked out once. Assumes nothing.
 use mathlib.Core.Path.{_≡_, refl, sym, ap, _∙_}
-use mathlib.Core.Bool.{Bool, true, false, not, _&&_}
+use mathlib.Core.Bool.{Bool, true, false, not, cond, _&&_}
 use mathlib.Core.List.{List, [], _∷_, _++_}
 use Prim.Native.Nat.{ℕ, zero, suc, _+_, _-_, _*_, _^_, _≤_}
 use native.Mathlib.Omega.{arith}
@@ -10,7 +10,6 @@ use lib.ListN.{length, getD, replicate, length-replicate, replicate-append-repli
 use lib.Seq.{take-at}
 use lib.Signed.{mag}
 use lib.Ieee.{Float}
-use lib.Ieee.Bits.{is-false}
 use lib.Ieee.Fits.{and-l, and-r}
 use mir.Syntax.{w16}
 use mir.Val.{hbits}
@@ -27,9 +26,9 @@ use Rattle.decode.specs.Correlator.{correlation, matches}
 use Rattle.decode.proofs.Same.{correlation-same, matches-same}
 use Rattle.demodulator_run.specs.Filter.{filtered}
 use Rattle.demodulator_run.specs.Demands.{earOf, at}
+use Rattle.demodulator_run.specs.Stretch.{Sixteen}
 use Rattle.demodulator_run.proofs.Hearing.{filtered-taken}
 use Rattle.demodulator_run.proofs.Sixteen.{taps-size}
-use Rattle.demodulator_examples.proofs.Fed.{Sixteen}
 use Rattle.demodulator_examples.proofs.Steps.{Hits, none}
 
 -- ---- zeros, and i16s
@@ -68,23 +67,33 @@ sixteen-pause (suc n) = (record { sfits = ltb→lt 0 (2 ^ hbits w16) tt }, sixte
 abbrev pub listed : List Float → ℕ → ℕ → Float
 listed table k i = getD table (k - 10 * (7 - i)) nought
 
-unfoldable pub silent : List Float → ℕ → Bool
-silent table k =
-    not (matches (Frame Lsf) (listed table k))
-    && (not (matches (Frame Bert) (listed table k)) && (not (matches (Frame Stream) (listed table k)) && not (matches (Frame Packet) (listed table k))))
+-- ---- which kinds match there
+abbrev level : Bool → Bool → Bool
+level a b = cond a b (not b)
 
-four : (m : Kind → Bool) → T (not (m Lsf) && (not (m Bert) && (not (m Stream) && not (m Packet)))) → (k : Kind) → m k ≡ false
-four m t = let rest : Bool = not (m Bert) && (not (m Stream) && not (m Packet)) in go (and-l (not (m Lsf)) rest t) (and-r (not (m Lsf)) rest t)
-  where
-    go : T (not (m Lsf)) → T (not (m Bert) && (not (m Stream) && not (m Packet))) → (k : Kind) → m k ≡ false
-    go a b Lsf = is-false (m Lsf) a
-    go a b Bert = is-false (m Bert) (and-l (not (m Bert)) (not (m Stream) && not (m Packet)) b)
-    go a b Stream = is-false (m Stream) (and-l (not (m Stream)) (not (m Packet)) (and-r (not (m Bert)) (not (m Stream) && not (m Packet)) b))
-    go a b Packet = is-false (m Packet) (and-r (not (m Stream)) (not (m Packet)) (and-r (not (m Bert)) (not (m Stream) && not (m Packet)) b))
+levelled : (a b : Bool) → T (level a b) → a ≡ b
+levelled true true t = refl
+levelled false false t = refl
 
-pub silent-none : (table : List Float) (k : ℕ) → T (silent table k) → Hits (listed table k) none
-unfolding silent
-silent-none table k t = four (λ j. matches (Frame j) (listed table k)) t
+abbrev judged : List Float → ℕ → (Kind → Bool) → Kind → Bool
+judged table k hit j = level (matches (Frame j) (listed table k)) (hit j)
+
+-- those of `hit`, and no others
+unfoldable pub matched : List Float → ℕ → (Kind → Bool) → Bool
+matched table k hit = judged table k hit Lsf && (judged table k hit Bert && (judged table k hit Stream && judged table k hit Packet))
+
+abbrev pub silent : List Float → ℕ → Bool
+silent table k = matched table k none
+
+all-four : (m : Kind → Bool) → T (m Lsf && (m Bert && (m Stream && m Packet))) → (k : Kind) → T (m k)
+all-four m t Lsf = and-l (m Lsf) (m Bert && (m Stream && m Packet)) t
+all-four m t Bert = and-l (m Bert) (m Stream && m Packet) (and-r (m Lsf) (m Bert && (m Stream && m Packet)) t)
+all-four m t Stream = and-l (m Stream) (m Packet) (and-r (m Bert) (m Stream && m Packet) (and-r (m Lsf) (m Bert && (m Stream && m Packet)) t))
+all-four m t Packet = and-r (m Stream) (m Packet) (and-r (m Bert) (m Stream && m Packet) (and-r (m Lsf) (m Bert && (m Stream && m Packet)) t))
+
+pub hits-matched : (table : List Float) (k : ℕ) (hit : Kind → Bool) → T (matched table k hit) → Hits (listed table k) hit
+unfolding matched
+hits-matched table k hit t j = levelled (matches (Frame j) (listed table k)) (hit j) (all-four (judged table k hit) t j)
 
 module _ (all ys more : List ℤ) (part : all ≡ ys ++ more) (n : ℕ) (long : length ys ≡ n) (table : List Float) (tabled : firsts (filtered taps 10 ys) (suc n) ≡ table) where
   pub listens : (k : ℕ) → k ≤ n → (i : ℕ) → earOf taps 10 all k i ≡ listed table k i
@@ -104,4 +113,4 @@ module _ (all ys more : List ℤ) (part : all ≡ ys ++ more) (n : ℕ) (long : 
   at-listed k l j = correlation-same (Frame j) (earOf taps 10 all k) (listed table k) (λ i b. listens k l i)
 
   pub silent-listed : (m : ℕ) → m ≤ n → T (allBelow (suc m) (silent table)) → (k : ℕ) → k ≤ m → Hits (earOf taps 10 all k) none
-  silent-listed m l t k h = hits-listed k (omega arith) none (silent-none table k (all-below (suc m) (silent table) t k (omega arith)))
+  silent-listed m l t k h = hits-listed k (omega arith) none (hits-matched table k none (all-below (suc m) (silent table) t k (omega arith)))

@@ -12,23 +12,25 @@ use Rattle.numbers.specs.Firsts.{firsts}
 use Rattle.protocol.specs.declared.Kind.the-variants.{Bert}
 use Rattle.protocol.specs.declared.Refusal.the-variants.{RecordUnfit}
 use Rattle.decode.specs.Correlator.{inRange}
-use Rattle.demodulator.specs.declared.Candidate.the-variants.{Nothing, Held}
-use Rattle.demodulator.specs.declared.Wait.the-variants.{Free, Due}
-use Rattle.demodulator.specs.declared.Timer.the-variants.{Off, Until}
-use Rattle.demodulator.specs.declared.Control.{Control}
+use Rattle.search.specs.declared.Candidate.the-variants.{Nothing, Held}
+use Rattle.search.specs.declared.Wait.the-variants.{Free, Due}
+use Rattle.search.specs.declared.Timer.the-variants.{Off, Until}
+use Rattle.search.specs.declared.Control.{Control}
+use Rattle.search.specs.declared.Reply.the-variants.{Accepted, Rejected}
+use Rattle.search.specs.Search.{searched}
+use Rattle.search.specs.Turn.{quiet, counted, waitingOn, freed, owing, due, sampled, replied}
+use Rattle.search.specs.Fit.{candidateFit, waitFit, controlFit}
+use Rattle.search.specs.Ready.{ready}
+use Rattle.search.proofs.TurnFits.{counted-fit, freed-fit}
 use Rattle.demodulator.specs.declared.SoftDemodulator.{SoftDemodulator}
-use Rattle.demodulator.specs.declared.Reply.the-variants.{Accepted, Rejected}
-use Rattle.demodulator.specs.Search.{searched}
-use Rattle.demodulator.specs.Turn.{quiet, eight, counted, waitingOn, freed, owing, due, sampled, replied}
+use Rattle.demodulator.specs.Spans.{eight}
 use Rattle.demodulator.specs.Record.{freshControl, fresh, assembled, withControl, back, stored}
-use Rattle.demodulator.specs.Fit.{candidateFit, waitFit, controlFit, recordFit, fitForSample, fitForReply}
+use Rattle.demodulator.specs.Fit.{recordFit, fitForSample, fitForReply}
 use Rattle.demodulator.specs.Calls.{nothing, done, refusal, carrier, refused, Left, demodulated, settled, answered, detected}
-use Rattle.demodulator.specs.Parts.{SearchReady}
 use Rattle.demodulator.specs.Steps.{unmoved, Steps}
 use Rattle.demodulator.proofs.StepInstances.{fresh-for-sample, room, room-enough}
+use Rattle.demodulator_laws.proofs.Turning.{sampled-free, sampled-rest, sampled-due}
 use Rattle.demodulator_laws.proofs.RecordInstances.{fresh-for-reply}
-use Rattle.demodulator.proofs.Turning.{sampled-free, sampled-rest, sampled-due}
-use Rattle.demodulator.proofs.TurnFits.{counted-fit, freed-fit}
 use Rattle.demodulator.proofs.Demodulating.{sample-unfit, sample-owed, sample-cramped, sample-last, sample-taken, refuses, reply-unfit, reply-unasked, reply-taken, carrier-unfit, carrier-told}
 use Rattle.demodulator.proofs.Replying.{reply-ready}
 use Rattle.demodulator_laws.proofs.SampleFits.{controlOf, sampled-fits, replied-fits}
@@ -158,7 +160,7 @@ reply-unasked-meets = reply-unasked fresh Accepted [] fresh-for-reply fresh-free
 pub reply-taken-meets : answered debtor Rejected [] ≡ record { answer = done; demodulator = settled debtor Rejected; room = [] }
 reply-taken-meets = reply-taken debtor Rejected [] debtor-for-reply refl
 
-reply-ready-meets : SearchReady owed (firsts (eight 10 (back debtor)) 8)
+reply-ready-meets : ready owed (firsts (eight 10 (back debtor)) 8) ≡ true
 reply-ready-meets = reply-ready debtor debtor-for-reply (firsts (eight 10 (back debtor)) 8) refl
 
 carrier-unfit-meets : detected past ≡ refusal 1

@@ -15,18 +15,21 @@ use lib.Ieee.Fits.{and-i, and-l, and-r}
 use mir.Syntax.{w16}
 use mir.Val.{SFits}
 use Rattle.numbers.specs.Below.{allBelow}
+use Rattle.numbers.proofs.Tests.{holds}
 use Rattle.numbers.proofs.Below.{below-all}
 use Rattle.decode.specs.Correlator.{inRange}
-use Rattle.demodulator.specs.declared.Control.{Control}
+use Rattle.search.specs.declared.Control.{Control}
+use Rattle.search.specs.declared.Reply.{Reply}
+use Rattle.search.specs.Search.{withCandidate, ageOf}
+use Rattle.search.specs.Turn.{Outcome, quiet, offer, sampled}
+use Rattle.search.specs.Fit.{controlFit}
 use Rattle.demodulator.specs.declared.SoftDemodulator.{SoftDemodulator}
-use Rattle.demodulator.specs.declared.Reply.{Reply}
-use Rattle.demodulator.specs.Search.{withCandidate, ageOf}
-use Rattle.demodulator.specs.Turn.{Outcome, quiet, offer, eight, sampled}
+use Rattle.demodulator.specs.Spans.{eight}
 use Rattle.demodulator.specs.Record.{back, withControl, filteredAfter, stored}
-use Rattle.demodulator.specs.Fit.{cursorsFit, controlFit, recordFit, placesRead, fitForSample, fitForReply}
+use Rattle.demodulator.specs.Fit.{cursorsFit, recordFit, placesRead, fitForSample, fitForReply}
 use Rattle.demodulator.specs.Calls.{Paper, refusal, Left, refused, finished, demodulated, settled, answered}
 use Rattle.demodulator.specs.Steps.{Rings}
-use Rattle.demodulator.proofs.Fitness.{holds, record-facts, sample-record, reply-record}
+use Rattle.demodulator.proofs.Fitness.{record-facts, sample-record, reply-record}
 use Rattle.demodulator_laws.proofs.Grown.{withAge}
 use Rattle.demodulator_laws.proofs.SampleFits.{either, controlOf, sampled-fits, replied-fits}
 use Rattle.demodulator.proofs.Stepping.{set-holds, new-in-range, stored-rings, stored-eight}
@@ -43,11 +46,15 @@ pub record Fits (m : SoftDemodulator) : Type 0 where
   pub for-sample : fitForSample m ≡ true
   pub for-reply : fitForReply m ≡ true
 
--- "A made-up age of 254 may come back as 255": with 254 in its place the record is fit
+-- an age of 255: with 254 in its place the record is fit
+pub record Old (m : SoftDemodulator) : Type 0 where
+  pub is : ageOf (m .control .candidate) ≡ 255
+  pub else-fit : Fits (withControl (withCandidate (withAge 254 (m .control .candidate)) (m .control)) m)
+
+-- "A made-up age of 254 may come back as 255"
 pub record Aged (m after : SoftDemodulator) : Type 0 where
   pub was : ageOf (m .control .candidate) ≡ 254
-  pub is : ageOf (after .control .candidate) ≡ 255
-  pub else-fit : Fits (withControl (withCandidate (withAge 254 (after .control .candidate)) (after .control)) after)
+  pub old : Old after
 
 -- no refusal
 abbrev pub Accepted : Paper → Type 0
@@ -81,24 +88,31 @@ pub record Given (m : SoftDemodulator) (room : List Float) : Type 0 where
   pub enough : 192 ≤ length room
   pub count : m .control .sample < 2 ^ 63
 
-module _ (m : SoftDemodulator) (x : ℤ) (room : List Float) (accepted : Accepted (demodulated m x room .answer)) where
-  pub given : Given m room
-  given =
+pub record Refused (m : SoftDemodulator) (x : ℤ) (room : List Float) : Type 0 where
+  pub number : ℕ
+  pub call : demodulated m x room ≡ refused number m room
+
+module _ (m : SoftDemodulator) (x : ℤ) (room : List Float) where
+  pub given-or-refused : Given m room ⊎ Refused m x room
+  given-or-refused =
       elim (either (fitForSample m)) [
-        | inr e ↦ never _ accepted 1 m room (sample-unfit m x room e)
+        | inr e ↦ inr (record { number = 1; call = sample-unfit m x room e })
         | inl fit ↦ elim (either (m .control .owed)) [
-          | inl e ↦ never _ accepted 2 m room (sample-owed m x room fit e)
+          | inl e ↦ inr (record { number = 2; call = sample-owed m x room fit e })
           | inr free ↦ elim (either (ltb (length room) 192)) [
-            | inl t ↦ never _ accepted 4 m room (sample-cramped m x room fit free (ltb-true (length room) 192 t))
+            | inl t ↦ inr (record { number = 4; call = sample-cramped m x room fit free (ltb-true (length room) 192 t) })
             | inr t ↦
                 let enough = ltb-false (length room) 192 t in
                 elim (eq-or-lt-of-le (record-facts m (sample-record m fit) .control .count)) [
-                  | inl e ↦ never _ accepted 5 m room (sample-last m x room fit free enough e)
-                  | inr l ↦ record { fit = fit; free = free; enough = enough; count = l }
+                  | inl e ↦ inr (record { number = 5; call = sample-last m x room fit free enough e })
+                  | inr l ↦ inl (record { fit = fit; free = free; enough = enough; count = l })
                 ]
           ]
         ]
       ]
+
+  pub given : Accepted (demodulated m x room .answer) → Given m room
+  given accepted = elim given-or-refused [ inl g ↦ g | inr r ↦ never _ accepted (r .number) m room (r .call) ]
 
 -- ---- what a sample leaves
 finished-leaves : (m : SoftDemodulator) (room : List Float) (o : Outcome) → finished m room o .demodulator ≡ withControl (controlOf o) m
@@ -146,7 +160,7 @@ module _ (m : SoftDemodulator) (x : ℤ) (fits : SFits w16 x) (in-range : InRang
           stored-in-range c,
           elim (sampled-fits 10 (lit≤ tt) (eight 10 (back (stored m x))) range (m .control) control (g .count) (g .free)) [
             | inl t ↦ inl (stored-fits c t)
-            | inr o ↦ inr (record { was = o .was; is = o .is; else-fit = stored-fits (withCandidate (withAge 254 (c .candidate)) c) (o .else-fit) })
+            | inr o ↦ inr (record { was = o .was; old = record { is = o .is; else-fit = stored-fits (withCandidate (withAge 254 (c .candidate)) c) (o .else-fit) } })
           ],
         )
 

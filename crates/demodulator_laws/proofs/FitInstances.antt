@@ -1,19 +1,33 @@
 -- Small instances of the laws of a call that leaves a fit record, at a fresh record and at one that owes a reply: what the laws ask can be met. Assumes nothing.
-use mathlib.Core.Path.{_≡_, sym, ap, _∙_}
-use mathlib.Core.Logic.{_⊎_}
-use mathlib.Core.List.{[]}
-use Prim.Native.Nat.{ℕ}
+use mathlib.Core.Path.{_≡_, refl, sym, ap, _∙_}
+use mathlib.Core.Logic.{_⊎_, inl, inr}
+use mathlib.Core.Bool.{true, false}
+use mathlib.Core.List.{[], _∷_}
+use Prim.Native.Nat.{ℕ, zero, suc}
 use native.Mathlib.Omega.{arith}
-use lib.Dec.{T}
+use lib.Dec.{T, lit<}
 use lib.IntN.{pos}
-use lib.ListN.{getD-replicate}
+use lib.ListN.{getD, getD-replicate}
 use lib.Ieee.{nan, binary32, ofBits, lt, le}
+use mir.Syntax.{w16}
+use mir.Val.{SFits}
+use Rattle.numbers.specs.Below.{allBelow}
+use Rattle.protocol.specs.declared.Kind.the-variants.{Bert}
 use Rattle.decode.specs.Correlator.{inRange}
-use Rattle.demodulator.specs.declared.Reply.the-variants.{Rejected}
-use Rattle.demodulator.specs.Record.{fresh, back, stored}
+use Rattle.search.specs.declared.Candidate.the-variants.{Held}
+use Rattle.search.specs.declared.Wait.the-variants.{Free}
+use Rattle.search.specs.declared.Timer.the-variants.{Off}
+use Rattle.search.specs.declared.Reply.the-variants.{Rejected}
+use Rattle.search.specs.Fit.{candidateFit, waitFit, controlFit}
+use Rattle.demodulator.specs.declared.SoftDemodulator.{SoftDemodulator}
+use Rattle.demodulator.specs.Record.{fresh, back, stored, withControl}
+use Rattle.demodulator.specs.Fit.{recordFit, fitForSample, fitForReply}
 use Rattle.demodulator.specs.Calls.{nothing, done, refusal, Left, demodulated, answered}
-use Rattle.demodulator.proofs.StepInstances.{room, one-fits, fresh-rings}
-use Rattle.demodulator_laws.proofs.FitAgain.{InRange, Fits, Aged, Accepted, Given, back-in-range, given, stored-in-range, fit-again, reply-fit-again}
+use Rattle.demodulator.specs.Feed.{fed}
+use Rattle.demodulator.proofs.StepInstances.{fresh-for-sample, room, one-fits, fresh-rings}
+use Rattle.demodulator_laws.proofs.FitAgain.{InRange, Fits, Old, Aged, Accepted, Given, back-in-range, given, stored-in-range, fit-again, reply-fit-again}
+use Rattle.demodulator_laws.proofs.FedFits.{Usable, feed-fit-again}
+use Rattle.demodulator_laws.proofs.RecordInstances.{fresh-for-reply}
 use Rattle.demodulator_laws.proofs.CallInstances.{fresh-answer, debtor, reply-taken-meets}
 
 -- ---- a fresh record
@@ -50,3 +64,22 @@ back-in-range-meets = back-in-range debtor debtor-in-range 1919
 
 reply-fit-again-meets : InRange (answered debtor Rejected [] .demodulator) × Fits (answered debtor Rejected [] .demodulator)
 reply-fit-again-meets = reply-fit-again debtor Rejected [] debtor-in-range debtor-accepted
+
+-- ---- a stretch
+small : (i : ℕ) → SFits w16 (getD (pos 1 ∷ []) i (pos 0))
+small zero = one-fits
+small (suc i) = record { sfits = lit< tt }
+
+feed-fit-again-meets : Usable (fed 0 fresh (pos 1 ∷ []) room .demodulator)
+feed-fit-again-meets = feed-fit-again (pos 1 ∷ []) small 0 fresh room (record { in-range = fresh-in-range; fit = inl (record { for-sample = fresh-for-sample; for-reply = fresh-for-reply }) })
+
+-- one whose age is 255
+abbrev old : SoftDemodulator
+old = withControl (record { candidate = Held Bert 255 (ofBits binary32 0) (ofBits binary32 0x4180_0000) (ofBits binary32 0); wait = Free; dcd = Off; owed = false; sample = 1 }) fresh
+
+old-is : Old old
+unfolding fresh fitForSample fitForReply recordFit controlFit candidateFit waitFit allBelow inRange ofBits le lt
+old-is = record { is = refl; else-fit = record { for-sample = refl; for-reply = refl } }
+
+feed-old-meets : Usable (fed 0 old (pos 1 ∷ []) room .demodulator)
+feed-old-meets = feed-fit-again (pos 1 ∷ []) small 0 old room (record { in-range = record { rings = fresh-in-range .rings; values = fresh-in-range .values }; fit = inr old-is })

@@ -9,14 +9,14 @@ use Rattle.protocol.specs.declared.Kind.{Kind}
 use Rattle.decode.specs.declared.Correlation.{Correlation}
 use Rattle.decode.specs.Correlator.{zero32, leastGain, threshold}
 use Rattle.decode.proofs.MatchFacts.{MatchFacts}
-use Rattle.demodulator.specs.declared.Candidate.{Candidate}
-use Rattle.demodulator.specs.declared.Candidate.the-variants.{Nothing, Held}
-use Rattle.demodulator.specs.declared.Wait.{Wait}
-use Rattle.demodulator.specs.declared.Wait.the-variants.{Free, Due}
-use Rattle.demodulator.specs.Search.{ageOf, taken, heldAfter}
-use Rattle.demodulator.specs.Fit.{ageFit, diffFit, gainFit, shiftFit, candidateFit, held, waitFit}
-use Rattle.demodulator.proofs.Fitness.{held-facts}
-use Rattle.demodulator.proofs.Passing.{by-test}
+use Rattle.search.specs.declared.Candidate.{Candidate}
+use Rattle.search.specs.declared.Candidate.the-variants.{Nothing, Held}
+use Rattle.search.specs.declared.Wait.{Wait}
+use Rattle.search.specs.declared.Wait.the-variants.{Free, Due}
+use Rattle.search.specs.Search.{ageOf, taken, heldAfter}
+use Rattle.search.specs.Fit.{ageFit, diffFit, gainFit, shiftFit, candidateFit, held, waitFit}
+use Rattle.search.proofs.Fitness.{held-facts}
+use Rattle.search.proofs.Passing.{by-test}
 
 -- a candidate as it would be at another age
 abbrev pub withAge : ℕ → Candidate → Candidate

@@ -1,4 +1,6 @@
 -- What follows from the receiver's calls, taken one by one. Assumes nothing.
+-- what a sample comes to, by the wait
+pub mod Turning
 -- a candidate fit but for its age
 pub mod Grown
 -- a search leaves a fit control fit, but for one age
@@ -8,8 +10,11 @@ pub mod WaitFits
 -- an accepted call leaves a fit record fit
 pub mod SampleFits
 pub mod FitAgain
+pub mod FedFits
 -- small instances of the laws of the record, of the search and of the calls: what they ask can be met
 pub mod RecordInstances
 pub mod SearchInstances
 pub mod CallInstances
 pub mod FitInstances
+-- each limit of a record, met and passed by one
+pub mod Limits

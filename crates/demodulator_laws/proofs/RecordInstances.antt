@@ -11,13 +11,14 @@ use Rattle.numbers.specs.Below.{allBelow}
 use Rattle.numbers.specs.Firsts.{firsts}
 use Rattle.protocol.specs.declared.Kind.the-variants.{Lsf}
 use Rattle.decode.specs.Correlator.{inRange}
-use Rattle.demodulator.specs.declared.Candidate.the-variants.{Held}
-use Rattle.demodulator.specs.declared.Wait.the-variants.{Due}
-use Rattle.demodulator.specs.declared.Timer.the-variants.{Until}
+use Rattle.search.specs.declared.Candidate.the-variants.{Held}
+use Rattle.search.specs.declared.Wait.the-variants.{Due}
+use Rattle.search.specs.declared.Timer.the-variants.{Until}
+use Rattle.search.specs.Fit.{candidateFit, waitFit, controlFit}
 use Rattle.demodulator.specs.declared.SoftDemodulator.{SoftDemodulator}
-use Rattle.demodulator.specs.Turn.{eight}
+use Rattle.demodulator.specs.Spans.{eight}
 use Rattle.demodulator.specs.Record.{freshControl, assembled, ringBack, back, fresh, filteredAfter, stored, withControl}
-use Rattle.demodulator.specs.Fit.{candidateFit, waitFit, controlFit, recordFit, fitForSample, fitForReply}
+use Rattle.demodulator.specs.Fit.{recordFit, fitForSample, fitForReply}
 use Rattle.demodulator.specs.Parts.{TestsRecord}
 use Rattle.demodulator.proofs.StepInstances.{fresh-for-sample}
 use Rattle.demodulator.proofs.Readers.{newest, older, stored-newest, stored-older, stored-tens, eight-at}

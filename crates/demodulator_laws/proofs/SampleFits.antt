@@ -8,20 +8,20 @@ use lib.Dec.{T, ltb}
 use borrow.Author.Tests.{ltb-true, ltb-false}
 use lib.Ieee.{Float}
 use Rattle.decode.specs.Correlator.{inRange}
-use Rattle.demodulator.specs.declared.Candidate.{Candidate}
-use Rattle.demodulator.specs.declared.Candidate.the-variants.{Nothing, Held}
-use Rattle.demodulator.specs.declared.Wait.{Wait}
-use Rattle.demodulator.specs.declared.Wait.the-variants.{Free, Due}
-use Rattle.demodulator.specs.declared.Control.{Control}
-use Rattle.demodulator.specs.declared.Reply.{Reply}
-use Rattle.demodulator.specs.declared.Reply.the-variants.{Accepted, Rejected}
-use Rattle.demodulator.specs.Search.{ageOf, searched}
-use Rattle.demodulator.specs.Turn.{Outcome, quiet, offer, pickOutcome, offered, counted, freed, owing, due, sampled, replied}
-use Rattle.demodulator.specs.Fit.{controlFit}
+use Rattle.search.specs.declared.Candidate.{Candidate}
+use Rattle.search.specs.declared.Candidate.the-variants.{Nothing, Held}
+use Rattle.search.specs.declared.Wait.{Wait}
+use Rattle.search.specs.declared.Wait.the-variants.{Free, Due}
+use Rattle.search.specs.declared.Control.{Control}
+use Rattle.search.specs.declared.Reply.{Reply}
+use Rattle.search.specs.declared.Reply.the-variants.{Accepted, Rejected}
+use Rattle.search.specs.Search.{ageOf, searched}
+use Rattle.search.specs.Turn.{Outcome, quiet, offer, pickOutcome, offered, counted, freed, owing, due, sampled, replied}
+use Rattle.search.specs.Fit.{controlFit}
+use Rattle.search.proofs.TurnFits.{counted-fit, freed-fit}
+use Rattle.demodulator_laws.proofs.Turning.{sampled-free, sampled-rest, sampled-due}
 use Rattle.demodulator_laws.proofs.WaitFits.{waiting-fit, settled-fit}
 use Rattle.demodulator_laws.proofs.SearchFits.{Outgrown, search-fits}
-use Rattle.demodulator.proofs.Turning.{sampled-free, sampled-rest, sampled-due}
-use Rattle.demodulator.proofs.TurnFits.{counted-fit, freed-fit}
 
 abbrev pub controlOf : Outcome → Control
 controlOf (quiet c) = c

@@ -7,21 +7,22 @@ use native.Mathlib.Nat.{eq-or-lt-of-le, le-refl}
 use native.Mathlib.Omega.{arith}
 use lib.Dec.{T, leb→le, le→leb}
 use lib.Ieee.{Float}
+use Rattle.numbers.proofs.Tests.{holds}
 use Rattle.protocol.specs.declared.Kind.{Kind}
 use Rattle.protocol.specs.declared.Kind.the-variants.{Lsf, Bert, Stream, Packet}
 use Rattle.protocol.specs.declared.SyncBurst.{SyncBurst}
 use Rattle.protocol.specs.declared.SyncBurst.the-variants.{Frame, Preamble, EndOfTransmission}
 use Rattle.decode.specs.Correlator.{correlation, matches, inRange}
 use Rattle.decode.proofs.MatchFacts.{match-facts}
-use Rattle.demodulator.specs.declared.Candidate.{Candidate}
-use Rattle.demodulator.specs.declared.Candidate.the-variants.{Nothing, Held}
-use Rattle.demodulator.specs.declared.Timer.the-variants.{Until}
-use Rattle.demodulator.specs.declared.Control.{Control}
-use Rattle.demodulator.specs.Search.{withTimer, withCandidate, rank, sameKind, ageOf, heldAfter, waitAfter, carried, missed, tried, passed, searched}
-use Rattle.demodulator.specs.Fit.{candidateFit, timerFit, held, waitFit, controlFit}
-use Rattle.demodulator.proofs.Fitness.{holds, age-most}
-use Rattle.demodulator.proofs.Clauses.{clauses, joined}
-use Rattle.demodulator.proofs.Passing.{by-test, carried-candidate, carried-sample, Passing, passing, tried-passing}
+use Rattle.search.specs.declared.Candidate.{Candidate}
+use Rattle.search.specs.declared.Candidate.the-variants.{Nothing, Held}
+use Rattle.search.specs.declared.Timer.the-variants.{Until}
+use Rattle.search.specs.declared.Control.{Control}
+use Rattle.search.specs.Search.{withTimer, withCandidate, rank, sameKind, ageOf, heldAfter, waitAfter, carried, missed, tried, passed, searched}
+use Rattle.search.specs.Fit.{candidateFit, timerFit, held, waitFit, controlFit}
+use Rattle.search.proofs.Fitness.{age-most}
+use Rattle.search.proofs.Clauses.{clauses, joined}
+use Rattle.search.proofs.Passing.{by-test, carried-candidate, carried-sample, Passing, passing, tried-passing}
 use Rattle.demodulator_laws.proofs.Grown.{withAge, at-age, Grown, fit-grown, grown-fit, held-grown, match-held, due-fit, wait-stays, wait-at-age}
 
 -- fit but for an age of 255, that was 254

@@ -1,7 +1,7 @@
 -- Small instances of the laws of the search: P6's values, the LSF's signs times 20 plus 5, with a diff of 2.0, at a control whose age is 254 and whose count is the largest. Assumes nothing.
-use mathlib.Core.Path.{_≡_, refl}
+use mathlib.Core.Path.{_≡_, refl, sym, _∙_}
 use mathlib.Core.Logic.{_⊎_}
-use mathlib.Core.Bool.{false}
+use mathlib.Core.Bool.{true, false}
 use mathlib.Core.List.{List, [], _∷_, map}
 use Prim.Native.Nat.{ℕ, _^_, _<_}
 use lib.Dec.{T, lit≤}
@@ -12,23 +12,27 @@ use Rattle.numbers.specs.Below.{anyBelow, allBelow}
 use Rattle.numbers.specs.Sum.{sumTo}
 use Rattle.numbers.proofs.Below.{all-below}
 use Rattle.protocol.specs.declared.Kind.the-variants.{Lsf}
-use Rattle.protocol.specs.declared.SyncBurst.the-variants.{Frame}
+use Rattle.protocol.specs.declared.SyncBurst.{SyncBurst}
+use Rattle.protocol.specs.declared.SyncBurst.the-variants.{Preamble, Frame}
 use Rattle.protocol.specs.Bursts.{signsOf, spelled, wordOf, signOf}
+use Rattle.decode.specs.declared.Spread.{Spread}
 use Rattle.decode.specs.Correlator.{threshold, heard, highest, lowest, gainOf, shiftOf, symbolOf, distanceOf, summed, diffOf, correlation, matches, inRange}
 use Rattle.decode.specs.Parts.{valuesOf, spreadOf, answerFrom}
-use Rattle.demodulator.specs.declared.Candidate.the-variants.{Held}
-use Rattle.demodulator.specs.declared.Wait.the-variants.{Free}
-use Rattle.demodulator.specs.declared.Timer.the-variants.{Off}
-use Rattle.demodulator.specs.declared.Control.{Control}
-use Rattle.demodulator.specs.declared.Reply.the-variants.{Rejected}
-use Rattle.demodulator.specs.Search.{ageOf, heldAfter, carried, missed, tried, passed, searched}
-use Rattle.demodulator.specs.Turn.{sampled, replied}
-use Rattle.demodulator.specs.Fit.{candidateFit, waitFit, controlFit}
-use Rattle.demodulator.specs.Parts.{Sensed, SearchReady}
-use Rattle.demodulator.proofs.Fitness.{fit-ready}
-use Rattle.demodulator.proofs.Searching.{searched-same, sampled-same, replied-same}
-use Rattle.demodulator.proofs.Passing.{Passing, passing, tried-passing}
-use Rattle.demodulator.proofs.Sensing.{test-own}
+use Rattle.search.specs.declared.Candidate.the-variants.{Held}
+use Rattle.search.specs.declared.Wait.the-variants.{Free}
+use Rattle.search.specs.declared.Timer.the-variants.{Off}
+use Rattle.search.specs.declared.Control.{Control}
+use Rattle.search.specs.declared.Reply.the-variants.{Rejected}
+use Rattle.search.specs.Search.{ageOf, heldAfter, carried, missed, tried, passed, searched}
+use Rattle.search.specs.Turn.{sampled, replied}
+use Rattle.search.specs.Fit.{candidateFit, waitFit, controlFit}
+use Rattle.search.specs.Parts.{Sensed, Carries, Tries, TryReady, SearchReady}
+use Rattle.search.specs.Ready.{ready}
+use Rattle.search.proofs.Fitness.{ControlFacts, control-facts, fit-ready, ready-search}
+use Rattle.search.proofs.Searching.{searched-same, replied-same}
+use Rattle.search.proofs.Passing.{Passing, passing, tried-passing}
+use Rattle.search.proofs.Sensing.{answer-own, test-own, carried-ready, try-ready, tried-next}
+use Rattle.demodulator_laws.proofs.Turning.{sampled-same}
 use Rattle.demodulator_laws.proofs.SearchFits.{Outgrown, search-fits}
 
 high : Float
@@ -61,19 +65,55 @@ replied-same-meets : replied 10 (valuesOf sixth) Rejected oldest ≡ replied 10 
 replied-same-meets = replied-same 10 (valuesOf sixth) (λ i. valuesOf sixth i) (λ i l. refl) Rejected oldest
 
 -- ---- one hearing
-sixth-sensed : Sensed sixth (map heard sixth) (spreadOf (valuesOf (map heard sixth)))
+abbrev sixth-heard : List Float
+sixth-heard = map heard sixth
+
+abbrev sixth-spread : Spread
+sixth-spread = spreadOf (valuesOf sixth-heard)
+
+sixth-sensed : Sensed sixth sixth-heard sixth-spread
 sixth-sensed = record { values = refl; spread = refl }
 
-test-own-meets : matches (Frame Lsf) (valuesOf sixth) ≡ lt (answerFrom (Frame Lsf) (valuesOf (map heard sixth)) (spreadOf (valuesOf (map heard sixth))) .diff) threshold
+test-own-meets : matches (Frame Lsf) (valuesOf sixth) ≡ lt (answerFrom (Frame Lsf) (valuesOf sixth-heard) sixth-spread .diff) threshold
 test-own-meets = test-own sixth _ _ sixth-sensed (Frame Lsf) _ refl
 
+-- whatever values are heard as these
+heard-alike : (burst : SyncBurst) (vs : List Float) → Sensed vs sixth-heard sixth-spread → correlation burst (valuesOf vs) ≡ correlation burst (valuesOf sixth)
+heard-alike burst vs sensed = sym (answer-own vs _ _ sensed burst _ refl) ∙ answer-own sixth _ _ sixth-sensed burst _ refl
+
+carries-sixth : Carries Preamble sixth-heard sixth-spread oldest (carried 10 Preamble (valuesOf sixth) oldest)
+unfolding carried matches
+carries-sixth vs sensed = rw (heard-alike Preamble vs sensed)
+
+tries-sixth : Tries Lsf sixth-heard sixth-spread oldest (tried 10 (valuesOf sixth) Lsf oldest)
+unfolding tried matches
+tries-sixth vs sensed = rw (heard-alike (Frame Lsf) vs sensed)
+
 -- ---- the pass
+begun : Passing (valuesOf sixth) 254 0 oldest
+begun = passing (valuesOf sixth) 254 oldest (lit≤ tt) (lit≤ tt)
+
 passing-meets : Passing (valuesOf sixth) 254 1 (tried 10 (valuesOf sixth) Lsf oldest)
-passing-meets = tried-passing 10 (valuesOf sixth) sixth-range 254 Lsf oldest (passing (valuesOf sixth) 254 oldest (lit≤ tt) (lit≤ tt))
+passing-meets = tried-passing 10 (valuesOf sixth) sixth-range 254 Lsf oldest begun
+
+try-ready-meets : TryReady oldest Lsf sixth-heard sixth-spread
+try-ready-meets = try-ready sixth _ _ sixth-sensed Lsf oldest begun
+
+tried-next-meets : Passing (valuesOf sixth) 254 1 (tried 10 (valuesOf sixth) Lsf oldest)
+tried-next-meets = tried-next sixth _ _ sixth-sensed sixth-range Lsf oldest _ tries-sixth begun
 
 -- ---- fitness
-fit-ready-meets : SearchReady oldest sixth
+control-facts-meets : ControlFacts oldest
+control-facts-meets = control-facts oldest oldest-fit
+
+fit-ready-meets : ready oldest sixth ≡ true
 fit-ready-meets = fit-ready oldest sixth sixth-range oldest-fit
+
+ready-search-meets : SearchReady oldest sixth
+ready-search-meets = ready-search oldest sixth fit-ready-meets
+
+carried-ready-meets : SearchReady (carried 10 Preamble (valuesOf sixth) oldest) sixth
+carried-ready-meets = carried-ready sixth _ _ sixth-sensed Preamble oldest _ carries-sixth ready-search-meets
 
 search-fits-meets : T (controlFit 10 (searched 10 (valuesOf sixth) oldest)) ⊎ Outgrown 10 oldest (searched 10 (valuesOf sixth) oldest)
 search-fits-meets = search-fits 10 (lit≤ tt) (valuesOf sixth) sixth-range oldest oldest-fit refl

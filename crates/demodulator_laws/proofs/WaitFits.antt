@@ -5,14 +5,14 @@ use Prim.Native.Nat.{ℕ, _-_, _*_, _<_}
 use native.Mathlib.Omega.{arith}
 use lib.Dec.{T, leb, ltb, ltb→lt, le→leb, lt→ltb}
 use lib.Ieee.Fits.{and-i, and-l, and-r}
-use Rattle.demodulator.specs.declared.Candidate.{Candidate}
-use Rattle.demodulator.specs.declared.Waiting.{Waiting}
-use Rattle.demodulator.specs.declared.Wait.{Wait}
-use Rattle.demodulator.specs.declared.Wait.the-variants.{Free, Due}
-use Rattle.demodulator.specs.declared.Control.{Control}
-use Rattle.demodulator.specs.Turn.{waitingOn, owing}
-use Rattle.demodulator.specs.Fit.{held, waitFit, controlFit}
-use Rattle.demodulator.proofs.Clauses.{clauses, joined}
+use Rattle.search.specs.declared.Candidate.{Candidate}
+use Rattle.search.specs.declared.Waiting.{Waiting}
+use Rattle.search.specs.declared.Wait.{Wait}
+use Rattle.search.specs.declared.Wait.the-variants.{Free, Due}
+use Rattle.search.specs.declared.Control.{Control}
+use Rattle.search.specs.Turn.{waitingOn, owing}
+use Rattle.search.specs.Fit.{held, waitFit, controlFit}
+use Rattle.search.proofs.Clauses.{clauses, joined}
 
 -- ---- the wait
 sooner-fit : (p : ℕ) (w : Waiting) (candidate : Candidate) (owed : Bool) → 1 < w .left → T (waitFit p (Due w) candidate owed) → T (waitFit p (Due (record { left = w .left - 1 })) candidate owed)

@@ -5,7 +5,7 @@ use mathlib.Core.List.{List}
 use Prim.Native.Nat.{ℕ, _+_, _*_, _≤_, _<_}
 use native.Mathlib.Omega.{arith}
 use Rattle.protocol.specs.declared.Kind.{Kind}
-use Rattle.demodulator.specs.Search.{rank}
+use Rattle.search.specs.Search.{rank}
 use Rattle.demodulator_run.specs.Marks.{Mark}
 use Rattle.demodulator_run.specs.Demands.{Ear, Matches, In, Started, Taken, Standing, DueAt, Fails, Shown, dueMark, DueBy}
 use Rattle.demodulator_run.proofs.Log.{more, sampleOf, Starts, Takes, Stands, Shows, takes-at, stands-at, due-shown, shown-due}

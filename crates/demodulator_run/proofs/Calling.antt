@@ -4,13 +4,15 @@ use mathlib.Core.Bool.{Bool, true, false, not, cond}
 use mathlib.Core.List.{List, [], _∷_, _++_, append-nil, append-assoc}
 use Prim.Native.Nat.{ℕ, _+_, _-_, _*_, _^_, _<_}
 use native.Mathlib.Omega.{arith}
+use borrow.Author.Tests.{not-false}
 use lib.Dec.{eqb, ltb}
 use lib.IntN.{ℤ}
 use lib.ListN.{length, length-append}
 use lib.Seq.{take-at}
 use lib.Ieee.{Float}
-use Rattle.demodulator.specs.declared.Reply.{Reply}
-use Rattle.demodulator.specs.Turn.{Outcome, quiet, offer, eight, sampled, replied}
+use Rattle.search.specs.declared.Reply.{Reply}
+use Rattle.search.specs.Turn.{Outcome, quiet, offer, sampled, replied}
+use Rattle.demodulator.specs.Spans.{eight}
 use Rattle.demodulator.specs.Calls.{done}
 use Rattle.demodulator_run.specs.Filter.{filtered, ago}
 use Rattle.demodulator_run.specs.Rules.{Call, sample, reply, query, Heard, After, refused, settled, accepted, given, answered, called, heardFrom}
@@ -127,11 +129,7 @@ module _ (table : List Float) (p : ℕ) where
           good-accepted x room o (subst Agrees (settled-samples xs room (sampled p (eight p (ago table p xs)) (h .control))) e))))
       good-called (reply r) =
           let marks : List Mark = stepMarks table p h (reply r) in
-          good-if marks (not (h .control .owed)) _ _ (λ o e. good-refused marks 3 []) (λ o e. good-replied r (owed (h .control .owed) o) e)
-        where
-          owed : (b : Bool) → not b ≡ false → b ≡ true
-          owed true e = refl
-          owed false e = sym e
+          good-if marks (not (h .control .owed)) _ _ (λ o e. good-refused marks 3 []) (λ o e. good-replied r (not-false (h .control .owed) o) e)
       good-called query = λ e. good-quiet
         where
           good-quiet : Good (stepMarks table p h query) (called table p h query)

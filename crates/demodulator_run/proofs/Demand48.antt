@@ -9,7 +9,7 @@ use lib.IntN.{ℤ}
 use lib.ListN.{length}
 use Rattle.shaping.specs.Taps.{taps}
 use Rattle.protocol.specs.declared.Kind.{Kind}
-use Rattle.demodulator.specs.Turn.{offered}
+use Rattle.search.specs.Turn.{offered}
 use Rattle.demodulator_run.specs.Rules.{Call, start, called, heardAll}
 use Rattle.demodulator_run.specs.Run.{Sampled}
 use Rattle.demodulator_run.specs.Marks.{Mark, logAll}

@@ -7,7 +7,7 @@ use native.Mathlib.Omega.{arith}
 use lib.Ieee.{Float}
 use Rattle.protocol.specs.declared.Kind.{Kind}
 use Rattle.decode.specs.declared.Correlation.{Correlation}
-use Rattle.demodulator.specs.Search.{rank}
+use Rattle.search.specs.Search.{rank}
 use Rattle.demodulator_run.specs.Marks.{Mark, Anew, Failed}
 use Rattle.demodulator_run.specs.Demands.{Ear, at, Matches, Unmatched, Above, Started, Taken, Standing, NotAgain, Shown, shownAt, DueBy, Corner}
 use Rattle.demodulator_run.proofs.Log.{more, taken-either, standing-either, shown-either, started-old, standing-old, due-shown, shown-due, stood}

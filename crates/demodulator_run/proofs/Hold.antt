@@ -7,7 +7,7 @@ use native.Mathlib.Nat.{lt-of-not-le, mul-le-mul-left}
 use native.Mathlib.Omega.{arith}
 use lib.Ieee.{Float}
 use Rattle.protocol.specs.declared.Kind.{Kind}
-use Rattle.demodulator.specs.Search.{rank}
+use Rattle.search.specs.Search.{rank}
 use Rattle.demodulator_run.specs.Marks.{Mark, Anew}
 use Rattle.demodulator_run.specs.Demands.{Ear, at, Matches, Above, Taken, NotAgain}
 use Rattle.demodulator_run.proofs.Log.{more, new, taken-either, shown-either, started-old, due-shown, shown-due}

@@ -6,11 +6,12 @@ use Prim.Native.Nat.{ℕ, _≤_, _<_}
 use native.Mathlib.Omega.{arith}
 use lib.Dec.{T, lit<, lit≤}
 use lib.Ieee.{Float}
+use Rattle.numbers.proofs.Tests.{holds}
 use Rattle.protocol.specs.declared.Kind.{Kind}
 use Rattle.protocol.specs.declared.Kind.the-variants.{Lsf, Bert, Stream, Packet}
 use Rattle.protocol.specs.declared.SyncBurst.the-variants.{Frame}
 use Rattle.decode.specs.Correlator.{matches}
-use Rattle.demodulator.specs.Search.{rank, sameKind}
+use Rattle.search.specs.Search.{rank, sameKind}
 
 -- how kind j is listed against kind k
 pub data Place : Type 0 where
@@ -103,12 +104,6 @@ iff→≡ true false f g = absurd (f tt)
 iff→≡ false true f g = absurd (g tt)
 iff→≡ false false f g = refl
 
-pub yes→T : {b : Bool} → b ≡ true → T b
-yes→T e = rw e tt
-
-pub no→T : {b : Bool} → b ≡ false → T (not b)
-no→T e = rw e tt
-
 pub no→⊥ : {b : Bool} → b ≡ false → T b → ⊥
 no→⊥ {b} e t = subst T e t
 
@@ -134,8 +129,8 @@ module _ (v : ℕ → Float) (alone : (j k : Kind) → T (matches (Frame j) v) �
     where
       go : (b0 : Bool) → matches (Frame Lsf) v ≡ b0 → (b1 : Bool) → matches (Frame Bert) v ≡ b1 → (b2 : Bool) → matches (Frame Stream) v ≡ b2 → (b3 : Bool)
           → matches (Frame Packet) v ≡ b3 → NoneHeard ⊎ ((j : Kind) × OneHeard j)
-      go true e0 b1 e1 b2 e2 b3 e3 = inr (Lsf, one-heard Lsf (yes→T e0))
-      go false e0 true e1 b2 e2 b3 e3 = inr (Bert, one-heard Bert (yes→T e1))
-      go false e0 false e1 true e2 b3 e3 = inr (Stream, one-heard Stream (yes→T e2))
-      go false e0 false e1 false e2 true e3 = inr (Packet, one-heard Packet (yes→T e3))
+      go true e0 b1 e1 b2 e2 b3 e3 = inr (Lsf, one-heard Lsf (holds e0))
+      go false e0 true e1 b2 e2 b3 e3 = inr (Bert, one-heard Bert (holds e1))
+      go false e0 false e1 true e2 b3 e3 = inr (Stream, one-heard Stream (holds e2))
+      go false e0 false e1 false e2 true e3 = inr (Packet, one-heard Packet (holds e3))
       go false e0 false e1 false e2 false e3 = inl λ k. elim k [ Lsf ↦ e0 | Bert ↦ e1 | Stream ↦ e2 | Packet ↦ e3 ]

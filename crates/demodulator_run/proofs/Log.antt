@@ -4,7 +4,7 @@ use mathlib.Core.Logic.{_⊎_, inl, inr}
 use mathlib.Core.List.{List, [], _∷_, _++_, List·Memᴰ·head, Memᴰ·append-left, Memᴰ·append-right, List·Memᴰ·append-cases, List·Memᴰ·eq-of-singleton}
 use Prim.Native.Nat.{ℕ, _≤_}
 use Rattle.protocol.specs.declared.Kind.{Kind}
-use Rattle.demodulator.specs.Search.{rank}
+use Rattle.search.specs.Search.{rank}
 use Rattle.demodulator_run.specs.Marks.{Mark, First, Anew, Failed, FellDue}
 use Rattle.demodulator_run.specs.Demands.{In, Started, Taken, Standing, DueAt, Shown, dueMark}
 

@@ -5,12 +5,14 @@ use mathlib.Core.Bool.{Bool, true, false, not, cond, true≢false}
 use mathlib.Core.List.{List, [], _∷_, _++_, List·Memᴰ·not-nil, List·Memᴰ·append-cases, Memᴰ·append-left, Memᴰ·append-right}
 use Prim.Native.Nat.{ℕ, _+_, _^_, _<_}
 use native.Mathlib.Omega.{arith}
+use borrow.Author.Tests.{not-false}
 use lib.Dec.{eqb, ltb}
 use lib.IntN.{ℤ}
 use lib.ListN.{length, length-append}
 use lib.Ieee.{Float}
-use Rattle.demodulator.specs.declared.Reply.{Reply}
-use Rattle.demodulator.specs.Turn.{eight, sampled}
+use Rattle.search.specs.declared.Reply.{Reply}
+use Rattle.search.specs.Turn.{sampled}
+use Rattle.demodulator.specs.Spans.{eight}
 use Rattle.demodulator_run.specs.Filter.{ago}
 use Rattle.demodulator_run.specs.Rules.{Call, sample, reply, query, Heard, After, start, refused, accepted, given, answered, called, heardFrom, heardAll}
 use Rattle.demodulator_run.specs.Marks.{Mark, isRefusal, sampledMarks, repliedMarks, stepMarks, calledMarks, logFrom, logAll}
@@ -61,11 +63,7 @@ module _ (table : List Float) (p : ℕ) where
     unfolding answered
     accepted-answered r =
         let P : After → Type 0 = λ a. (h .control .owed ≡ true) × (a .heard .samples ≡ h .samples) in
-        not-refused P (not (h .control .owed)) 3 [] _ λ o e. (owed (h .control .owed) o, refl)
-      where
-        owed : (b : Bool) → not b ≡ false → b ≡ true
-        owed true e = refl
-        owed false e = sym e
+        not-refused P (not (h .control .owed)) 3 [] _ λ o e. (not-false (h .control .owed) o, refl)
 
   -- ---- a call
   module _ (ear : Ear) (alone : Alone ear) (h : Heard) (after : List Call) (l : List Mark) where

@@ -10,14 +10,14 @@ use Rattle.protocol.specs.declared.SyncBurst.{SyncBurst}
 use Rattle.protocol.specs.declared.SyncBurst.the-variants.{Frame, Preamble, EndOfTransmission}
 use Rattle.decode.specs.declared.Correlation.{Correlation}
 use Rattle.decode.specs.Correlator.{correlation, matches}
-use Rattle.demodulator.specs.declared.Candidate.{Candidate}
-use Rattle.demodulator.specs.declared.Candidate.the-variants.{Nothing, Held}
-use Rattle.demodulator.specs.declared.Wait.{Wait}
-use Rattle.demodulator.specs.declared.Wait.the-variants.{Free}
-use Rattle.demodulator.specs.declared.Timer.{Timer}
-use Rattle.demodulator.specs.declared.Timer.the-variants.{Until}
-use Rattle.demodulator.specs.declared.Control.{Control}
-use Rattle.demodulator.specs.Search.{withTimer, withCandidate, carried, sameKind, taken, heldAfter, waitAfter, missed, tried, passed, searched}
+use Rattle.search.specs.declared.Candidate.{Candidate}
+use Rattle.search.specs.declared.Candidate.the-variants.{Nothing, Held}
+use Rattle.search.specs.declared.Wait.{Wait}
+use Rattle.search.specs.declared.Wait.the-variants.{Free}
+use Rattle.search.specs.declared.Timer.{Timer}
+use Rattle.search.specs.declared.Timer.the-variants.{Until}
+use Rattle.search.specs.declared.Control.{Control}
+use Rattle.search.specs.Search.{withTimer, withCandidate, carried, sameKind, taken, heldAfter, waitAfter, missed, tried, passed, searched}
 use Rattle.demodulator_run.specs.Marks.{Mark, First, Anew, Failed, takenMarks, missedMarks, triedMarks, passedMarks, searchedMarks}
 use Rattle.demodulator_run.proofs.Listing.{Place, Before, Level, After, place}
 

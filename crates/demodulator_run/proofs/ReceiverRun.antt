@@ -10,10 +10,11 @@ use lib.IntN.{ℤ}
 use lib.ListN.{length}
 use lib.Ieee.{Float}
 use Rattle.shaping.specs.Taps.{taps}
-use Rattle.demodulator.specs.Turn.{Outcome, quiet, offer, eight, sampled}
+use Rattle.search.specs.Turn.{Outcome, quiet, offer, sampled}
+use Rattle.search.proofs.Passing.{by-test}
+use Rattle.demodulator.specs.Spans.{eight}
 use Rattle.demodulator.specs.Record.{fresh}
 use Rattle.demodulator.specs.Calls.{Paper, refusal}
-use Rattle.demodulator.proofs.Passing.{by-test}
 use Rattle.demodulator_run.specs.Filter.{ago}
 use Rattle.demodulator_run.specs.Rules.{Call, sample, reply, query, Heard, Said, After, start, settled, given, answered, called, heardAll, saidFrom, saidAll}
 use Rattle.demodulator_run.specs.Run.{left, saidBy, recordAfter, answersTo, Sampled}
@@ -23,7 +24,7 @@ use Rattle.demodulator_run.proofs.Step.{call-agrees}
 use Rattle.demodulator_run.proofs.Whole.{Stands, stands-after, says-after, stands-start, stands-fit}
 
 -- ---- where a run stands
-sampled-front : (cs ds : List Call) → Sampled (cs ++ ds) → Sampled cs
+pub sampled-front : (cs ds : List Call) → Sampled (cs ++ ds) → Sampled cs
 unfolding Sampled
 sampled-front [] ds s = tt
 sampled-front (c ∷ cs) ds s = (s .0, sampled-front cs ds (s .1))

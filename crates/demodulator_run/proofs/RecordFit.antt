@@ -9,9 +9,10 @@ use lib.Ieee.Fits.{and-i}
 use Rattle.numbers.specs.Below.{allBelow}
 use Rattle.numbers.proofs.Below.{below-all}
 use Rattle.decode.specs.Correlator.{inRange}
+use Rattle.search.specs.Fit.{controlFit}
 use Rattle.demodulator.specs.declared.SoftDemodulator.{SoftDemodulator}
 use Rattle.demodulator.specs.Record.{back}
-use Rattle.demodulator.specs.Fit.{cursorsFit, controlFit, recordFit, placesRead, fitForSample, fitForReply}
+use Rattle.demodulator.specs.Fit.{cursorsFit, recordFit, placesRead, fitForSample, fitForReply}
 use Rattle.demodulator.proofs.Fitness.{places-between}
 
 pub record FitForAll (m : SoftDemodulator) : Type 0 where

@@ -8,12 +8,13 @@ use lib.Dec.{eqb, ltb}
 use lib.IntN.{ℤ}
 use lib.ListN.{length}
 use lib.Ieee.{Float}
+use Rattle.search.specs.Turn.{Outcome, quiet, offer, sampled}
+use Rattle.search.proofs.Passing.{by-test}
 use Rattle.demodulator.specs.declared.SoftDemodulator.{SoftDemodulator}
-use Rattle.demodulator.specs.Turn.{Outcome, quiet, offer, eight, sampled}
+use Rattle.demodulator.specs.Spans.{eight}
 use Rattle.demodulator.specs.Record.{back, stored}
 use Rattle.demodulator.specs.Fit.{fitForSample, fitForReply}
 use Rattle.demodulator.specs.Calls.{refusal, Left, finished, taken, demodulated, answered}
-use Rattle.demodulator.proofs.Passing.{by-test}
 use Rattle.demodulator_run.specs.Filter.{ago}
 use Rattle.demodulator_run.specs.Rules.{Call, sample, reply, query, Heard, After, settled, given, called, heardFrom, saidFrom}
 use Rattle.demodulator_run.specs.Rules.{answered as repliedTo}

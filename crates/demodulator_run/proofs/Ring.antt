@@ -1,15 +1,13 @@
 -- A ring into which a value is stored at the cursor, which then moves on: one law for every length. Assumes nothing.
-use mathlib.Core.Path.{_≡_, refl, sym, ap, _∙_}
-use mathlib.Core.Logic.{_≢_, _⊎_, inl, inr}
-use mathlib.Core.Bool.{Bool, true, false}
+use mathlib.Core.Path.{_≡_, sym, ap, _∙_}
+use mathlib.Core.Logic.{_≢_, inl, inr}
 use mathlib.Core.List.{List}
 use Prim.Native.Nat.{ℕ, suc, _+_, _-_, _%_, _<_, _≤_}
 use native.Mathlib.Nat.{mod-add-mod, mod-eq-of-lt, mod-eq-sub-mod, add-mod-right, mod-lt, eq-or-lt-of-le}
 use native.Mathlib.Omega.{arith}
-use borrow.Author.Tests.{ltb-true, ltb-false}
-use lib.Dec.{ltb}
 use lib.ListN.{getD, length, set, length-set}
 use lib.Seq.{getD-set-same, getD-set-other}
+use Rattle.numbers.proofs.Tests.{lt-or-le}
 
 module _ {A : Type 0} where
   -- place i of the ring w, counted from the cursor c
@@ -23,16 +21,9 @@ module _ {A : Type 0} where
     pub holds : (i : ℕ) → i < N → read N d w c i ≡ f ((n + i + 1) - N)
 
 -- ---- places
-split-on : (a b : ℕ) (t : Bool) → ltb a b ≡ t → (a < b) ⊎ (b ≤ a)
-split-on a b true e = inl (ltb-true a b e)
-split-on a b false e = inr (ltb-false a b e)
-
-split : (a b : ℕ) → (a < b) ⊎ (b ≤ a)
-split a b = split-on a b (ltb a b) refl
-
 -- a place that is j further round, below a whole turn, is another place
 elsewhere : (N c j : ℕ) → c < N → 0 < j → j < N → (c + j) % N ≢ c
-elsewhere N c j hc h0 hj e = elim (split (c + j) N) [
+elsewhere N c j hc h0 hj e = elim (lt-or-le (c + j) N) [
   | inl l ↦ let m = mod-eq-of-lt l in omega arith
   | inr g ↦ let m = mod-eq-sub-mod g in let k = mod-eq-of-lt {n = c + j - N} {m = N} (omega arith) in omega arith
 ]

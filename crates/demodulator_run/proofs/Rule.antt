@@ -8,18 +8,19 @@ use native.Mathlib.Nat.{lt-of-not-le}
 use native.Mathlib.Omega.{arith}
 use lib.Dec.{T}
 use lib.Ieee.{lt}
+use Rattle.numbers.proofs.Tests.{holds}
 use Rattle.protocol.specs.declared.Kind.{Kind}
 use Rattle.protocol.specs.declared.SyncBurst.the-variants.{Frame}
 use Rattle.decode.specs.Correlator.{matches}
-use Rattle.demodulator.specs.declared.Candidate.{Candidate}
-use Rattle.demodulator.specs.declared.Candidate.the-variants.{Nothing, Held}
-use Rattle.demodulator.specs.declared.Wait.{Wait}
-use Rattle.demodulator.specs.declared.Wait.the-variants.{Free, Due}
-use Rattle.demodulator.specs.declared.Control.{Control}
-use Rattle.demodulator.specs.Search.{rank}
+use Rattle.search.specs.declared.Candidate.{Candidate}
+use Rattle.search.specs.declared.Candidate.the-variants.{Nothing, Held}
+use Rattle.search.specs.declared.Wait.{Wait}
+use Rattle.search.specs.declared.Wait.the-variants.{Free, Due}
+use Rattle.search.specs.declared.Control.{Control}
+use Rattle.search.specs.Search.{rank}
 use Rattle.demodulator_run.specs.Marks.{Mark}
 use Rattle.demodulator_run.specs.Demands.{Ear, at, Matches, Unmatched, Above, Alone, NotAgain, In, Taken, Fails, Corner, Replaces, Shown, shownAt, dueMark, DueBy, Cause, DueRule}
-use Rattle.demodulator_run.proofs.Listing.{Place, Before, Level, After, place, Placed, placed, rank-only, same-self, same→≡, yes→T, no→⊥, T-clash, heard}
+use Rattle.demodulator_run.proofs.Listing.{Place, Before, Level, After, place, Placed, placed, rank-only, same-self, same→≡, no→⊥, T-clash, heard}
 use Rattle.demodulator_run.proofs.Account.{Episode, HandedOn, Account}
 use Rattle.demodulator_run.proofs.Phase.{Phase, Kept, kept-past, kept-told, run-short}
 
@@ -56,13 +57,13 @@ module _ (ear : Ear) (p : ℕ) (alone : Alone ear) where
       by-hit j hit only Before r true e = (
         b + (184 * p - 1),
         shownAt ear k b,
-        record { sample = inl ((j, r, hit, yes→T e), omega arith); shown = inr (λ i q. omega (arith, q .0, ap rank (only i (q .1))), refl) },
+        record { sample = inl ((j, r, hit, holds e), omega arith); shown = inr (λ i q. omega (arith, q .0, ap rank (only i (q .1))), refl) },
       )
       by-hit j hit only Before r false e =
           no-corner (λ c. no→⊥ e (subst (λ (i : Kind). Above ear i s k b) (only (c .0) (c .2)) (c .3))) (inr (λ i q. omega (arith, q .0, ap rank (only i (q .1)))))
       by-hit j hit only Level r a e = no-corner (λ c. omega (arith, c .1, ap rank (only (c .0) (c .2)), ap rank r)) (inr (λ i q. omega (arith, q .0, ap rank (only i (q .1)), ap rank r)))
       by-hit j hit only After r true e =
-          no-corner (λ c. omega (arith, c .1, ap rank (only (c .0) (c .2)))) (inr (λ i q. q .2 (subst (λ (h : Kind). Above ear h s k b) (sym (only i (q .1))) (yes→T e))))
+          no-corner (λ c. omega (arith, c .1, ap rank (only (c .0) (c .2)))) (inr (λ i q. q .2 (subst (λ (h : Kind). Above ear h s k b) (sym (only i (q .1))) (holds e))))
       by-hit j hit only After r false e = no-corner (λ c. omega (arith, c .1, ap rank (only (c .0) (c .2)))) (inl (j, (r, hit, no→⊥ e)))
 
       pub settled : Some

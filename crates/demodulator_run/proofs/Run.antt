@@ -5,7 +5,7 @@ use mathlib.Core.List.{List, [], _∷_, _++_, append-nil, append-assoc, List·Me
 use Prim.Native.Nat.{ℕ, _<_}
 use lib.ListN.{length}
 use lib.Ieee.{Float}
-use Rattle.demodulator.specs.Turn.{eight}
+use Rattle.demodulator.specs.Spans.{eight}
 use Rattle.demodulator_run.specs.Filter.{ago}
 use Rattle.demodulator_run.specs.Rules.{Call, Heard, start, called, heardFrom, heardAll}
 use Rattle.demodulator_run.specs.Marks.{Mark, calledMarks, logFrom, logAll}

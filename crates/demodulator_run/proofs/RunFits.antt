@@ -11,16 +11,17 @@ use lib.IntN.{ℤ, natAbs}
 use lib.ListN.{length, length-append}
 use lib.Ieee.{Float}
 use Rattle.shaping.proofs.Receiver.{size16}
-use Rattle.demodulator.specs.declared.Candidate.{Candidate}
-use Rattle.demodulator.specs.declared.Candidate.the-variants.{Nothing, Held}
-use Rattle.demodulator.specs.declared.Control.{Control}
-use Rattle.demodulator.specs.declared.Reply.{Reply}
-use Rattle.demodulator.specs.Search.{ageOf}
-use Rattle.demodulator.specs.Turn.{Outcome, quiet, offer, eight, sampled}
+use Rattle.search.specs.declared.Candidate.{Candidate}
+use Rattle.search.specs.declared.Candidate.the-variants.{Nothing, Held}
+use Rattle.search.specs.declared.Control.{Control}
+use Rattle.search.specs.declared.Reply.{Reply}
+use Rattle.search.specs.Search.{ageOf}
+use Rattle.search.specs.Turn.{Outcome, quiet, offer, sampled}
+use Rattle.search.specs.Fit.{candidateFit, waitFit, replyFit, controlFit}
+use Rattle.search.proofs.Clauses.{clauses, joined}
+use Rattle.search.proofs.Passing.{by-test}
+use Rattle.demodulator.specs.Spans.{eight}
 use Rattle.demodulator.specs.Record.{freshControl}
-use Rattle.demodulator.specs.Fit.{candidateFit, waitFit, replyFit, controlFit}
-use Rattle.demodulator.proofs.Clauses.{clauses, joined}
-use Rattle.demodulator.proofs.Passing.{by-test}
 use Rattle.demodulator_laws.proofs.SearchFits.{Outgrown}
 use Rattle.demodulator_laws.proofs.SampleFits.{controlOf, sampled-fits, replied-fits}
 use Rattle.demodulator_run.specs.Filter.{ago}

@@ -11,7 +11,7 @@ use lib.ListN.{getD, replicate, getD-replicate}
 use Rattle.numbers.specs.Sum.{nought}
 use Rattle.shaping.specs.Taps.{taps}
 use Rattle.decode.specs.Correlator.{inRange}
-use Rattle.demodulator.specs.declared.Reply.the-variants.{Accepted}
+use Rattle.search.specs.declared.Reply.the-variants.{Accepted}
 use Rattle.demodulator.specs.Calls.{refusal, nothing, carrier}
 use Rattle.demodulator_run.specs.Filter.{filtered}
 use Rattle.demodulator_run.specs.Rules.{Call, sample, reply, query, After, start, given, answered, called, saidFrom, heardAll}

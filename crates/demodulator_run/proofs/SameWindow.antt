@@ -5,7 +5,7 @@ use native.Mathlib.Nat.{mul-le-mul-left}
 use native.Mathlib.Omega.{arith}
 use lib.Ieee.{Float}
 use Rattle.decode.specs.Correlator.{symbolOf}
-use Rattle.demodulator.specs.Turn.{eight, symbolAt}
+use Rattle.demodulator.specs.Spans.{eight, symbolAt}
 
 module _ (p : ℕ) (some : 0 < p) (b c : ℕ → Float) (agree : (j : ℕ) → j < 192 * p → b j ≡ c j) where
   reached : (n i : ℕ) → n < 192 → p * (n - i) < 192 * p

@@ -7,18 +7,19 @@ use Prim.Native.Nat.{ℕ, _<_}
 use native.Mathlib.Omega.{arith}
 use lib.Dec.{T, not-T}
 use lib.Ieee.{Float, lt}
+use Rattle.numbers.proofs.Tests.{fails}
 use Rattle.protocol.specs.declared.Kind.{Kind}
 use Rattle.protocol.specs.declared.SyncBurst.the-variants.{Frame}
 use Rattle.decode.specs.Correlator.{matches}
-use Rattle.demodulator.specs.declared.Candidate.{Candidate}
-use Rattle.demodulator.specs.declared.Candidate.the-variants.{Nothing, Held}
-use Rattle.demodulator.specs.declared.Wait.the-variants.{Free}
-use Rattle.demodulator.specs.declared.Timer.{Timer}
-use Rattle.demodulator.specs.Search.{rank}
+use Rattle.search.specs.declared.Candidate.{Candidate}
+use Rattle.search.specs.declared.Candidate.the-variants.{Nothing, Held}
+use Rattle.search.specs.declared.Wait.the-variants.{Free}
+use Rattle.search.specs.declared.Timer.{Timer}
+use Rattle.search.specs.Search.{rank}
 use Rattle.demodulator_run.specs.Marks.{Mark, First, Anew, Failed, FellDue, searchedMarks}
 use Rattle.demodulator_run.specs.Demands.{Ear, at, Matches, Unmatched, Alone, In}
 use Rattle.demodulator_run.specs.Exact.{BySearch}
-use Rattle.demodulator_run.proofs.Listing.{Place, Before, Level, After, place, Placed, placed, same-self, same→≡, no→T, no→⊥, T-clash, heard, OneHeard}
+use Rattle.demodulator_run.proofs.Listing.{Place, Before, Level, After, place, Placed, placed, same-self, same→≡, no→⊥, T-clash, heard, OneHeard}
 use Rattle.demodulator_run.proofs.Pass.{Step, controlled, passBy, search-pass, pass-quiet, pass-first, pass-lost, pass-hit, struck}
 
 -- marks that are just those of which something holds
@@ -153,7 +154,7 @@ module _ (ear : Ear) (p : ℕ) (alone : Alone ear) (n : ℕ) where
       let run : (Kind → Bool) → Step = λ m. passBy p m (λ i. at ear i n) (controlled (Held k age diff gain shift) Free u o n) in
       subst (λ (s : Step). Exactly (Tells t o k age diff gain shift) (s .marks)) (sym e) (elim (heard (ear n) (λ i j. alone i j n)) [
         | inl q ↦ subst (λ (s : Step). Exactly (Tells t o k age diff gain shift) (s .marks)) (sym (ap run (fun-ext q) ∙ pass-lost p (λ i. at ear i n) u o n age diff gain shift k))
-            (lost-exact t o k age diff gain shift (λ j. no→⊥ (q j)) (no→T (q k)))
+            (lost-exact t o k age diff gain shift (λ j. no→⊥ (q j)) (fails (q k)))
         | inr q ↦ subst (λ (s : Step). Exactly (Tells t o k age diff gain shift) (s .marks)) (sym (ap run (fun-ext (q .1)) ∙ pass-hit p (λ i. at ear i n) u o n age diff gain shift (q .0) k _ refl))
             (struck-exact t o k age diff gain shift (q .0) (one-hit (q .0) (q .1)) (one-only (q .0) (q .1)) (one-missed (q .0) (q .1) k) u (place (q .0) k) (placed (q .0) k) _ refl)
       ])

@@ -7,17 +7,18 @@ use Prim.Native.Nat.{ℕ, _+_, _-_, _*_, _<_}
 use native.Mathlib.Omega.{arith}
 use lib.Dec.{T, not-T}
 use lib.Ieee.{Float, lt}
+use Rattle.numbers.proofs.Tests.{holds, fails}
 use Rattle.protocol.specs.declared.Kind.{Kind}
 use Rattle.protocol.specs.declared.SyncBurst.the-variants.{Frame}
 use Rattle.decode.specs.declared.Correlation.{Correlation}
 use Rattle.decode.specs.Correlator.{matches}
-use Rattle.demodulator.specs.declared.Candidate.the-variants.{Nothing, Held}
-use Rattle.demodulator.specs.declared.Wait.the-variants.{Free}
-use Rattle.demodulator.specs.declared.Timer.{Timer}
-use Rattle.demodulator.specs.Search.{rank}
+use Rattle.search.specs.declared.Candidate.the-variants.{Nothing, Held}
+use Rattle.search.specs.declared.Wait.the-variants.{Free}
+use Rattle.search.specs.declared.Timer.{Timer}
+use Rattle.search.specs.Search.{rank}
 use Rattle.demodulator_run.specs.Marks.{Mark, Anew, Failed}
 use Rattle.demodulator_run.specs.Demands.{Ear, at, Matches, Above, Alone, NotAgain}
-use Rattle.demodulator_run.proofs.Listing.{Place, Before, Level, After, place, Placed, placed, same-self, same→≡, yes→T, no→T, no→⊥, heard, NoneHeard, OneHeard}
+use Rattle.demodulator_run.proofs.Listing.{Place, Before, Level, After, place, Placed, placed, same-self, same→≡, no→⊥, heard, NoneHeard, OneHeard}
 use Rattle.demodulator_run.proofs.Pass.{Step, controlled, searchStep, passBy, search-pass, pass-quiet, pass-first, pass-lost, pass-hit, struck}
 use Rattle.demodulator_run.proofs.Log.{more}
 use Rattle.demodulator_run.proofs.Phase.{Idle, Holding, Awaiting, Kept}
@@ -62,19 +63,19 @@ module _ (ear : Ear) (p : ℕ) (alone : Alone ear) (l : List Mark) where
 
       struck-kept : (o : Place) → Placed o j k → (b : Bool) → lt diff (at ear j (n + 1) .diff) ≡ b
           → KeptBy ear p l (struck p (λ i. at ear i (n + 1)) t false (n + 1) age diff gain shift o b j k)
-      struck-kept Before r true e = (refl, fails-corner ear p big again l n k age diff gain shift H (missed (λ q. omega (arith, r, ap rank q))) j hit only r (yes→T (compared true e)))
+      struck-kept Before r true e = (refl, fails-corner ear p big again l n k age diff gain shift H (missed (λ q. omega (arith, r, ap rank q))) j hit only r (holds (compared true e)))
       struck-kept Before r false e = (refl, switched ear p again l n k age diff gain shift H j r hit)
       struck-kept Level r true e = (
         refl,
         subst (λ (m : List Mark). Holding ear p m (n + 1) k (age + 1) diff gain shift) (sym (append-nil l))
-            (ages ear p again l n k age diff gain shift H (subst (λ (i : Kind). Matches ear i (n + 1)) r hit) (subst (λ (i : Kind). Above ear i (n + 1) k (H .b)) r (yes→T (compared true e)))),
+            (ages ear p again l n k age diff gain shift H (subst (λ (i : Kind). Matches ear i (n + 1)) r hit) (subst (λ (i : Kind). Above ear i (n + 1) k (H .b)) r (holds (compared true e)))),
       )
       struck-kept Level r false e = (
         refl,
         subst (λ (i : Kind). Holding ear p (more l (Anew (n + 1) k i)) (n + 1) i 1 (at ear i (n + 1) .diff) (at ear i (n + 1) .gain) (at ear i (n + 1) .shift)) (sym r)
             (renewed ear p again l n k age diff gain shift H (subst (λ (i : Kind). Matches ear i (n + 1)) r hit)),
       )
-      struck-kept After r true e = (refl, fails-aged ear p big again l n k age diff gain shift H (missed (λ q. omega (arith, r, ap rank q))) j hit only r (yes→T (compared true e)))
+      struck-kept After r true e = (refl, fails-aged ear p big again l n k age diff gain shift H (missed (λ q. omega (arith, r, ap rank q))) j hit only r (holds (compared true e)))
       struck-kept After r false e = (
         refl,
         subst (λ (m : List Mark). Awaiting ear p m (n + 1) (184 * p - age) j 1 (at ear j (n + 1) .diff) (at ear j (n + 1) .gain) (at ear j (n + 1) .shift)) (append-assoc l (Failed (n + 1) k ∷ []) (Anew (n + 1) k j ∷ []))
@@ -87,7 +88,7 @@ module _ (ear : Ear) (p : ℕ) (alone : Alone ear) (l : List Mark) where
         let run : (Kind → Bool) → Step = λ m. passBy p m (λ i. at ear i (n + 1)) (controlled (Held k age diff gain shift) Free u false (n + 1)) in
         subst (KeptBy ear p l) (sym e) (elim (heardNow (n + 1)) [
           | inl q ↦ subst (KeptBy ear p l) (sym (ap run (fun-ext q) ∙ pass-lost p (λ i. at ear i (n + 1)) u false (n + 1) age diff gain shift k))
-              (refl, fails-alone ear p big again l n k age diff gain shift H (no→T (q k)) (λ i m. no→⊥ (q i) m))
+              (refl, fails-alone ear p big again l n k age diff gain shift H (fails (q k)) (λ i m. no→⊥ (q i) m))
           | inr q ↦ subst (KeptBy ear p l) (sym (ap run (fun-ext (q .1)) ∙ pass-hit p (λ i. at ear i (n + 1)) u false (n + 1) age diff gain shift (q .0) k _ refl))
               (struck-kept u (q .0) (q .1) (place (q .0) k) (placed (q .0) k) _ refl)
         ])

@@ -5,19 +5,38 @@ use mathlib.Core.List.{List, [], _∷_, _++_}
 use Prim.Native.Nat.{ℕ, _+_, _*_, _^_, _≤_}
 use native.Mathlib.Omega.{arith}
 use lib.Dec.{T, eqb, ltb}
+use lib.IntN.{ℤ}
 use lib.ListN.{length}
 use lib.Ieee.{Float}
 use Rattle.shaping.specs.Taps.{taps}
 use Rattle.shaping.proofs.Table.{taps-number}
 use Rattle.shaping.proofs.Receiver.{bounded, size16}
 use Rattle.decode.specs.Correlator.{inRange}
-use Rattle.demodulator.proofs.Passing.{by-test}
+use Rattle.search.proofs.Passing.{by-test}
 use Rattle.demodulator_run.specs.Filter.{filtered}
 use Rattle.demodulator_run.specs.Rules.{Call, sample, reply, query, Heard, After, start, given, answered, called, heardFrom, heardAll}
 use Rattle.demodulator_run.specs.Run.{Callable, Sampled}
+use Rattle.demodulator_run.specs.Stretch.{Sixteen}
 use Rattle.demodulator_run.proofs.Calling.{settled-samples}
 use Rattle.demodulator_run.proofs.InRange.{Small, small-none, small-more, Bounded, in-range}
 
+-- ---- lists of such samples
+pub sixteen-append : (xs ys : List ℤ) → Sixteen xs → Sixteen ys → Sixteen (xs ++ ys)
+unfolding Sixteen
+sixteen-append [] ys s t = t
+sixteen-append (x ∷ xs) ys s t = (s .0, sixteen-append xs ys (s .1) t)
+
+pub sixteen-front : (xs ys : List ℤ) → Sixteen (xs ++ ys) → Sixteen xs
+unfolding Sixteen
+sixteen-front [] ys s = tt
+sixteen-front (x ∷ xs) ys s = (s .0, sixteen-front xs ys (s .1))
+
+pub sixteen-back : (xs ys : List ℤ) → Sixteen (xs ++ ys) → Sixteen ys
+unfolding Sixteen
+sixteen-back [] ys s = s
+sixteen-back (x ∷ xs) ys s = sixteen-back xs ys (s .1)
+
+-- ---- what a run accepts
 module _ (table : List Float) (p : ℕ) where
   abbrev SmallAfter : After → Type 0
   SmallAfter a = Small (a .heard .samples)

@@ -8,11 +8,11 @@ use native.Mathlib.Nat.{lt-of-not-le, eq-or-lt-of-le}
 use native.Mathlib.Omega.{arith}
 use lib.Ieee.{Float}
 use Rattle.protocol.specs.declared.Kind.{Kind}
-use Rattle.demodulator.specs.declared.Candidate.{Candidate}
-use Rattle.demodulator.specs.declared.Candidate.the-variants.{Nothing, Held}
-use Rattle.demodulator.specs.declared.Wait.{Wait}
-use Rattle.demodulator.specs.declared.Wait.the-variants.{Free, Due}
-use Rattle.demodulator.specs.declared.Control.{Control}
+use Rattle.search.specs.declared.Candidate.{Candidate}
+use Rattle.search.specs.declared.Candidate.the-variants.{Nothing, Held}
+use Rattle.search.specs.declared.Wait.{Wait}
+use Rattle.search.specs.declared.Wait.the-variants.{Free, Due}
+use Rattle.search.specs.declared.Control.{Control}
 use Rattle.demodulator_run.specs.Marks.{Mark}
 use Rattle.demodulator_run.specs.Demands.{Ear, NotAgain, Apart, Started, Shown, DueSpan, DueFrom, DueCause, DueOnce, AgeAtMost}
 use Rattle.demodulator_run.proofs.Log.{due-shown, shown-due}

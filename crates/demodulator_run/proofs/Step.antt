@@ -9,10 +9,11 @@ use lib.ListN.{length}
 use lib.Ieee.{Float}
 use Rattle.numbers.specs.Firsts.{written}
 use Rattle.shaping.specs.Taps.{taps}
-use Rattle.demodulator.specs.declared.Control.{Control}
-use Rattle.demodulator.specs.declared.Reply.{Reply}
+use Rattle.search.specs.declared.Control.{Control}
+use Rattle.search.specs.declared.Reply.{Reply}
+use Rattle.search.specs.Turn.{Outcome, quiet, offer, sampled}
 use Rattle.demodulator.specs.declared.SoftDemodulator.{SoftDemodulator}
-use Rattle.demodulator.specs.Turn.{Outcome, quiet, offer, eight, sampled}
+use Rattle.demodulator.specs.Spans.{eight}
 use Rattle.demodulator.specs.Record.{back, stored, withControl}
 use Rattle.demodulator.specs.Calls.{Paper, frame, carrier, Left, refused, finished, taken, demodulated, answered, timerHeld, detected}
 use Rattle.demodulator_run.specs.Filter.{ago}

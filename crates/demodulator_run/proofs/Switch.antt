@@ -12,15 +12,16 @@ use lib.Ieee.{Float}
 use Rattle.protocol.specs.declared.Kind.{Kind}
 use Rattle.protocol.specs.declared.SyncBurst.the-variants.{Frame}
 use Rattle.decode.specs.Correlator.{correlation, matches}
-use Rattle.demodulator.specs.declared.Candidate.{Candidate}
-use Rattle.demodulator.specs.declared.Candidate.the-variants.{Nothing, Held}
-use Rattle.demodulator.specs.declared.Wait.the-variants.{Free}
-use Rattle.demodulator.specs.declared.Timer.{Timer}
-use Rattle.demodulator.specs.declared.Control.{Control}
-use Rattle.demodulator.specs.declared.Reply.{Reply}
-use Rattle.demodulator.specs.declared.Reply.the-variants.{Accepted, Rejected}
-use Rattle.demodulator.specs.Search.{rank, searched}
-use Rattle.demodulator.specs.Turn.{Outcome, quiet, offer, eight, counted, waited, sampled, replied}
+use Rattle.search.specs.declared.Candidate.{Candidate}
+use Rattle.search.specs.declared.Candidate.the-variants.{Nothing, Held}
+use Rattle.search.specs.declared.Wait.the-variants.{Free}
+use Rattle.search.specs.declared.Timer.{Timer}
+use Rattle.search.specs.declared.Control.{Control}
+use Rattle.search.specs.declared.Reply.{Reply}
+use Rattle.search.specs.declared.Reply.the-variants.{Accepted, Rejected}
+use Rattle.search.specs.Search.{rank, searched}
+use Rattle.search.specs.Turn.{Outcome, quiet, offer, counted, waited, sampled, replied}
+use Rattle.demodulator.specs.Spans.{eight}
 use Rattle.demodulator_laws.proofs.SampleFits.{controlOf}
 use Rattle.demodulator_run.specs.Filter.{ago}
 use Rattle.demodulator_run.specs.Rules.{Call, sample, reply, query, Heard, After as Came, start, refused, settled, accepted, given, answered, called, heardAll}

@@ -8,15 +8,15 @@ use lib.Dec.{ltb}
 use borrow.Author.Tests.{ltb-true, ltb-false}
 use lib.Ieee.{Float}
 use Rattle.protocol.specs.declared.Kind.{Kind}
-use Rattle.demodulator.specs.declared.Candidate.{Candidate}
-use Rattle.demodulator.specs.declared.Candidate.the-variants.{Nothing, Held}
-use Rattle.demodulator.specs.declared.Wait.{Wait}
-use Rattle.demodulator.specs.declared.Wait.the-variants.{Free, Due}
-use Rattle.demodulator.specs.declared.Timer.{Timer}
-use Rattle.demodulator.specs.declared.Control.{Control}
-use Rattle.demodulator.specs.declared.Reply.{Reply}
-use Rattle.demodulator.specs.declared.Reply.the-variants.{Accepted, Rejected}
-use Rattle.demodulator.specs.Turn.{quiet, offer, pickOutcome, offered, cleared, owing, due, waited, sampled, replied}
+use Rattle.search.specs.declared.Candidate.{Candidate}
+use Rattle.search.specs.declared.Candidate.the-variants.{Nothing, Held}
+use Rattle.search.specs.declared.Wait.{Wait}
+use Rattle.search.specs.declared.Wait.the-variants.{Free, Due}
+use Rattle.search.specs.declared.Timer.{Timer}
+use Rattle.search.specs.declared.Control.{Control}
+use Rattle.search.specs.declared.Reply.{Reply}
+use Rattle.search.specs.declared.Reply.the-variants.{Accepted, Rejected}
+use Rattle.search.specs.Turn.{quiet, offer, pickOutcome, offered, cleared, owing, due, waited, sampled, replied}
 use Rattle.demodulator_laws.proofs.SampleFits.{controlOf}
 use Rattle.demodulator_run.specs.Marks.{Mark, FellDue, dueMarks, waitedMarks, sampledMarks, repliedMarks, searchedMarks}
 use Rattle.demodulator_run.specs.Demands.{Ear, Alone, NotAgain}

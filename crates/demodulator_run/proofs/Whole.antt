@@ -7,13 +7,13 @@ use lib.Dec.{T, lit<, lit≤}
 use lib.Ieee.{Float}
 use Rattle.shaping.specs.Taps.{taps}
 use Rattle.decode.specs.Correlator.{inRange}
-use Rattle.demodulator.specs.declared.Candidate.{Candidate}
-use Rattle.demodulator.specs.declared.Candidate.the-variants.{Nothing, Held}
-use Rattle.demodulator.specs.declared.Control.{Control}
+use Rattle.search.specs.declared.Candidate.{Candidate}
+use Rattle.search.specs.declared.Candidate.the-variants.{Nothing, Held}
+use Rattle.search.specs.declared.Control.{Control}
+use Rattle.search.specs.Search.{ageOf}
+use Rattle.search.specs.Fit.{controlFit}
 use Rattle.demodulator.specs.declared.SoftDemodulator.{SoftDemodulator}
-use Rattle.demodulator.specs.Search.{ageOf}
 use Rattle.demodulator.specs.Record.{fresh}
-use Rattle.demodulator.specs.Fit.{controlFit}
 use Rattle.demodulator_run.specs.Rules.{Call, Heard, start, called, heardFrom, saidFrom}
 use Rattle.demodulator_run.specs.Run.{left, saidBy, recordFrom, answersFrom, Callable, Sampled}
 use Rattle.demodulator_run.specs.Represents.{Represents}

@@ -13,12 +13,13 @@ use lib.Ieee.{Float}
 use Rattle.numbers.specs.Firsts.{written}
 use Rattle.protocol.specs.declared.Kind.{Kind}
 use Rattle.decode.specs.Correlator.{symbolOf}
-use Rattle.demodulator.specs.declared.Candidate.{Candidate}
-use Rattle.demodulator.specs.declared.Candidate.the-variants.{Nothing, Held}
-use Rattle.demodulator.specs.declared.Wait.{Wait}
-use Rattle.demodulator.specs.declared.Wait.the-variants.{Free}
-use Rattle.demodulator.specs.declared.Timer.{Timer}
-use Rattle.demodulator.specs.Turn.{Outcome, offer, offered, eight, symbolAt, cleared, due, waited, sampled}
+use Rattle.search.specs.declared.Candidate.{Candidate}
+use Rattle.search.specs.declared.Candidate.the-variants.{Nothing, Held}
+use Rattle.search.specs.declared.Wait.{Wait}
+use Rattle.search.specs.declared.Wait.the-variants.{Free}
+use Rattle.search.specs.declared.Timer.{Timer}
+use Rattle.search.specs.Turn.{Outcome, offer, offered, cleared, due, waited, sampled}
+use Rattle.demodulator.specs.Spans.{eight, symbolAt}
 use Rattle.demodulator.specs.Calls.{frame}
 use Rattle.demodulator_run.specs.Filter.{filtered, ago}
 use Rattle.demodulator_run.specs.Rules.{Call, sample, Heard, After, start, settled, accepted, given, called, heardFrom, heardAll}

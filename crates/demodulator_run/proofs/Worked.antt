@@ -15,12 +15,12 @@ use Rattle.shaping.proofs.Impulse.{middle-tap}
 use Rattle.protocol.specs.Bursts.{signsOf}
 use Rattle.decode.specs.Correlator.{heard, highest, lowest, gainOf, shiftOf, symbolOf, distanceOf, summed, diffOf, correlation, matches}
 use Rattle.protocol.specs.declared.Kind.the-variants.{Lsf, Stream}
-use Rattle.demodulator.specs.declared.Candidate.the-variants.{Nothing, Held}
-use Rattle.demodulator.specs.declared.Wait.the-variants.{Free, Due}
-use Rattle.demodulator.specs.declared.Timer.the-variants.{Off, Until}
-use Rattle.demodulator.specs.declared.Reply.the-variants.{Accepted}
-use Rattle.demodulator.specs.Search.{carried, heldAfter, missed, tried, passed, searched}
-use Rattle.demodulator.specs.Turn.{cleared, waited, sampled}
+use Rattle.search.specs.declared.Candidate.the-variants.{Nothing, Held}
+use Rattle.search.specs.declared.Wait.the-variants.{Free, Due}
+use Rattle.search.specs.declared.Timer.the-variants.{Off, Until}
+use Rattle.search.specs.declared.Reply.the-variants.{Accepted}
+use Rattle.search.specs.Search.{carried, heldAfter, missed, tried, passed, searched}
+use Rattle.search.specs.Turn.{cleared, waited, sampled}
 use Rattle.demodulator.specs.Calls.{refusal, nothing, done, carrier}
 use Rattle.demodulator_run.specs.Filter.{sampleNo, filtered}
 use Rattle.demodulator_run.specs.Rules.{sample, reply, query, Heard, start, settled, given, answered, called}

@@ -13,12 +13,12 @@ use Rattle.protocol.specs.declared.Kind.{Kind}
 use Rattle.protocol.specs.declared.SyncBurst.the-variants.{Frame}
 use Rattle.decode.specs.declared.Correlation.{Correlation}
 use Rattle.decode.specs.Correlator.{symbolOf, correlation, matches}
-use Rattle.demodulator.specs.declared.Candidate.{Candidate}
-use Rattle.demodulator.specs.declared.Candidate.the-variants.{Nothing, Held}
-use Rattle.demodulator.specs.declared.Wait.the-variants.{Free}
-use Rattle.demodulator.specs.declared.Control.{Control}
-use Rattle.demodulator.specs.Search.{rank}
-use Rattle.demodulator.specs.Turn.{eight, symbolAt}
+use Rattle.search.specs.declared.Candidate.{Candidate}
+use Rattle.search.specs.declared.Candidate.the-variants.{Nothing, Held}
+use Rattle.search.specs.declared.Wait.the-variants.{Free}
+use Rattle.search.specs.declared.Control.{Control}
+use Rattle.search.specs.Search.{rank}
+use Rattle.demodulator.specs.Spans.{eight, symbolAt}
 use Rattle.demodulator_run.specs.Filter.{filtered, ago}
 use Rattle.demodulator_run.specs.Marks.{Mark, First, Anew, Failed, FellDue}
 

@@ -10,14 +10,15 @@ use lib.Ieee.{Float, lt}
 use Rattle.numbers.specs.Firsts.{written}
 use Rattle.protocol.specs.declared.Kind.{Kind}
 use Rattle.protocol.specs.declared.Kind.the-variants.{Bert}
-use Rattle.demodulator.specs.declared.Candidate.{Candidate}
-use Rattle.demodulator.specs.declared.Candidate.the-variants.{Nothing, Held}
-use Rattle.demodulator.specs.declared.Wait.{Wait}
-use Rattle.demodulator.specs.declared.Wait.the-variants.{Free, Due}
-use Rattle.demodulator.specs.declared.Control.{Control}
-use Rattle.demodulator.specs.declared.Reply.the-variants.{Accepted, Rejected}
-use Rattle.demodulator.specs.Search.{rank}
-use Rattle.demodulator.specs.Turn.{counted, freed, owing, symbolAt}
+use Rattle.search.specs.declared.Candidate.{Candidate}
+use Rattle.search.specs.declared.Candidate.the-variants.{Nothing, Held}
+use Rattle.search.specs.declared.Wait.{Wait}
+use Rattle.search.specs.declared.Wait.the-variants.{Free, Due}
+use Rattle.search.specs.declared.Control.{Control}
+use Rattle.search.specs.declared.Reply.the-variants.{Accepted, Rejected}
+use Rattle.search.specs.Search.{rank}
+use Rattle.search.specs.Turn.{counted, freed, owing}
+use Rattle.demodulator.specs.Spans.{symbolAt}
 use Rattle.demodulator.specs.Calls.{frame}
 use Rattle.demodulator_run.specs.Filter.{ago}
 use Rattle.demodulator_run.specs.Rules.{Call, sample, reply, query, Heard, called, heardFrom, heardAll}
@@ -33,7 +34,7 @@ abbrev pub lastSample : Wait
 lastSample = Due (record { left = 1 })
 
 -- ---- the search runs in the call, and the control before it is c
--- A sample: no wait is held, or "a due BERT frame is not offered; the search runs at once". A reply: "Rejected: the search runs for that same sample."
+-- A sample: no wait is held, or "A due BERT frame is not offered; the search runs at once". A reply: "Rejected: the search runs for that same sample."
 abbrev pub Searches : Heard → Call → Control → Type 0
 Searches h (sample x room) c =
     ((h .control .wait ≡ Free) × (c ≡ counted (h .control)))

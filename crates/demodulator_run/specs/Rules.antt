@@ -7,9 +7,10 @@ use lib.IntN.{ℤ}
 use lib.ListN.{length}
 use lib.Ieee.{Float}
 use Rattle.numbers.specs.Firsts.{written}
-use Rattle.demodulator.specs.declared.Control.{Control}
-use Rattle.demodulator.specs.declared.Reply.{Reply}
-use Rattle.demodulator.specs.Turn.{Outcome, quiet, offer, eight, symbolAt, sampled, replied}
+use Rattle.search.specs.declared.Control.{Control}
+use Rattle.search.specs.declared.Reply.{Reply}
+use Rattle.search.specs.Turn.{Outcome, quiet, offer, sampled, replied}
+use Rattle.demodulator.specs.Spans.{eight, symbolAt}
 use Rattle.demodulator.specs.Record.{freshControl}
 use Rattle.demodulator.specs.Calls.{Paper, refusal, nothing, frame, done, carrier, timerHeld}
 use Rattle.demodulator_run.specs.Filter.{ago}

@@ -1,5 +1,4 @@
 -- A text that the programs write lies within the 32 places of its room. Assumes nothing.
-use mathlib.Core.Path.{_≡_}
 use Prim.Native.Nat.{ℕ, _≤_, _<_, _^_}
 use native.Mathlib.Omega.{arith}
 use Rattle.house.specs.declared.Text.{Text}

@@ -1,5 +1,5 @@
 -- What a fit record is known to be, clause by clause. Assumes nothing.
-use mathlib.Core.Path.{_≡_, refl, sym, ap, subst}
+use mathlib.Core.Path.{_≡_, refl, ap, subst}
 use mathlib.Core.Bool.{Bool, true, _&&_}
 use mathlib.Core.List.{List}
 use Prim.Native.Nat.{ℕ, _≤_, _<_}
@@ -10,6 +10,7 @@ use lib.Ieee.Bits.{is-true}
 use lib.Ieee.Fits.{and-l, and-r}
 use Rattle.numbers.specs.Below.{allBelow}
 use Rattle.numbers.specs.Within.{Within}
+use Rattle.numbers.proofs.Tests.{holds}
 use Rattle.numbers.proofs.Below.{all-below}
 use Rattle.numbers.proofs.Bounds.{between}
 use Rattle.modulator.specs.declared.SampleCount.{SampleCount}
@@ -41,9 +42,6 @@ pub record RecordFacts (m : SoftModulator) : Type 0 where
   pub report : (end : SampleCount) → m .pending .«report_tx_end» ≡ After end → end .0 ≤ 33554432
 
 -- ---- tests
-holds : {b : Bool} → b ≡ true → T b
-holds e = subst T (sym e) tt
-
 -- ---- each clause
 pub pulse-within : (value : Float) → T (pulseFit value) → Within value 35461
 unfolding pulseFit ofBits

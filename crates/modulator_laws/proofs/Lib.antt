@@ -21,3 +21,5 @@ pub mod Pieces
 -- small records that meet what the laws ask
 pub mod Instances
 pub mod FrameInstances
+-- each limit of a record, met and passed by one
+pub mod Limits

@@ -1,7 +1,7 @@
 -- Small instances of the laws of the end, of what is told once and of reads in pieces: what they ask can be met. Assumes nothing.
 use mathlib.Core.Path.{_≡_, refl}
 use mathlib.Core.Bool.{true}
-use mathlib.Core.List.{List, [], _∷_, _++_}
+use mathlib.Core.List.{List, [], _∷_, _++_, flatten}
 use lib.Dec.{lit≤, lit<}
 use lib.IntN.{ℤ, pos}
 use lib.ListN.{replicate}
@@ -23,7 +23,7 @@ use Rattle.modulator_run.specs.Rules.{Call, provide, update, ask, called
 use Rattle.modulator_run.specs.Run.{left, saidBy, recordAfter, answersFrom, Delay, Given, AllGiven}
 use Rattle.modulator_run.specs.Reports.{stores, none, Owed, NewReport, Free, FreeBefore}
 use Rattle.modulator_run.specs.EndFrame.{EndFrame}
-use Rattle.modulator_run.specs.Pieces.{reads, joined, SameAs, SameLeft}
+use Rattle.modulator_run.specs.Pieces.{reads, SameAs, SameLeft}
 use Rattle.modulator_run.proofs.LastCall.{no-parts}
 use Rattle.modulator_run.proofs.ReportParts.{reporting-none}
 use Rattle.modulator_run.proofs.Owed.{owed, owed-exactly}
@@ -131,5 +131,5 @@ rooms = (pos 1 ∷ pos 2 ∷ []) ∷ [] ∷ (pos 3 ∷ []) ∷ []
 made-up-read : SameLeft made-up rooms
 made-up-read = pieces-left rooms made-up made-up-fit
 
-opening-read-on : SameAs (answersFrom (recordAfter opening) (reads rooms)) (saidBy (readInto (recordAfter opening) (joined rooms)))
+opening-read-on : SameAs (answersFrom (recordAfter opening) (reads rooms)) (saidBy (readInto (recordAfter opening) (flatten rooms)))
 opening-read-on = pieces-read opening opening-given rooms

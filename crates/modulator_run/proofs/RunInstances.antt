@@ -23,8 +23,9 @@ use Rattle.modulator.specs.declared.ModulatorFrame.the-variants.{Nothing as NoF
 use Rattle.modulator.specs.Pulse.{pulses}
 use Rattle.modulator.specs.Frame.{preamble, symbolFit}
 use Rattle.modulator.specs.Record.{fresh, framed}
-use Rattle.modulator.specs.Fit.{recordFit, windowFit, pulseFit}
+use Rattle.modulator.specs.Fit.{recordFit}
 use Rattle.modulator.specs.Calls.{refusal, done, wrote}
+use Rattle.modulator_laws.proofs.Instances.{fresh-fit}
 use Rattle.modulator_run.specs.Stream.{enteringAt, sentAt}
 use Rattle.modulator_run.specs.Rules.{Call, provide, read, update, ask, start, provided, drained, called, sentFrom, sentAll, saidAll}
 use Rattle.modulator_run.specs.Rules.{framed as framedBy}
@@ -86,10 +87,6 @@ even-within = stream-within 4 three three-fit even 20000 even-finite refl even-p
 -- ---- one frame, and one call, from a fresh start
 fresh-framed : Remembers (framed 10 preamble 0 (fresh .pending) fresh) (firsts (preamble .symbol) 192) 0
 fresh-framed = next-frame fresh [] 0 fresh-remembers preamble 0 (fresh .pending) (lit≤ tt)
-
-fresh-fit : recordFit fresh ≡ true
-unfolding recordFit windowFit pulseFit allBelow fresh ofBits le
-fresh-fit = refl
 
 fresh-represents : Represents fresh start
 unfolding fresh

@@ -1,6 +1,6 @@
 -- A transmission read into one room after the other, and into all of them at once. Assumes nothing.
 use mathlib.Core.Path.{_≡_}
-use mathlib.Core.List.{List, [], _∷_, _++_, map}
+use mathlib.Core.List.{List, [], _∷_, map, flatten}
 use Prim.Native.Nat.{ℕ, _+_}
 use lib.IntN.{ℤ}
 use lib.ListN.{take}
@@ -28,11 +28,6 @@ handed a = take (counted (a .answer)) (a .room)
 abbrev pub reads : List (List ℤ) → List Call
 reads rooms = map read rooms
 
--- one list behind the other
-unfoldable pub joined : List (List ℤ) → List ℤ
-joined [] = []
-joined (l ∷ ls) = l ++ joined ls
-
 unfoldable pub total : List Said → ℕ
 total [] = 0
 total (a ∷ rest) = counted (a .answer) + total rest
@@ -42,12 +37,12 @@ roomOf a = a .room
 
 -- several reads hand out what one does: the samples, their number, and the rooms
 pub record SameAs (pieces : List Said) (once : Said) : Type 0 where
-  pub samples : joined (map handed pieces) ≡ handed once
+  pub samples : flatten (map handed pieces) ≡ handed once
   pub number : once .answer ≡ wrote (total pieces)
-  pub rooms : joined (map roomOf pieces) ≡ once .room
+  pub rooms : flatten (map roomOf pieces) ≡ once .room
 
 -- the same of a record's reads, and of the record that they leave
 pub record SameLeft (m : SoftModulator) (rooms : List (List ℤ)) : Type 0 where
-  pub number : readInto m (joined rooms) .answer ≡ wrote (total (answersFrom m (reads rooms)))
-  pub modulator : recordFrom m (reads rooms) ≡ readInto m (joined rooms) .modulator
-  pub written : joined (map roomOf (answersFrom m (reads rooms))) ≡ readInto m (joined rooms) .room
+  pub number : readInto m (flatten rooms) .answer ≡ wrote (total (answersFrom m (reads rooms)))
+  pub modulator : recordFrom m (reads rooms) ≡ readInto m (flatten rooms) .modulator
+  pub written : flatten (map roomOf (answersFrom m (reads rooms))) ≡ readInto m (flatten rooms) .room

@@ -1,7 +1,6 @@
 // Reads i16 samples from standard input, low byte first, and writes the windows that it accepts to standard output, one line each. All that it does between its reads and its writes is the
 // library receiving. Where a read or a write fails, or a sample is refused, it stops and says so on standard error; what it wrote by then begins the right output.
 use house::Trouble;
-use libc::STDERR_FILENO;
 use libc::STDIN_FILENO;
 use libc::STDOUT_FILENO;
 use receiving::Receipt;
@@ -11,13 +10,6 @@ use receiving::Receiving;
 struct Turn {
     more: bool,
     receiving: Receiving,
-}
-
-fn say(trouble: Trouble) {
-    let text = house::trouble_text(trouble);
-    let bytes = text.bytes;
-    let length = text.length;
-    io::write_all(STDERR_FILENO, &bytes[..length]);
 }
 
 fn is_taken(answer: Receipt) -> bool {
@@ -36,7 +28,7 @@ fn hear_some(receiving: Receiving, bytes: &[u8]) -> Turn {
     let written = after.written;
     let next = after.receiving;
     if !io::write_all(STDOUT_FILENO, &lines[..written]) {
-        say(Trouble::Writing);
+        telling::say(Trouble::Writing);
         return Turn {
             more: false,
             receiving: next,
@@ -44,7 +36,7 @@ fn hear_some(receiving: Receiving, bytes: &[u8]) -> Turn {
     }
     let more = is_taken(answer);
     if !more {
-        say(Trouble::Refused);
+        telling::say(Trouble::Refused);
     }
     Turn {
         more,
@@ -56,7 +48,7 @@ fn read_some(receiving: Receiving) -> Turn {
     let mut bytes = [0u8; 512];
     let got = libc::read(STDIN_FILENO, &mut bytes);
     if got < 0 {
-        say(Trouble::Reading);
+        telling::say(Trouble::Reading);
         return Turn {
             more: false,
             receiving,

@@ -6,9 +6,9 @@ use Prim.Native.Nat.{ℕ}
 use lib.IntN.{ℤ}
 use lib.Ieee.{Float}
 use Rattle.shaping.specs.Taps.{taps}
-use Rattle.demodulator.specs.declared.Reply.{Reply}
+use Rattle.search.specs.declared.Reply.{Reply}
+use Rattle.search.proofs.Passing.{by-test}
 use Rattle.demodulator.specs.Calls.{Paper, refusal, nothing, frame, done, carrier}
-use Rattle.demodulator.proofs.Passing.{by-test}
 use Rattle.demodulator_run.specs.Rules.{Call, sample, reply, Heard, After, start, answered, called, heardFrom, saidFrom, saidAll}
 use Rattle.receiving.specs.Pairs.{samplesOf}
 use Rattle.receiving.specs.Answers.{verdict, lineFor, linesIn, repliesTo, replied, stateAfter, stateFrom, writtenFrom, callsFrom, silence}

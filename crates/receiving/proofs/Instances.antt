@@ -1,6 +1,6 @@
 -- Small instances of what the laws ask. Assumes nothing.
 use mathlib.Core.Path.{_≡_, refl}
-use mathlib.Core.List.{List, [], _∷_, _++_}
+use mathlib.Core.List.{List, [], _∷_, _++_, flatten}
 use Prim.Native.Nat.{ℕ, _≤_, _^_}
 use lib.Dec.{lit<, lit≤}
 use lib.IntN.{pos, negsuc}
@@ -18,7 +18,7 @@ use Rattle.receiving.specs.Pairs.{samplesOf, oddOf}
 use Rattle.receiving.specs.Answers.{refusedFirst, silence}
 use Rattle.receiving.specs.Receivers.{linesFrom, refusedFrom, receivedText}
 use Rattle.receiving.specs.Hearing.{told, heard, freshReceiving, hear-says}
-use Rattle.receiving.specs.Input.{joined, Bytes, Short, receivingAfter, textOf}
+use Rattle.receiving.specs.Input.{Bytes, Short, receivingAfter, textOf}
 use Rattle.receiving.proofs.Stretching.{Stuck, stuck-lines, refused-at}
 use Rattle.receiving.proofs.Calls.{too-many-says, cramped-says}
 use Rattle.receiving.proofs.ReceiveRun.{Receives, receive-run, sizes-alike, output-prefix, failed-write, next-taken}
@@ -31,12 +31,12 @@ cut = (0x34 ∷ []) ∷ (0x12 ∷ 0xfe ∷ []) ∷ [] ∷ (0xff ∷ 0x07 ∷ [])
 whole : List (List ℕ)
 whole = (0x34 ∷ 0x12 ∷ 0xfe ∷ 0xff ∷ 0x07 ∷ []) ∷ []
 
-low-first : samplesOf (joined cut) ≡ pos 0x1234 ∷ negsuc 1 ∷ []
-unfolding cut joined samplesOf sampleOf numberOf
+low-first : samplesOf (flatten cut) ≡ pos 0x1234 ∷ negsuc 1 ∷ []
+unfolding cut flatten samplesOf sampleOf numberOf
 low-first = refl
 
-last-odd : oddOf (joined cut) ≡ Held 0x07
-unfolding cut joined oddOf
+last-odd : oddOf (flatten cut) ≡ Held 0x07
+unfolding cut flatten oddOf
 last-odd = refl
 
 cut-short : Short cut
@@ -47,34 +47,34 @@ whole-short : Short whole
 unfolding whole Short
 whole-short = (lit≤ tt, tt)
 
-cut-bytes : Bytes (joined cut)
-unfolding cut joined Bytes
+cut-bytes : Bytes (flatten cut)
+unfolding cut flatten Bytes
 cut-bytes = (lit< tt, (lit< tt, (lit< tt, (lit< tt, (lit< tt, tt)))))
 
 cut-received : Receives 24832 cut
 cut-received = receive-run 24832 (lit≤ tt) cut cut-short cut-bytes
 
-same-bytes : joined cut ≡ joined whole
-unfolding cut whole joined
+same-bytes : flatten cut ≡ flatten whole
+unfolding cut whole flatten
 same-bytes = refl
 
 cut-or-whole : textOf 24832 freshReceiving cut ≡ textOf 24832 freshReceiving whole
 cut-or-whole = sizes-alike 24832 (lit≤ tt) cut whole cut-short whole-short cut-bytes same-bytes
 
 -- whatever comes after it
-cut-begins : (back : List (List ℕ)) → (rest : List ℕ) × (receivedText (joined (cut ++ back)) ≡ textOf 24832 freshReceiving cut ++ rest)
+cut-begins : (back : List (List ℕ)) → (rest : List ℕ) × (receivedText (flatten (cut ++ back)) ≡ textOf 24832 freshReceiving cut ++ rest)
 cut-begins back = output-prefix 24832 (lit≤ tt) cut back cut-short cut-bytes
 
-cut-failed : (back : List (List ℕ)) → (rest : List ℕ) × (receivedText (joined (cut ++ back)) ≡ take 1 (textOf 24832 freshReceiving cut) ++ rest)
+cut-failed : (back : List (List ℕ)) → (rest : List ℕ) × (receivedText (flatten (cut ++ back)) ≡ take 1 (textOf 24832 freshReceiving cut) ++ rest)
 cut-failed back = failed-write 24832 (lit≤ tt) cut back cut-short cut-bytes 1
 
 -- and the next read of it is taken
-six-bytes : Bytes (joined cut ++ (0x00 ∷ []))
-unfolding cut joined Bytes
+six-bytes : Bytes (flatten cut ++ (0x00 ∷ []))
+unfolding cut flatten Bytes
 six-bytes = (lit< tt, (lit< tt, (lit< tt, (lit< tt, (lit< tt, (lit< tt, tt))))))
 
-three-samples : length (samplesOf (joined cut ++ (0x00 ∷ []))) ≤ 2 ^ 63
-unfolding cut joined samplesOf
+three-samples : length (samplesOf (flatten cut ++ (0x00 ∷ []))) ≤ 2 ^ 63
+unfolding cut flatten samplesOf
 three-samples = lit≤ tt
 
 cut-goes-on : heard (receivingAfter 24832 freshReceiving cut) (0x00 ∷ []) 24832 .answer ≡ told nothing

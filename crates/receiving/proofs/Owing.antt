@@ -15,18 +15,19 @@ use Rattle.protocol.specs.declared.Kind.the-variants.{Lsf, Bert, Stream, Packet
 use Rattle.protocol.specs.declared.SyncBurst.{SyncBurst}
 use Rattle.protocol.specs.declared.SyncBurst.the-variants.{Frame, Preamble, EndOfTransmission}
 use Rattle.decode.specs.Correlator.{matches}
-use Rattle.demodulator.specs.declared.Candidate.{Candidate}
-use Rattle.demodulator.specs.declared.Candidate.the-variants.{Nothing, Held}
-use Rattle.demodulator.specs.declared.Wait.{Wait}
-use Rattle.demodulator.specs.declared.Wait.the-variants.{Free, Due}
-use Rattle.demodulator.specs.declared.Control.{Control}
-use Rattle.demodulator.specs.declared.Reply.{Reply}
-use Rattle.demodulator.specs.declared.Reply.the-variants.{Accepted, Rejected}
-use Rattle.demodulator.specs.Search.{carried, tried, passed, searched}
-use Rattle.demodulator.specs.Turn.{Outcome, quiet, offer, pickOutcome, offered, eight, counted, freed, owing, due, waited, sampled}
-use Rattle.demodulator.specs.Turn.{replied as settledBy}
+use Rattle.search.specs.declared.Candidate.{Candidate}
+use Rattle.search.specs.declared.Candidate.the-variants.{Nothing, Held}
+use Rattle.search.specs.declared.Wait.{Wait}
+use Rattle.search.specs.declared.Wait.the-variants.{Free, Due}
+use Rattle.search.specs.declared.Control.{Control}
+use Rattle.search.specs.declared.Reply.{Reply}
+use Rattle.search.specs.declared.Reply.the-variants.{Accepted, Rejected}
+use Rattle.search.specs.Search.{carried, tried, passed, searched}
+use Rattle.search.specs.Turn.{Outcome, quiet, offer, pickOutcome, offered, counted, freed, owing, due, waited, sampled}
+use Rattle.search.specs.Turn.{replied as settledBy}
+use Rattle.search.proofs.Passing.{by-test, missed-keeps}
+use Rattle.demodulator.specs.Spans.{eight}
 use Rattle.demodulator.specs.Calls.{nothing}
-use Rattle.demodulator.proofs.Passing.{by-test, missed-keeps}
 use Rattle.demodulator_laws.proofs.SampleFits.{controlOf}
 use Rattle.demodulator_run.specs.Filter.{ago}
 use Rattle.demodulator_run.specs.Rules.{sample, reply, Heard, After, start, settled, given, answered, called}

@@ -8,8 +8,9 @@ use lib.IntN.{ℤ}
 use lib.ListN.{length}
 use lib.Ieee.{Float}
 use Rattle.protocol.specs.declared.Kind.{Kind}
+use Rattle.search.specs.Turn.{Outcome, quiet, offer, sampled}
 use Rattle.demodulator.specs.declared.SoftDemodulator.{SoftDemodulator}
-use Rattle.demodulator.specs.Turn.{Outcome, quiet, offer, eight, sampled}
+use Rattle.demodulator.specs.Spans.{eight}
 use Rattle.demodulator.specs.Record.{back, stored}
 use Rattle.demodulator.specs.Fit.{fitForSample}
 use Rattle.demodulator.specs.Calls.{nothing, frame, Left, refused, finished, taken, demodulated}

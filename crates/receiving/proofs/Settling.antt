@@ -8,10 +8,10 @@ use lib.ListN.{length, drop}
 use lib.Ieee.{Float}
 use Rattle.protocol.specs.declared.Kind.{Kind}
 use Rattle.protocol.specs.declared.Refusal.{Refusal}
+use Rattle.search.specs.declared.Reply.the-variants.{Accepted, Rejected}
 use Rattle.demodulator.specs.declared.SoftDemodulator.{SoftDemodulator}
 use Rattle.demodulator.specs.declared.Heard.the-variants.{Refused, Quiet, Offered}
 use Rattle.demodulator.specs.declared.Offer.{Offer}
-use Rattle.demodulator.specs.declared.Reply.the-variants.{Accepted, Rejected}
 use Rattle.demodulator.specs.declared.AfterStretch.{AfterStretch}
 use Rattle.demodulator.specs.Calls.{Paper, heardPaper, answered}
 use Rattle.demodulator.specs.Feed.{feed-says}

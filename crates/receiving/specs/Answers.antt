@@ -7,8 +7,8 @@ use lib.IntN.{ℤ}
 use lib.ListN.{replicate}
 use lib.Ieee.{Float, binary32, ofBits}
 use Rattle.protocol.specs.declared.Kind.{Kind}
-use Rattle.demodulator.specs.declared.Reply.{Reply}
-use Rattle.demodulator.specs.declared.Reply.the-variants.{Accepted, Rejected}
+use Rattle.search.specs.declared.Reply.{Reply}
+use Rattle.search.specs.declared.Reply.the-variants.{Accepted, Rejected}
 use Rattle.demodulator.specs.Calls.{Paper, refusal, nothing, frame, done, carrier}
 use Rattle.demodulator_run.specs.Rules.{Call, sample, reply, Said}
 use Rattle.house.specs.Line.{lineOf}

@@ -5,11 +5,6 @@ use lib.ListN.{length}
 use Rattle.receiving.specs.declared.Receiving.{Receiving}
 use Rattle.receiving.specs.Hearing.{heard}
 
--- all the input's bytes
-unfoldable pub joined : List (List ℕ) → List ℕ
-joined [] = []
-joined (bytes ∷ reads) = bytes ++ joined reads
-
 -- a byte's value
 unfoldable pub Bytes : List ℕ → Type 0
 Bytes [] = Unit {0}

@@ -1,8 +1,6 @@
 // Reads lines of the house format from standard input, and writes the samples of their transmission to standard output, two bytes each, the low one first. All that it does between its
 // reads and its writes is the library sending. Where a read or a write fails, it stops and says so on standard error; what it wrote by then begins the right output.
-use house::Text;
 use house::Trouble;
-use libc::STDERR_FILENO;
 use libc::STDIN_FILENO;
 use libc::STDOUT_FILENO;
 use sending::AfterPart;
@@ -21,18 +19,6 @@ struct Got {
     count: usize,
 }
 
-fn tell(text: Text)
-    requires { ⌜ text .length ≤ 32 ⌝ }
-{
-    let bytes = text.bytes;
-    let length = text.length;
-    io::write_all(STDERR_FILENO, &bytes[..length]);
-}
-
-fn say(trouble: Trouble) {
-    tell(house::trouble_text(trouble));
-}
-
 fn put(part: AfterPart) -> Turn
     requires { ⌜ part .length ≤ 5440 ⌝ }
 {
@@ -40,7 +26,7 @@ fn put(part: AfterPart) -> Turn
     let length = part.length;
     let fine = io::write_all(STDOUT_FILENO, &bytes[..length]);
     if !fine {
-        say(Trouble::Writing);
+        telling::say(Trouble::Writing);
     }
     Turn { part, fine }
 }
@@ -48,7 +34,7 @@ fn put(part: AfterPart) -> Turn
 fn read_some(room: &mut [u8]) -> Got {
     let got = libc::read(STDIN_FILENO, room);
     if got < 0 {
-        say(Trouble::Reading);
+        telling::say(Trouble::Reading);
     }
     Got {
         fine: got >= 0,
@@ -72,7 +58,7 @@ fn next_turn(before: AfterPart) -> Turn {
 }
 
 fn tell_last(part: AfterPart) {
-    tell(part.last_words());
+    telling::tell(part.last_words());
 }
 
 // A proved loop has to end, and nothing says that the input does: the turns are counted down, from a number that no run uses up.

@@ -1,16 +1,16 @@
 -- Every text can be read, a byte at a time for one; and what is written so far is a prefix of what every longer text has written. Assumes nothing.
 use mathlib.Core.Path.{_≡_, refl, sym, ap, _∙_}
 use mathlib.Core.Bool.{Bool, true, false, cond}
-use mathlib.Core.List.{List, [], _∷_, _++_, map, map-append, append-assoc, append-nil}
+use mathlib.Core.List.{List, [], _∷_, _++_, map, map-append, append-assoc, append-nil, flatten}
 use Prim.Native.Nat.{ℕ, _+_, _<_, _≤_}
 use native.Mathlib.Omega.{arith}
 use lib.ListN.{length, take, drop, take-append-drop}
+use Rattle.numbers.proofs.Flatten.{flatten-append}
 use Rattle.sending.specs.declared.Sending.{Sending}
-use Rattle.sending.specs.Text.{joined, bytesSent}
+use Rattle.sending.specs.Text.{bytesSent}
 use Rattle.sending.specs.Calls.{Left, lacking, opened, turned}
 use Rattle.sending.specs.Run.{Fitting, callsFrom, callsOver, callsUntil, output, writtenBy, lastOf, lastUntil, Begins}
 use Rattle.sending.proofs.Lines.{never-both}
-use Rattle.sending.proofs.Bytes.{joined-two}
 use Rattle.sending.proofs.SendRun.{next-stands, Somewhere, opened-stands, send-run}
 
 -- ---- a byte at a time
@@ -20,10 +20,10 @@ single byte = byte ∷ []
 abbrev pub singles : List ℕ → List (List ℕ)
 singles text = map single text
 
-pub joined-singles : (text : List ℕ) → joined (singles text) ≡ text
-unfolding joined
-joined-singles [] = refl
-joined-singles (b ∷ text) = ap (λ (l : List ℕ). b ∷ l) (joined-singles text)
+pub flatten-singles : (text : List ℕ) → flatten (singles text) ≡ text
+unfolding flatten
+flatten-singles [] = refl
+flatten-singles (b ∷ text) = ap (λ (l : List ℕ). b ∷ l) (flatten-singles text)
 
 fits-singles : (text : List ℕ) (s : Sending) → Somewhere s → Fitting s (singles text)
 unfolding Fitting
@@ -52,8 +52,8 @@ somewhere : Somewhere (opened .sending)
 somewhere = record { cs = _; xs = _; k = 1; stands = opened-stands }
 
 -- so every text has reads
-pub every-text : (text : List ℕ) → Fitting (opened .sending) (singles text) × (joined (singles text) ≡ text)
-every-text text = (fits-singles text (opened .sending) somewhere, joined-singles text)
+pub every-text : (text : List ℕ) → Fitting (opened .sending) (singles text) × (flatten (singles text) ≡ text)
+every-text text = (fits-singles text (opened .sending) somewhere, flatten-singles text)
 
 -- ---- what is asked for
 abbrev Asks : List (List ℕ) → Left → Type 0
@@ -94,14 +94,14 @@ goes (bytes ∷ reads) more s =
     by-test l false rest = (rest .later, ap (λ (calls : List Left). l ∷ calls) (rest .parts))
 
 written-two : (a b : List Left) → writtenBy (a ++ b) ≡ writtenBy a ++ writtenBy b
-written-two a b = ap joined (map-append output a b) ∙ joined-two (map output a) (map output b)
+written-two a b = ap flatten (map-append output a b) ∙ flatten-append (map output a) (map output b)
 
 -- Whatever the next read would bring, and if it fails: what was written until then is the beginning of the right output.
-pub output-prefix : (reads : List (List ℕ)) → Fitting (opened .sending) reads → (rest : List ℕ) → Begins (writtenBy (opened ∷ callsUntil (opened .sending) reads)) (bytesSent (joined reads ++ rest))
+pub output-prefix : (reads : List (List ℕ)) → Fitting (opened .sending) reads → (rest : List ℕ) → Begins (writtenBy (opened ∷ callsUntil (opened .sending) reads)) (bytesSent (flatten reads ++ rest))
 output-prefix reads fit rest =
     let on = goes reads (singles rest) (opened .sending) in
     let until : List Left = opened ∷ callsUntil (opened .sending) reads in
-    let text : joined (reads ++ singles rest) ≡ joined reads ++ rest = joined-two reads (singles rest) ∙ ap (λ (l : List ℕ). joined reads ++ l) (joined-singles rest) in
+    let text : flatten (reads ++ singles rest) ≡ flatten reads ++ rest = flatten-append reads (singles rest) ∙ ap (λ (l : List ℕ). flatten reads ++ l) (flatten-singles rest) in
     record {
       more = writtenBy (on .later);
       parts =
@@ -123,9 +123,9 @@ begins-front front whole k b = record {
 
 -- and so it is where a write fails after some of its bytes
 pub failed-write : (reads : List (List ℕ)) → Fitting (opened .sending) reads → (rest : List ℕ) (k : ℕ)
-    → Begins (take k (writtenBy (opened ∷ callsUntil (opened .sending) reads))) (bytesSent (joined reads ++ rest))
+    → Begins (take k (writtenBy (opened ∷ callsUntil (opened .sending) reads))) (bytesSent (flatten reads ++ rest))
 failed-write reads fit rest k = begins-front _ _ k (output-prefix reads fit rest)
 
 -- the last write too
-pub failed-last-write : (reads : List (List ℕ)) → Fitting (opened .sending) reads → (k : ℕ) → Begins (take k (writtenBy (callsOver reads))) (bytesSent (joined reads))
+pub failed-last-write : (reads : List (List ℕ)) → Fitting (opened .sending) reads → (k : ℕ) → Begins (take k (writtenBy (callsOver reads))) (bytesSent (flatten reads))
 failed-last-write reads fit k = begins-front _ _ k (record { more = []; parts = append-nil _ ∙ send-run reads fit .written })

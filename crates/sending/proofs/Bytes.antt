@@ -1,34 +1,28 @@
 -- Samples as bytes, one pair behind the other. Assumes nothing.
 use mathlib.Core.Path.{_≡_, refl, sym, ap, _∙_}
-use mathlib.Core.List.{List, [], _∷_, _++_, map, map-append, append-assoc, append-nil}
+use mathlib.Core.List.{List, [], _∷_, _++_, map, map-append, append-assoc, append-nil, flatten}
 use Prim.Native.Nat.{ℕ, suc, _+_, _*_, _≤_, _<_}
 use native.Mathlib.Numerals.{add-one}
 use native.Mathlib.Omega.{arith}
 use lib.IntN.{ℤ, pos}
 use lib.ListN.{length, getD, take, drop, set, length-append, drop-of-length-le}
 use lib.Seq.{take-all, take-suc, drop-cons, set-at, length-take-le, append-snoc}
+use Rattle.numbers.proofs.Flatten.{flatten-append}
 use Rattle.house.specs.Samples.{bytesOf}
-use Rattle.sending.specs.Text.{joined, sampleBytes}
-
--- ---- lists one behind the other
-module _ {A : Type 0} where
-  pub joined-two : (a b : List (List A)) → joined (a ++ b) ≡ joined a ++ joined b
-  unfolding joined
-  joined-two [] b = refl
-  joined-two (l ∷ a) b = rw (joined-two a b) (sym (append-assoc l (joined a) (joined b)))
+use Rattle.sending.specs.Text.{sampleBytes}
 
 -- ---- bytes
 pub bytes-two : (a b : List ℤ) → sampleBytes (a ++ b) ≡ sampleBytes a ++ sampleBytes b
 unfolding sampleBytes
-bytes-two a b = ap joined (map-append bytesOf a b) ∙ joined-two (map bytesOf a) (map bytesOf b)
+bytes-two a b = ap flatten (map-append bytesOf a b) ∙ flatten-append (map bytesOf a) (map bytesOf b)
 
 pub bytes-length : (l : List ℤ) → length (sampleBytes l) ≡ 2 * length l
-unfolding sampleBytes joined bytesOf
+unfolding sampleBytes flatten bytesOf
 bytes-length [] = refl
 bytes-length (x ∷ l) = omega (arith, bytes-length l)
 
 pub bytes-one : (x : ℤ) → sampleBytes (x ∷ []) ≡ getD (bytesOf x) 0 0 ∷ (getD (bytesOf x) 1 0 ∷ [])
-unfolding sampleBytes joined bytesOf
+unfolding sampleBytes flatten bytesOf
 bytes-one x = refl
 
 -- ---- a turn of the loop that writes them

@@ -1,7 +1,7 @@
 -- What the calls from some place on come to, for the lines that are still to come; the last call; and a call in front of others. Assumes nothing.
 use mathlib.Core.Path.{_≡_, refl, sym, ap, _∙_}
 use mathlib.Core.Bool.{true, false}
-use mathlib.Core.List.{List, [], _∷_, _++_, map, append-assoc, append-nil}
+use mathlib.Core.List.{List, [], _∷_, _++_, map, append-assoc, append-nil, flatten}
 use Prim.Native.Nat.{ℕ, suc, _+_, _≤_, _<_, min}
 use native.Mathlib.Omega.{arith}
 use borrow.Author.Tests.{lt-ltb}
@@ -14,7 +14,7 @@ use Rattle.modulator_run.specs.Rules.{Call}
 use Rattle.modulator_run.specs.Run.{recordAfter}
 use Rattle.house.specs.Line.{goodLine, symbolsOf, noSymbols}
 use Rattle.sending.specs.declared.Sending.{Sending}
-use Rattle.sending.specs.Text.{joined, hasFeed, linesOf, goodFront, none, inLine, firstBad, lineSymbols, endSymbols, sampleBytes}
+use Rattle.sending.specs.Text.{hasFeed, linesOf, goodFront, none, inLine, firstBad, lineSymbols, endSymbols, sampleBytes}
 use Rattle.sending.specs.Calls.{Left, partOf, largest, closed, named}
 use Rattle.sending.specs.Run.{output, writtenBy, AllDone, lastOf, toldOf, partCalls, lineCalls}
 use Rattle.sending.proofs.Lines.{BadFirst, line-open, too-short, front-good, front-bad, number-good, number-bad}
@@ -28,7 +28,7 @@ use Rattle.sending.proofs.Turning.{closed-last}
 pub record Over (calls : List Left) (cs : List Call) (xs : List Float) (k : ℕ) (lines : List (List ℕ)) : Type 0 where
   pub written : writtenBy calls ≡ sampleBytes (samplesBehind xs (lineSymbols (goodFront lines) ++ endSymbols))
   pub answers : AllDone calls
-  pub sender : (l : Left) → lastOf l calls .sending .modulator ≡ recordAfter (cs ++ (joined (map lineCalls (goodFront lines)) ++ partCalls EndOfTransmission noSymbols))
+  pub sender : (l : Left) → lastOf l calls .sending .modulator ≡ recordAfter (cs ++ (flatten (map lineCalls (goodFront lines)) ++ partCalls EndOfTransmission noSymbols))
   pub tells : (l : Left) → k + length lines ≤ suc largest → toldOf (lastOf l calls) ≡ firstBad k lines
   pub ends : (l : Left) → lastOf l calls .last ≡ true
 
@@ -39,7 +39,7 @@ closes s cs xs sits = part-done s cs xs sits EndOfTransmission noSymbols ending 
 
 module _ (s : Sending) (cs : List Call) (xs : List Float) (k : ℕ) (lines : List (List ℕ)) (sits : Sits (s .modulator) cs xs) where
   pub over-closed : goodFront lines ≡ [] → (k + length lines ≤ suc largest → toldOf (closed s) ≡ firstBad k lines) → Over (closed s ∷ []) cs xs k lines
-  unfolding AllDone lastOf joined
+  unfolding AllDone lastOf flatten
   over-closed no-front tells =
       let end = closes s cs xs sits in
       record {
@@ -81,7 +81,7 @@ over-nothing s cs xs k sits nothing = over-closed s cs xs k [] sits refl λ _. t
 -- ---- a call in front
 module _ (l : Left) (calls : List Left) (cs : List Call) (xs : List Float) (k : ℕ) (lines : List (List ℕ)) where
   pub over-quiet : l .answer ≡ done → output l ≡ [] → Over calls cs xs k lines → Over (l ∷ calls) cs xs k lines
-  unfolding AllDone lastOf joined
+  unfolding AllDone lastOf flatten
   over-quiet fine silent rest = record {
     written = rw silent (rest .written);
     answers = (fine, rest .answers);
@@ -92,10 +92,10 @@ module _ (l : Left) (calls : List Left) (cs : List Call) (xs : List Float) (k : 
 
   pub over-part : (g : List ℕ) → goodLine g ≡ true → Done l cs xs (symbolsOf g) GivenSymbols (symbolsOf g)
       → Over calls (cs ++ lineCalls g) (xs ++ symbolsOf g) (suc k) lines → Over (l ∷ calls) cs xs k (g ∷ lines)
-  unfolding AllDone lastOf joined
+  unfolding AllDone lastOf flatten
   over-part g good part rest =
       let more : List Float = lineSymbols (goodFront lines) ++ endSymbols in
-      let later : List Call = joined (map lineCalls (goodFront lines)) in
+      let later : List Call = flatten (map lineCalls (goodFront lines)) in
       let end : List Call = partCalls EndOfTransmission noSymbols in
       let front : goodFront (g ∷ lines) ≡ g ∷ goodFront lines = front-good g lines good in
       let symbols : (symbolsOf g ++ lineSymbols (goodFront lines)) ++ endSymbols ≡ symbolsOf g ++ more = append-assoc (symbolsOf g) (lineSymbols (goodFront lines)) endSymbols in
@@ -111,7 +111,7 @@ module _ (l : Left) (calls : List Left) (cs : List Call) (xs : List Float) (k : 
         sender = λ _.
             rest .sender l
             ∙ ap recordAfter (append-assoc cs (lineCalls g) (later ++ end) ∙ ap (λ (c : List Call). cs ++ c) (sym (append-assoc (lineCalls g) later end)))
-            ∙ ap (λ (f : List (List ℕ)). recordAfter (cs ++ (joined (map lineCalls f) ++ end))) (sym front);
+            ∙ ap (λ (f : List (List ℕ)). recordAfter (cs ++ (flatten (map lineCalls f) ++ end))) (sym front);
         tells = λ _ h. rest .tells l (omega arith) ∙ sym (number-good k g lines good);
         ends = λ _. rest .ends l;
       }

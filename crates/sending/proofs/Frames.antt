@@ -13,6 +13,7 @@ use lib.Ieee.{Float, nan, le, ofBits}
 use lib.Ieee.Bits.{is-true}
 use Rattle.numbers.specs.Below.{allBelow}
 use Rattle.numbers.specs.Firsts.{firsts}
+use Rattle.numbers.proofs.Tests.{holds}
 use Rattle.numbers.proofs.Below.{all-below, below-all}
 use Rattle.numbers.proofs.Firsts.{length-firsts, firsts-at, firsts-same}
 use Rattle.shaping.specs.Taps.{taps}
@@ -29,7 +30,6 @@ use Rattle.house.specs.Line.{symbolOf, goodLine, bitsAt, symbolsOf, noSymbols}
 use Rattle.house.proofs.Lines.{good-digit, pair-below}
 use Rattle.sending.specs.Calls.{emptyRoom}
 use Rattle.sending.proofs.Stream.{samplesBehind}
-use Rattle.sending.proofs.Lines.{holds}
 
 -- ---- the three kinds of part: while no padding is due, the frame is taken with none
 pub record Gives (frame : ModulatorFrame) (symbols : List Float) (f : Symbols) : Type 0 where

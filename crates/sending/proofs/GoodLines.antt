@@ -1,6 +1,6 @@
 -- A text of good lines, and how much is written of any text. Assumes nothing.
 use mathlib.Core.Path.{_≡_, refl, ap, _∙_}
-use mathlib.Core.List.{List, [], _∷_, _++_}
+use mathlib.Core.List.{List, [], _∷_, _++_, flatten}
 use Prim.Native.Nat.{ℕ, suc, _+_, _*_, _≤_}
 use native.Mathlib.Omega.{arith}
 use lib.ListN.{length, length-append}
@@ -8,7 +8,7 @@ use lib.Ieee.{Float}
 use Rattle.numbers.proofs.Firsts.{length-firsts}
 use Rattle.modulator.specs.Frame.{preamble, ending}
 use Rattle.house.specs.Line.{symbolsOf}
-use Rattle.sending.specs.Text.{joined, linesOf, goodFront, goodLines, AllGood, none, firstBad, lineSymbols, preambleSymbols, endSymbols, symbolsSent, streamSamples, samplesSent, sampleBytes, bytesSent}
+use Rattle.sending.specs.Text.{linesOf, goodFront, goodLines, AllGood, none, firstBad, lineSymbols, preambleSymbols, endSymbols, symbolsSent, streamSamples, samplesSent, sampleBytes, bytesSent}
 use Rattle.sending.specs.Calls.{largest, opened}
 use Rattle.sending.specs.Run.{Fitting, callsOver, writtenBy, lastCall, toldOf}
 use Rattle.sending.proofs.Lines.{good-first, front-good, number-good}
@@ -16,10 +16,10 @@ use Rattle.sending.proofs.Bytes.{bytes-length}
 use Rattle.sending.proofs.SendRun.{send-run}
 
 -- ---- a list of good lines is the lines of its text, all of them sent
-pub lines-back : (lines : List (List ℕ)) → AllGood lines → linesOf (joined lines) ≡ lines
-unfolding joined linesOf AllGood
+pub lines-back : (lines : List (List ℕ)) → AllGood lines → linesOf (flatten lines) ≡ lines
+unfolding flatten linesOf AllGood
 lines-back [] good = refl
-lines-back (l ∷ lines) good = good-first l (good .0) (joined lines) ∙ ap (λ (ls : List (List ℕ)). l ∷ ls) (lines-back lines (good .1))
+lines-back (l ∷ lines) good = good-first l (good .0) (flatten lines) ∙ ap (λ (ls : List (List ℕ)). l ∷ ls) (lines-back lines (good .1))
 
 all-sent : (lines : List (List ℕ)) → AllGood lines → goodFront lines ≡ lines
 unfolding AllGood goodFront
@@ -31,10 +31,10 @@ unfolding AllGood firstBad
 none-bad [] n good = refl
 none-bad (l ∷ lines) n good = number-good n l lines (good .0) ∙ none-bad lines (suc n) (good .1)
 
-pub good-lines : (lines : List (List ℕ)) → AllGood lines → goodLines (joined lines) ≡ lines
+pub good-lines : (lines : List (List ℕ)) → AllGood lines → goodLines (flatten lines) ≡ lines
 good-lines lines good = ap goodFront (lines-back lines good) ∙ all-sent lines good
 
-module _ (lines : List (List ℕ)) (good : AllGood lines) (reads : List (List ℕ)) (same : joined reads ≡ joined lines) (fit : Fitting (opened .sending) reads) where
+module _ (lines : List (List ℕ)) (good : AllGood lines) (reads : List (List ℕ)) (same : flatten reads ≡ flatten lines) (fit : Fitting (opened .sending) reads) where
   -- Of good lines send writes preamble, each line's symbols and end of transmission, as the sender's samples from a fresh start in order.
   pub send-good : writtenBy (callsOver reads) ≡ sampleBytes (streamSamples (preambleSymbols ++ (lineSymbols lines ++ endSymbols)))
   unfolding symbolsSent
@@ -45,7 +45,7 @@ module _ (lines : List (List ℕ)) (good : AllGood lines) (reads : List (List �
 
   pub send-good-tells : length lines ≤ largest → toldOf (lastCall reads) ≡ none
   send-good-tells few =
-      let back : linesOf (joined reads) ≡ lines = ap linesOf same ∙ lines-back lines good in
+      let back : linesOf (flatten reads) ≡ lines = ap linesOf same ∙ lines-back lines good in
       send-run reads fit .tells (rw back few) ∙ ap (firstBad 1) back ∙ none-bad lines 1 good
 
 -- ---- how much is written
@@ -54,7 +54,7 @@ unfolding symbolsOf
 line-number l = length-firsts _ 192
 
 lines-number : (lines : List (List ℕ)) → length (lineSymbols lines) ≡ 192 * length lines
-unfolding joined
+unfolding flatten
 lines-number [] = refl
 lines-number (l ∷ lines) = length-append (symbolsOf l) (lineSymbols lines) ∙ omega (arith, line-number l, lines-number lines)
 

@@ -1,7 +1,7 @@
 -- Texts that meet what the laws ask: none at all, document 01's whole case in one read and in two, and a bad first line. Assumes nothing.
 use mathlib.Core.Path.{_≡_, refl, ap, _∙_}
 use mathlib.Core.Bool.{false}
-use mathlib.Core.List.{List, [], _∷_, _++_}
+use mathlib.Core.List.{List, [], _∷_, _++_, flatten}
 use Prim.Native.Nat.{ℕ, _+_, _*_, _<_}
 use lib.Dec.{lit<, lit≤}
 use lib.ListN.{length, take, drop, replicate}
@@ -10,7 +10,7 @@ use Rattle.numbers.specs.Firsts.{firsts}
 use Rattle.house.specs.Digits.{capitals, placeIn, valueOf}
 use Rattle.house.specs.Line.{lineFeed, goodLine}
 use Rattle.house.specs.BadLine.{tensIn, decimal, heading, badLine, inRoom}
-use Rattle.sending.specs.Text.{joined, hasFeed, linesOf, goodFront, AllGood, none, inLine, firstBad, lineSymbols, preambleSymbols, endSymbols, streamSamples, samplesSent, sampleBytes, bytesSent}
+use Rattle.sending.specs.Text.{hasFeed, linesOf, goodFront, AllGood, none, inLine, firstBad, lineSymbols, preambleSymbols, endSymbols, streamSamples, samplesSent, sampleBytes, bytesSent}
 use Rattle.sending.specs.Calls.{partOf, starting, opened, lacking, held, judged, turned, words}
 use Rattle.sending.specs.Run.{Fitting, callsOver, callsUntil, writtenBy, lastOf, lastCall, lastUntil, toldOf, lastWords, Begins}
 use Rattle.sending.proofs.SendRun.{send-run}
@@ -27,7 +27,7 @@ unfolding linesOf goodFront
 no-text-bytes = bytes-sent []
 
 no-reads : writtenBy (callsOver []) ≡ bytesSent []
-unfolding joined Fitting
+unfolding flatten Fitting
 no-reads = send-run [] tt .written
 
 -- ---- "Whole case: the input is one line, 55F7 and 92 digits 0. Send writes 6,560 samples, 13,120 bytes."
@@ -38,14 +38,14 @@ whole-case-good : AllGood (wholeCase ∷ [])
 unfolding wholeCase AllGood goodLine allBelow valueOf placeIn capitals
 whole-case-good = (refl, tt)
 
-whole-case-lines : linesOf (joined (wholeCase ∷ [])) ≡ wholeCase ∷ []
+whole-case-lines : linesOf (flatten (wholeCase ∷ [])) ≡ wholeCase ∷ []
 whole-case-lines = lines-back (wholeCase ∷ []) whole-case-good
 
-whole-case-samples : length (samplesSent (joined (wholeCase ∷ []))) ≡ 6560
-whole-case-samples = samples-sent (joined (wholeCase ∷ [])) ∙ ap (λ (lines : List (List ℕ)). 4640 + 1920 * length lines) (good-lines (wholeCase ∷ []) whole-case-good)
+whole-case-samples : length (samplesSent (flatten (wholeCase ∷ []))) ≡ 6560
+whole-case-samples = samples-sent (flatten (wholeCase ∷ [])) ∙ ap (λ (lines : List (List ℕ)). 4640 + 1920 * length lines) (good-lines (wholeCase ∷ []) whole-case-good)
 
-whole-case-bytes : length (bytesSent (joined (wholeCase ∷ []))) ≡ 13120
-whole-case-bytes = bytes-sent (joined (wholeCase ∷ [])) ∙ ap (λ (lines : List (List ℕ)). 9280 + 3840 * length lines) (good-lines (wholeCase ∷ []) whole-case-good)
+whole-case-bytes : length (bytesSent (flatten (wholeCase ∷ []))) ≡ 13120
+whole-case-bytes = bytes-sent (flatten (wholeCase ∷ [])) ∙ ap (λ (lines : List (List ℕ)). 9280 + 3840 * length lines) (good-lines (wholeCase ∷ []) whole-case-good)
 
 -- in one read
 whole-case-fits : Fitting (opened .sending) (wholeCase ∷ [])
@@ -82,14 +82,14 @@ half-goes-on = refl
 half-asks : 0 < lacking (lastUntil (take 50 wholeCase ∷ []) .sending)
 half-asks = asks-some (take 50 wholeCase ∷ []) half-fits half-goes-on
 
-two-reads-prefix : Begins (writtenBy (opened ∷ callsUntil (opened .sending) two-reads)) (bytesSent (joined two-reads ++ wholeCase))
+two-reads-prefix : Begins (writtenBy (opened ∷ callsUntil (opened .sending) two-reads)) (bytesSent (flatten two-reads ++ wholeCase))
 two-reads-prefix = output-prefix two-reads two-reads-fit wholeCase
 
 -- a write of the second part that fails behind its first byte
-two-reads-failed : Begins (take 3841 (writtenBy (opened ∷ callsUntil (opened .sending) two-reads))) (bytesSent (joined two-reads ++ wholeCase))
+two-reads-failed : Begins (take 3841 (writtenBy (opened ∷ callsUntil (opened .sending) two-reads))) (bytesSent (flatten two-reads ++ wholeCase))
 two-reads-failed = failed-write two-reads two-reads-fit wholeCase 3841
 
-two-reads-cut : Begins (take 1 (writtenBy (callsOver two-reads))) (bytesSent (joined two-reads))
+two-reads-cut : Begins (take 1 (writtenBy (callsOver two-reads))) (bytesSent (flatten two-reads))
 two-reads-cut = failed-last-write two-reads two-reads-fit 1
 
 -- ---- a line feed alone: the first line is bad
@@ -98,7 +98,7 @@ unfolding Fitting opened partOf starting
 feed-fits = (lit< tt, (lit≤ tt, λ _. tt))
 
 feed-tells : toldOf (lastCall ((lineFeed ∷ []) ∷ [])) ≡ inLine 1
-unfolding joined linesOf firstBad goodLine allBelow valueOf placeIn capitals
+unfolding flatten linesOf firstBad goodLine allBelow valueOf placeIn capitals
 feed-tells = send-run ((lineFeed ∷ []) ∷ []) feed-fits .tells (lit≤ tt)
 
 feed-says : lastWords ((lineFeed ∷ []) ∷ []) ≡ inRoom (heading ++ (0x31 ∷ lineFeed ∷ []))

@@ -8,6 +8,7 @@ use native.Mathlib.Omega.{arith}
 use lib.Dec.{T, eqb→eq}
 use lib.ListN.{length, getD, take, drop, length-append, length-take, List·getD-append}
 use lib.Seq.{split-at, drop-cons, drop-length, length-take-le, getD-take}
+use Rattle.numbers.proofs.Tests.{holds}
 use Rattle.house.specs.Digits.{capitals, placeIn, valueOf, isDigit}
 use Rattle.house.specs.Line.{lineFeed, goodLine}
 use Rattle.house.proofs.Lines.{good-digit, good-length, good-end}
@@ -20,9 +21,6 @@ neither true b e = let z : _≡_ {A = ℕ} 0 1 = cc in absurd (never z)
     never : _≡_ {A = ℕ} 0 1 → ⊥
     never z = omega arith
 neither false b e = (refl, e)
-
-pub holds : {b : Bool} → b ≡ true → T b
-holds e = subst T (sym e) tt
 
 -- a test has one outcome
 pub never-both : {b : Bool} → b ≡ true → b ≡ false → ⊥

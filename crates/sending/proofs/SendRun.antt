@@ -1,7 +1,7 @@
 -- The program over every text, cut into reads in any way: what it writes is what the text says. Assumes nothing.
 use mathlib.Core.Path.{_≡_, refl, sym, ap, _∙_}
 use mathlib.Core.Bool.{Bool, true, false}
-use mathlib.Core.List.{List, [], _∷_, _++_, append-assoc, append-nil}
+use mathlib.Core.List.{List, [], _∷_, _++_, append-assoc, append-nil, flatten}
 use Prim.Native.Nat.{ℕ, suc, _+_, _≤_, _<_, min}
 use native.Mathlib.Omega.{arith}
 use borrow.Author.Tests.{ltb-true, ltb-false}
@@ -15,7 +15,7 @@ use Rattle.modulator_run.specs.Rules.{Call, sentFrom}
 use Rattle.modulator_run.specs.Run.{recordFrom, AllGiven}
 use Rattle.house.specs.Line.{goodLine, symbolsOf, noSymbols}
 use Rattle.sending.specs.declared.Sending.{Sending}
-use Rattle.sending.specs.Text.{joined, hasFeed, linesOf, goodLines, lineSymbols, preambleSymbols, endSymbols, symbolsSent, sampleBytes}
+use Rattle.sending.specs.Text.{hasFeed, linesOf, goodLines, lineSymbols, preambleSymbols, endSymbols, symbolsSent, sampleBytes}
 use Rattle.sending.specs.Calls.{Left, partOf, quiet, starting, largest, opened, atHand, nextLine, taken, closed, turned, words}
 use Rattle.sending.specs.Run.{Fitting, callsFrom, writtenBy, AllDone, lastOf, partCalls, lineCalls, senderCalls, Sends}
 use Rattle.sending.proofs.Lines.{never-both, good-first}
@@ -55,7 +55,7 @@ over-end s cs xs k st = by-test (ltb 0 (s .have)) refl
 
 -- ---- from any place on
 abbrev Runs : List (List ℕ) → Type 0
-Runs reads = (s : Sending) (cs : List Call) (xs : List Float) (k : ℕ) → Stands s cs xs k → Fitting s reads → Over (callsFrom s reads) cs xs k (linesOf (atHand s ++ joined reads))
+Runs reads = (s : Sending) (cs : List Call) (xs : List Float) (k : ℕ) → Stands s cs xs k → Fitting s reads → Over (callsFrom s reads) cs xs k (linesOf (atHand s ++ flatten reads))
 
 module _ (s : Sending) (bytes : List ℕ) (reads : List (List ℕ)) (some : 0 < length bytes) (l : Left) (e : taken s bytes ≡ l) where
   calls-on : l .bad ≡ false → l .last ≡ false → callsFrom s (bytes ∷ reads) ≡ l ∷ callsFrom (l .sending) reads
@@ -107,21 +107,21 @@ module _ (bytes : List ℕ) (s : Sending) (cs : List Call) (xs : List Float) (k 
       record { sits = line-done good .sits; places = longer-places s bytes (st .places) few; short = omega arith; plain = refl; number = omega (arith, st .number) }
 
   module _ (reads : List (List ℕ)) (more : Runs reads) where
-    next-read : Fitting s (bytes ∷ reads) → Becomes s bytes → Over (callsFrom s (bytes ∷ reads)) cs xs k (linesOf (g ++ joined reads))
+    next-read : Fitting s (bytes ∷ reads) → Becomes s bytes → Over (callsFrom s (bytes ∷ reads)) cs xs k (linesOf (g ++ flatten reads))
     unfolding partOf
     next-read fit (waits e less plain) =
         let some = some-bytes s bytes reads fit in
         let l : Left = quiet (longer s bytes) false in
         let rest = rw (longer-at-hand s bytes (st .places) few) at (more (longer s bytes) cs xs k (waits-stands less plain) (fits-on s bytes reads some l e refl refl fit)) in
-        rw (calls-on s bytes reads some l e refl refl) (over-quiet l (callsFrom (longer s bytes) reads) cs xs k (linesOf (g ++ joined reads)) refl refl rest)
+        rw (calls-on s bytes reads some l e refl refl) (over-quiet l (callsFrom (longer s bytes) reads) cs xs k (linesOf (g ++ flatten reads)) refl refl rest)
     next-read fit (fails e begun bad) =
         rw (calls-end s bytes reads (some-bytes s bytes reads fit) (quiet (longer s bytes) true) e refl)
-        (over-bad (longer s bytes) cs xs k (linesOf (g ++ joined reads)) (st .sits) begun (st .number) (bad (joined reads)))
+        (over-bad (longer s bytes) cs xs k (linesOf (g ++ flatten reads)) (st .sits) begun (st .number) (bad (flatten reads)))
     next-read fit (sends e good) =
         let some = some-bytes s bytes reads fit in
         let rest = more (lineSent .sending) (cs ++ lineCalls g) (xs ++ symbolsOf g) (suc k) (sends-stands good) (fits-on s bytes reads some lineSent e refl refl fit) in
-        rw (calls-on s bytes reads some lineSent e refl refl, good-first g good (joined reads))
-        (over-part lineSent (callsFrom (lineSent .sending) reads) cs xs k (linesOf (joined reads)) g good (line-done good) rest)
+        rw (calls-on s bytes reads some lineSent e refl refl, good-first g good (flatten reads))
+        (over-part lineSent (callsFrom (lineSent .sending) reads) cs xs k (linesOf (flatten reads)) g good (line-done good) rest)
 
 -- after a turn that is not the last the program stands between two reads again
 pub record Somewhere (s : Sending) : Type 0 where
@@ -145,7 +145,7 @@ module _ (bytes : List ℕ) (some : 0 < length bytes) where
   next-stands s at few on = by-line s (at .cs) (at .xs) (at .k) (at .stands) few on (becomes s bytes (at .stands .places) few)
 
 pub run-from : (reads : List (List ℕ)) → Runs reads
-unfolding callsFrom joined turned
+unfolding callsFrom flatten turned
 run-from [] s cs xs k st fit = rw (append-nil (atHand s)) (over-end s cs xs k st)
 run-from (bytes ∷ reads) s cs xs k st fit =
     let few : s .have + length bytes ≤ 97 = few-bytes s bytes reads (st .short) fit in
@@ -166,10 +166,10 @@ opened-stands = record { sits = opens .sits; places = refl; short = omega arith;
 
 -- From every text, in whatever pieces it is read, send writes the bytes of the sender's samples from a fresh start, in order.
 pub send-run : (reads : List (List ℕ)) → Fitting (opened .sending) reads → Sends reads
-unfolding AllDone lastOf joined symbolsSent senderCalls opened starting partOf
+unfolding AllDone lastOf flatten symbolsSent senderCalls opened starting partOf
 send-run reads fit =
     let rest = run-from reads (opened .sending) (partCalls (Preamble (record { 0 = 0 })) noSymbols) preambleSymbols 1 opened-stands fit in
-    let more : List Float = lineSymbols (goodLines (joined reads)) ++ endSymbols in
+    let more : List Float = lineSymbols (goodLines (flatten reads)) ++ endSymbols in
     record {
       written =
           ap (λ (b : List ℕ). b ++ writtenBy (callsFrom (opened .sending) reads)) (opens .written)

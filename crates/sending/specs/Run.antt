@@ -1,7 +1,7 @@
 -- The program over all of its reads: it opens, and takes a turn with what each read gives until one is the last. Assumes nothing.
 use mathlib.Core.Path.{_≡_}
 use mathlib.Core.Bool.{true, false, cond}
-use mathlib.Core.List.{List, [], _∷_, _++_, map}
+use mathlib.Core.List.{List, [], _∷_, _++_, map, flatten}
 use Prim.Native.Nat.{ℕ, _≤_, _<_}
 use lib.ListN.{length, take}
 use lib.Ieee.{Float}
@@ -13,7 +13,7 @@ use Rattle.modulator_run.specs.Run.{recordAfter}
 use Rattle.house.specs.declared.Text.{Text}
 use Rattle.house.specs.Line.{symbolsOf, noSymbols}
 use Rattle.sending.specs.declared.Sending.{Sending}
-use Rattle.sending.specs.Text.{joined, linesOf, goodLines, Bad, badLine, bytesSent}
+use Rattle.sending.specs.Text.{linesOf, goodLines, Bad, badLine, bytesSent}
 use Rattle.sending.specs.Calls.{Left, emptyRoom, lacking, largest, opened, turned, named, words}
 
 -- a read that is not the end of the input gives a byte at least, and no more than the line lacks; when the transmission has ended, nothing is read
@@ -40,7 +40,7 @@ abbrev pub output : Left → List ℕ
 output l = take (l .length) (l .bytes)
 
 abbrev pub writtenBy : List Left → List ℕ
-writtenBy calls = joined (map output calls)
+writtenBy calls = flatten (map output calls)
 
 -- no call was refused
 unfoldable pub AllDone : List Left → Type 0
@@ -74,17 +74,17 @@ lineCalls line = partCalls GivenSymbols (symbolsOf line)
 
 -- "preamble (TxDelay 0), each line's 192 symbols .., and end of transmission", each read out before the next is given
 unfoldable pub senderCalls : List (List ℕ) → List Call
-senderCalls lines = partCalls (Preamble (record { 0 = 0 })) noSymbols ++ (joined (map lineCalls lines) ++ partCalls EndOfTransmission noSymbols)
+senderCalls lines = partCalls (Preamble (record { 0 = 0 })) noSymbols ++ (flatten (map lineCalls lines) ++ partCalls EndOfTransmission noSymbols)
 
 -- ---- what the theorem says of the program: over these reads it writes what their text says, each of its calls is taken, the sender has had just these calls, the last turn ends
 -- the transmission, and it tells the first bad line, as long as a u64 holds its number: then its last words are that line's text, and none where no line is bad
 pub record Sends (reads : List (List ℕ)) : Type 0 where
-  pub written : writtenBy (callsOver reads) ≡ bytesSent (joined reads)
+  pub written : writtenBy (callsOver reads) ≡ bytesSent (flatten reads)
   pub answers : AllDone (callsOver reads)
-  pub sender : lastCall reads .sending .modulator ≡ recordAfter (senderCalls (goodLines (joined reads)))
+  pub sender : lastCall reads .sending .modulator ≡ recordAfter (senderCalls (goodLines (flatten reads)))
   pub ends : lastCall reads .last ≡ true
-  pub tells : length (linesOf (joined reads)) ≤ largest → toldOf (lastCall reads) ≡ badLine (joined reads)
-  pub says : length (linesOf (joined reads)) ≤ largest → lastWords reads ≡ words (badLine (joined reads))
+  pub tells : length (linesOf (flatten reads)) ≤ largest → toldOf (lastCall reads) ≡ badLine (flatten reads)
+  pub says : length (linesOf (flatten reads)) ≤ largest → lastWords reads ≡ words (badLine (flatten reads))
 
 -- one list begins with another
 pub record Begins (front whole : List ℕ) : Type 0 where

@@ -1,7 +1,7 @@
 -- Document 01, 'The two programs': what send writes, by its text alone. Assumes nothing.
 use mathlib.Core.Path.{_≡_}
 use mathlib.Core.Bool.{Bool, true, false, cond, _||_}
-use mathlib.Core.List.{List, [], _∷_, _++_, map}
+use mathlib.Core.List.{List, [], _∷_, _++_, map, flatten}
 use Prim.Native.Nat.{ℕ, suc, _+_, _*_}
 use lib.Dec.{eqb}
 use lib.IntN.{ℤ}
@@ -13,12 +13,6 @@ use Rattle.modulator.specs.Frame.{preamble, ending}
 use Rattle.modulator_run.specs.Stream.{sentAt}
 use Rattle.house.specs.Line.{lineFeed, goodLine, symbolsOf}
 use Rattle.house.specs.Samples.{bytesOf}
-
--- ---- lists
--- one list behind the other
-unfoldable pub joined : {A : Type 0} → List (List A) → List A
-joined [] = []
-joined (l ∷ ls) = l ++ joined ls
 
 -- ---- lines
 abbrev pub isFeed : ℕ → Bool
@@ -72,7 +66,7 @@ abbrev pub endSymbols : List Float
 endSymbols = firsts (ending .symbol) (ending .count)
 
 abbrev pub lineSymbols : List (List ℕ) → List Float
-lineSymbols lines = joined (map symbolsOf lines)
+lineSymbols lines = flatten (map symbolsOf lines)
 
 -- "Send writes preamble (TxDelay 0), each line's 192 symbols .., and end of transmission." At a bad line it "still ends the transmission".
 unfoldable pub symbolsSent : List ℕ → List Float
@@ -87,7 +81,7 @@ samplesSent text = streamSamples (symbolsSent text)
 
 -- "low byte first"
 unfoldable pub sampleBytes : List ℤ → List ℕ
-sampleBytes samples = joined (map bytesOf samples)
+sampleBytes samples = flatten (map bytesOf samples)
 
 abbrev pub bytesSent : List ℕ → List ℕ
 bytesSent text = sampleBytes (samplesSent text)

@@ -2,9 +2,10 @@
 
 use super::flat::{self, samples_differ, say, senders_differ, Sender};
 use super::flat::{ACTION, AMOUNT, SENDER_REFUSAL};
+use super::port::{Program, Sending};
 use super::refusals;
-use super::values::payloads;
-use super::{caught, port, tally::Tally};
+use super::values::not_numbers;
+use super::{caught, tally::Tally};
 use crate::bits::row;
 use crate::harness::{a_packet, a_stream, an_lsf, lay_symbols};
 use crate::modem::peek::{lay_window, sending};
@@ -38,12 +39,17 @@ pub struct Pair {
     pub frames: usize,
 }
 
-/// What every place of a lent room holds before a read.
+/// What every place of a room holds before a read: crates/beside_sender/src/calls.rt lends such a one.
 const UNTOUCHED: i16 = 21_845;
 
 impl Pair {
     /// The call to both. What differs after it, if anything does; the answer is whether it was accepted.
-    pub fn call(&mut self, call: &Call, tally: &mut Tally) -> Result<bool, String> {
+    pub fn call(
+        &mut self,
+        program: &mut Program,
+        call: &Call,
+        tally: &mut Tally,
+    ) -> Result<bool, String> {
         let before = self.port.clone();
         let mut room = vec![
             UNTOUCHED;
@@ -53,7 +59,7 @@ impl Pair {
                 0
             }
         ];
-        self.ask_port(call, &mut room);
+        self.ask_port(program, call, &mut room);
         let expected = refusals::of_sender(&before, call);
         if let Call::Window(..) = call {
         } else if self.port.numbers[SENDER_REFUSAL] != expected {
@@ -72,9 +78,9 @@ impl Pair {
         }
     }
 
-    fn ask_port(&mut self, call: &Call, room: &mut [i16]) {
+    fn ask_port(&mut self, program: &mut Program, call: &Call, room: &mut [i16]) {
         let port = &mut self.port;
-        match call {
+        let sending = match call {
             Call::Provide(frame, symbols) => {
                 let (number, steps) = match *frame {
                     Frame::None => (0, 0),
@@ -82,18 +88,18 @@ impl Pair {
                     Frame::Symbols => (2, 0),
                     Frame::End => (3, 0),
                 };
-                port::provide(port, number, steps, symbols);
+                Sending::Provide(number, steps, symbols)
             }
-            Call::Read(_) => port::read(port, room),
-            Call::Update([fill, capacity, latency]) => {
-                port::update(port, *fill, *capacity, *latency);
-            }
-            Call::Run => port::run(port),
+            Call::Read(_) => Sending::Read,
+            Call::Update(counts) => Sending::Update(*counts),
+            Call::Run => Sending::Run,
             Call::Window(cursor, values) => {
                 port.numbers[flat::CURSOR] = *cursor as u64;
                 port.window = **values;
+                return;
             }
-        }
+        };
+        program.send(sending, port, room);
     }
 
     /// Nothing may have changed, and the old modem, which knows no refusals, is not asked.
@@ -113,7 +119,7 @@ impl Pair {
             return Err(format!("refusal {number} wrote to the room"));
         }
         tally.refused(number);
-        tally.nan_refused += payloads(&self.port.window);
+        tally.nan_refused += not_numbers(&before.window);
         Ok(false)
     }
 
@@ -173,7 +179,7 @@ impl Pair {
     }
 }
 
-/// An action by its number and the count that goes with it, as the crate `beside` has them.
+/// An action by its number and the count that goes with it, as the port's program has them.
 fn action(action: Option<ModulatorAction>) -> (u64, u64) {
     match action {
         None => (0, 0),

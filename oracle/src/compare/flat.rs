@@ -1,6 +1,8 @@
-//! Both sides' records in one flat form, the one in which the crate `beside` takes them, and what differs
-//! between two of them. Floats are compared by their bits.
+//! Both sides' records in one flat form, with the bytes by which the port's programs are handed one, and what
+//! differs between two of them. Floats are compared by their bits; of a not-a-number only that it is one comes
+//! back from the port.
 
+use super::wire;
 use crate::decode::KINDS;
 use crate::modem::lay;
 use crate::modem::peek::{self, Control, Held, Sending};
@@ -21,7 +23,8 @@ pub const REFUSAL: usize = 10;
 pub const ANSWER: usize = 11;
 pub const OFFERED_AT: usize = 12;
 pub const CARRIER: usize = 13;
-pub const NUMBERS: usize = 16;
+pub const GIVEN: usize = 14;
+pub const NUMBERS: usize = 15;
 
 /// What stands for no kind.
 pub const NO_KIND: u64 = 4;
@@ -30,6 +33,12 @@ pub const NO_KIND: u64 = 4;
 pub const DIFF: usize = 1920;
 pub const GAIN: usize = 1921;
 pub const SHIFT: usize = 1922;
+
+/// Where the candidate's floats, the ring and the window begin among a receiver's bytes, and where they end.
+const THREE_AT: usize = 8 * NUMBERS;
+const RING_AT: usize = THREE_AT + 16;
+const WINDOW_AT: usize = RING_AT + 4 * 1920;
+const RECEIVER_BYTES: usize = WINDOW_AT + 2 * 81;
 
 const RECEIVER_NAMES: [&str; OWED + 1] = [
     "window cursor",
@@ -58,6 +67,23 @@ impl Receiver {
             floats: [0.0; 1923],
             numbers: [0; NUMBERS],
         }
+    }
+
+    /// As crates/beside_receiver/src/layout.rt has it, but that the newest value, which the port only tells, is 0.
+    pub fn bytes(&self) -> [u8; RECEIVER_BYTES] {
+        let mut bytes = [0; RECEIVER_BYTES];
+        wire::put_numbers(&mut bytes[..THREE_AT], &self.numbers);
+        wire::put_floats(&mut bytes[THREE_AT..RING_AT], &self.floats[DIFF..]);
+        wire::put_floats(&mut bytes[RING_AT..WINDOW_AT], self.ring());
+        wire::put_samples(&mut bytes[WINDOW_AT..], &self.window);
+        bytes
+    }
+
+    pub fn lay(&mut self, bytes: &[u8; RECEIVER_BYTES]) {
+        wire::numbers(bytes, &mut self.numbers);
+        wire::floats(&bytes[THREE_AT..], &mut self.floats[DIFF..]);
+        wire::floats(&bytes[RING_AT..], &mut self.floats[..1920]);
+        wire::samples(&bytes[WINDOW_AT..], &mut self.window);
     }
 
     pub fn ring(&self) -> &[f32; 1920] {
@@ -120,6 +146,15 @@ fn three(control: Control) -> [f32; 3] {
         .map_or([0.0; 3], |held| [held.diff, held.gain, held.shift])
 }
 
+/// The room after a sample's answer, by what it held before: an offer writes its 192 symbols, and nothing else
+/// writes any.
+pub fn room_after(numbers: &[u64], mut before: Vec<f32>, symbols: &[f32]) -> Vec<f32> {
+    if numbers[ANSWER] != NO_KIND && before.len() >= 192 {
+        before[..192].copy_from_slice(&symbols[..192]);
+    }
+    before
+}
+
 /// The record of the old modem.
 pub fn receiver(old: &SoftDemodulator) -> Receiver {
     let (window, ring) = lay::rings(old);
@@ -150,7 +185,7 @@ pub fn scalars_differ(old: &SoftDemodulator, port: &[u64], values: &[f32]) -> Op
     let ours = [diff, gain, shift, peek::newest(old)];
     let names = ["diff", "gain", "shift", "filtered value"];
     (0..4)
-        .find(|&i| ours[i].to_bits() != values[i].to_bits())
+        .find(|&i| !same(ours[i], values[i]))
         .map(|i| say(names[i], pattern(ours[i]), pattern(values[i])))
 }
 
@@ -168,13 +203,18 @@ pub fn receivers_differ(old: &Receiver, port: &Receiver) -> Option<String> {
     floats_differ("ring, diff, gain, shift: place", &old.floats, &port.floats)
 }
 
-/// The first place at which two lists of floats have different bits.
+/// By their bits. The logic has one not-a-number, so the port's programs read and write no other.
+fn same(old: f32, port: f32) -> bool {
+    old.to_bits() == port.to_bits() || old.is_nan() && port.is_nan()
+}
+
+/// The first place at which two lists of floats differ.
 pub fn floats_differ(name: &str, old: &[f32], port: &[f32]) -> Option<String> {
     if old.len() != port.len() {
         return Some(say(&format!("{name}: how many"), old.len(), port.len()));
     }
     (0..old.len())
-        .find(|&i| old[i].to_bits() != port[i].to_bits())
+        .find(|&i| !same(old[i], port[i]))
         .map(|i| say(&format!("{name} {i}"), pattern(old[i]), pattern(port[i])))
 }
 
@@ -207,7 +247,12 @@ pub const CAPACITY: usize = 11;
 pub const SENDER_REFUSAL: usize = 12;
 pub const ACTION: usize = 13;
 pub const AMOUNT: usize = 14;
-pub const SENDER_NUMBERS: usize = 16;
+pub const SENDER_NUMBERS: usize = 15;
+
+/// Where the values and the store begin among a sender's bytes, and where they end.
+const VALUES_AT: usize = 8 * SENDER_NUMBERS;
+const STORE_AT: usize = VALUES_AT + 4 * 81;
+const SENDER_BYTES: usize = STORE_AT + 2 * 4000;
 
 const SENDER_NAMES: [&str; CAPACITY + 1] = [
     "window cursor",
@@ -238,6 +283,21 @@ impl Sender {
             window: [0.0; 81],
             numbers: [0; SENDER_NUMBERS],
         }
+    }
+
+    /// As crates/beside_sender/src/layout.rt has it.
+    pub fn bytes(&self) -> [u8; SENDER_BYTES] {
+        let mut bytes = [0; SENDER_BYTES];
+        wire::put_numbers(&mut bytes[..VALUES_AT], &self.numbers);
+        wire::put_floats(&mut bytes[VALUES_AT..STORE_AT], &self.window);
+        wire::put_samples(&mut bytes[STORE_AT..], &self.store);
+        bytes
+    }
+
+    pub fn lay(&mut self, bytes: &[u8; SENDER_BYTES]) {
+        wire::numbers(bytes, &mut self.numbers);
+        wire::floats(&bytes[VALUES_AT..], &mut self.window);
+        wire::samples(&bytes[STORE_AT..], &mut self.store);
     }
 }
 

@@ -1,12 +1,12 @@
 //! Recordings: both receivers from fresh, sample by sample.
 
-use super::flat::{self, floats_differ, receivers_differ, say, Receiver, ANSWER, CARRIER, NO_KIND};
-use super::flat::{OFFERED_AT, REFUSAL};
-use super::port::{self, Notes};
+use super::flat::{self, floats_differ, receivers_differ, room_after, say, Receiver};
+use super::flat::{ANSWER, CARRIER, GIVEN, NO_KIND, OFFERED_AT, REFUSAL};
+use super::port::{Hearing, Note, Program};
 use super::recordings::{recording, Recording};
 use super::smallest::{from_the_front, plainer};
 use super::tally::Tally;
-use super::values::{nan, payloads};
+use super::values::numbered;
 use super::{caught, Difference};
 use crate::decode::{name, SyncBurst, KINDS};
 use crate::harness::{lay_replies, take_offer, Offer};
@@ -21,13 +21,19 @@ const STRETCH: usize = 4096;
 const ROOM: usize = 200;
 
 /// Recordings until so many samples are compared, or one shows a difference.
-pub fn compare(random: &mut Random, samples: u64, tally: &mut Tally) -> Option<Difference> {
+pub fn compare(
+    program: &mut Program,
+    random: &mut Random,
+    samples: u64,
+    tally: &mut Tally,
+) -> Option<Difference> {
     let mut number = 0;
     while tally.samples < samples {
         let recording = recording(random, number);
         number += 1;
-        if let Some((at, what)) = difference(&recording.samples, &recording.replies, tally) {
-            return Some(smallest(recording, at, what));
+        let found = difference(program, &recording.samples, &recording.replies, tally);
+        if let Some((at, what)) = found {
+            return Some(smallest(program, recording, at, what));
         }
         tally.recordings += 1;
     }
@@ -35,15 +41,16 @@ pub fn compare(random: &mut Random, samples: u64, tally: &mut Tally) -> Option<D
 }
 
 /// The shortest beginning, without what can be spared in front, and with zeros where they do.
-fn smallest(recording: Recording, at: usize, what: String) -> Difference {
+fn smallest(program: &mut Program, recording: Recording, at: usize, what: String) -> Difference {
     let mut samples = recording.samples;
     samples.truncate(at + 1);
-    let mut shows =
-        |part: &[i16]| difference(part, &recording.replies, &mut Tally::default()).is_some();
+    let mut found =
+        |part: &[i16]| difference(program, part, &recording.replies, &mut Tally::default());
+    let mut shows = |part: &[i16]| found(part).is_some();
     from_the_front(&mut samples, &mut shows);
     plainer(&mut samples, 0, &mut shows);
     from_the_front(&mut samples, &mut shows);
-    let shown = difference(&samples, &recording.replies, &mut Tally::default());
+    let shown = found(&samples);
     let what = shown.map_or(what, |(at, what)| {
         format!("after sample {}: {what}", at + 1)
     });
@@ -57,10 +64,15 @@ fn smallest(recording: Recording, at: usize, what: String) -> Difference {
 }
 
 /// The place of the first sample after which the two differ, and in what.
-fn difference(samples: &[i16], replies: &str, tally: &mut Tally) -> Option<(usize, String)> {
+fn difference(
+    program: &mut Program,
+    samples: &[i16],
+    replies: &str,
+    tally: &mut Tally,
+) -> Option<(usize, String)> {
     lay_replies(replies);
     take_offer();
-    let mut sides = Sides::new();
+    let mut sides = Sides::new(program);
     if let Some(what) = receivers_differ(&flat::receiver(&sides.old), &sides.port) {
         return Some((0, what));
     }
@@ -75,23 +87,26 @@ fn difference(samples: &[i16], replies: &str, tally: &mut Tally) -> Option<(usiz
     None
 }
 
-struct Sides {
+struct Sides<'a> {
+    program: &'a mut Program,
     old: SoftDemodulator,
     port: Receiver,
     room: [f32; ROOM],
-    notes: Notes,
+    notes: Vec<Note>,
     /// The last reply.
     accepted: bool,
 }
 
-impl Sides {
-    fn new() -> Self {
-        let mut random = Random::new(1);
+impl<'a> Sides<'a> {
+    fn new(program: &'a mut Program) -> Self {
+        let mut port = Receiver::empty();
+        program.hear(Hearing::Fresh, &mut port, &mut []);
         Sides {
+            program,
             old: SoftDemodulator::new(),
-            port: port::fresh_receiver(),
-            room: [(); ROOM].map(|()| nan(&mut random)),
-            notes: Notes::new(STRETCH),
+            port,
+            room: numbered(ROOM).try_into().expect("as many places"),
+            notes: vec![],
             accepted: false,
         }
     }
@@ -100,22 +115,23 @@ impl Sides {
     fn stretch(&mut self, samples: &[i16], tally: &mut Tally) -> Result<usize, (usize, String)> {
         let before = self.port.clone();
         let room = self.room;
-        let given = port::listen(&mut self.port, samples, &mut self.room, &mut self.notes);
+        let listen = Hearing::Listen(samples);
+        self.notes = self.program.hear(listen, &mut self.port, &mut self.room);
+        let given = self.port.numbers[GIVEN] as usize;
         for (i, &sample) in samples[..given].iter().enumerate() {
             self.sample(i, sample, tally).map_err(|what| (i, what))?;
         }
         let last = given - 1;
-        self.bulk(before, room, samples, given)
+        self.bulk(before, samples, given)
             .map_err(|what| (last, what))?;
         tally.bulk += given as u64;
-        let written = if self.notes.numbers(last)[ANSWER] == NO_KIND {
+        let written = if self.notes[last].numbers[ANSWER] == NO_KIND {
             0
         } else {
             192
         };
         let kept = floats_differ("room, place", &room[written..], &self.room[written..]);
         unequal(kept).map_err(|what| (last, what))?;
-        tally.nan_kept += payloads(&room[written..]);
         self.room = room;
         match receivers_differ(&flat::receiver(&self.old), &self.port) {
             Some(what) => Err((last, what)),
@@ -132,7 +148,7 @@ impl Sides {
         let frame = caught(|| self.old.demod(sample))?;
         let after = control(&self.old);
         let offer = take_offer();
-        let numbers = self.notes.numbers(i);
+        let numbers = &self.notes[i].numbers;
         if numbers[REFUSAL] != 0 {
             return Err(format!("the port refuses with {}", numbers[REFUSAL]));
         }
@@ -152,26 +168,27 @@ impl Sides {
         unequal(flat::scalars_differ(
             &self.old,
             numbers,
-            self.notes.values(i),
+            &self.notes[i].values,
         ))
     }
 
     /// The sample is finished by the reply; the old modem has finished it already.
     fn reply(&mut self, i: usize, accepted: bool, tally: &mut Tally) -> Result<(), String> {
         self.accepted = accepted;
-        port::reply(&mut self.port, accepted);
+        let program = &mut self.program;
+        program.hear(Hearing::Reply(accepted), &mut self.port, &mut []);
         if self.port.numbers[REFUSAL] != 0 {
             return Err(say("refusal of the reply", 0, self.port.numbers[REFUSAL]));
         }
-        port::carrier(&mut self.port);
+        program.hear(Hearing::Carrier, &mut self.port, &mut []);
         carrier(&self.old, self.port.numbers[ANSWER], tally)?;
         let floats = &self.port.floats[flat::DIFF..];
-        let values = [floats[0], floats[1], floats[2], self.notes.values(i)[3]];
+        let values = [floats[0], floats[1], floats[2], self.notes[i].values[3]];
         unequal(flat::scalars_differ(&self.old, &self.port.numbers, &values))
     }
 
     fn offer(&self, i: usize, offer: &Offer) -> Result<(), String> {
-        let numbers = self.notes.numbers(i);
+        let numbers = &self.notes[i].numbers;
         let kind = KINDS
             .get(numbers[ANSWER] as usize)
             .map_or("none", |&kind| name(kind));
@@ -186,23 +203,21 @@ impl Sides {
     }
 
     /// The same stretch in one call of `feed`, and the reply: the port with itself.
-    fn bulk(
-        &self,
-        mut record: Receiver,
-        mut room: [f32; ROOM],
-        samples: &[i16],
-        given: usize,
-    ) -> Result<(), String> {
-        let taken = port::feed(&mut record, samples, &mut room);
-        let noted = &self.notes.numbers(given - 1)[REFUSAL..=OFFERED_AT];
+    fn bulk(&mut self, mut record: Receiver, samples: &[i16], given: usize) -> Result<(), String> {
+        let program = &mut self.program;
+        let mut room = numbered(ROOM);
+        program.hear(Hearing::Feed(samples), &mut record, &mut room);
+        let taken = record.numbers[GIVEN] as usize;
+        let noted = &self.notes[given - 1].numbers[REFUSAL..=OFFERED_AT];
         if taken != given || record.numbers[REFUSAL..=OFFERED_AT] != *noted {
             return Err(format!(
                 "`feed` takes {taken} samples, `demod` {given}, or answers otherwise"
             ));
         }
-        unequal(floats_differ("room after `feed`, place", &self.room, &room))?;
+        let expected = room_after(&record.numbers, numbered(ROOM), &self.room);
+        unequal(floats_differ("room after `feed`, place", &expected, &room))?;
         if record.numbers[ANSWER] != NO_KIND {
-            port::reply(&mut record, self.accepted);
+            program.hear(Hearing::Reply(self.accepted), &mut record, &mut []);
         }
         unequal(receivers_differ(&self.port, &record).map(|what| format!("`feed`: {what}")))
     }

@@ -13,6 +13,7 @@ pub mod smallest;
 pub mod steps;
 pub mod tally;
 pub mod values;
+pub mod wire;
 
 use std::panic::{catch_unwind, AssertUnwindSafe};
 

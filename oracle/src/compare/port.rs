@@ -1,343 +1,176 @@
-//! The port, as `tools/native beside` builds it: its C functions. A slice goes over as C has it: where it
-//! begins, and how many it is.
+//! The port: its programs `beside_receiver` and `beside_sender`, as `tools/native` builds them. Each is a child
+//! process that reads requests and writes answers; the programs' own src/main.rt say how these are laid.
 
-use super::flat::{Receiver, Sender, NUMBERS};
+use super::flat::{Receiver, Sender, ANSWER, NO_KIND, NUMBERS, REFUSAL};
+use super::wire;
+use std::io::{BufReader, BufWriter, Error, Read, Result, Write};
+use std::path::Path;
+use std::process::{Child, ChildStdin, ChildStdout, Command, Stdio};
 
-#[link(name = "beside", kind = "static")]
-extern "C" {
-    fn beside_fresh_receiver(
-        window: *mut i16,
-        window_n: usize,
-        floats: *mut f32,
-        floats_n: usize,
-        numbers: *mut u64,
-        numbers_n: usize,
-    );
-    fn beside_fresh_sender(
-        store: *mut i16,
-        store_n: usize,
-        window: *mut f32,
-        window_n: usize,
-        numbers: *mut u64,
-        numbers_n: usize,
-    );
-    fn beside_listen(
-        samples: *const i16,
-        samples_n: usize,
-        room: *mut f32,
-        room_n: usize,
-        seen: *mut u64,
-        seen_n: usize,
-        values: *mut f32,
-        values_n: usize,
-        window: *mut i16,
-        window_n: usize,
-        floats: *mut f32,
-        floats_n: usize,
-        numbers: *mut u64,
-        numbers_n: usize,
-    ) -> u64;
-    fn beside_feed(
-        samples: *const i16,
-        samples_n: usize,
-        room: *mut f32,
-        room_n: usize,
-        window: *mut i16,
-        window_n: usize,
-        floats: *mut f32,
-        floats_n: usize,
-        numbers: *mut u64,
-        numbers_n: usize,
-    ) -> u64;
-    fn beside_reply(
-        accepted: u64,
-        window: *mut i16,
-        window_n: usize,
-        floats: *mut f32,
-        floats_n: usize,
-        numbers: *mut u64,
-        numbers_n: usize,
-    );
-    fn beside_carrier(
-        window: *mut i16,
-        window_n: usize,
-        floats: *mut f32,
-        floats_n: usize,
-        numbers: *mut u64,
-        numbers_n: usize,
-    );
-    fn beside_provide(
-        frame: u64,
-        steps: u8,
-        symbols: *const f32,
-        symbols_n: usize,
-        store: *mut i16,
-        store_n: usize,
-        window: *mut f32,
-        window_n: usize,
-        numbers: *mut u64,
-        numbers_n: usize,
-    );
-    fn beside_read(
-        out: *mut i16,
-        out_n: usize,
-        store: *mut i16,
-        store_n: usize,
-        window: *mut f32,
-        window_n: usize,
-        numbers: *mut u64,
-        numbers_n: usize,
-    );
-    fn beside_update(
-        fill: u64,
-        capacity: u64,
-        latency: u64,
-        store: *mut i16,
-        store_n: usize,
-        window: *mut f32,
-        window_n: usize,
-        numbers: *mut u64,
-        numbers_n: usize,
-    );
-    fn beside_run(
-        store: *mut i16,
-        store_n: usize,
-        window: *mut f32,
-        window_n: usize,
-        numbers: *mut u64,
-        numbers_n: usize,
-    );
+/// The places of a receiver's room as they go over; fewer may be lent.
+const ROOM: usize = 200;
+
+pub struct Program {
+    child: Child,
+    requests: BufWriter<ChildStdin>,
+    answers: BufReader<ChildStdout>,
 }
 
-/// What the port holds after each sample of a stretch: the numbers, and the filtered value with the
-/// candidate's three floats.
-pub struct Notes {
-    pub numbers: Vec<u64>,
-    pub values: Vec<f32>,
+/// A call of the receiver.
+#[derive(Clone, Copy)]
+pub enum Hearing<'a> {
+    Fresh,
+    /// A call for each sample, up to the first that is refused or brings an offer.
+    Listen(&'a [i16]),
+    /// The stretch in one call.
+    Feed(&'a [i16]),
+    /// Whether it accepts.
+    Reply(bool),
+    Carrier,
 }
 
-impl Notes {
-    pub fn new(samples: usize) -> Self {
-        Notes {
-            numbers: vec![0; NUMBERS * samples],
-            values: vec![0.0; 4 * samples],
+/// A call of the sender.
+#[derive(Clone, Copy)]
+pub enum Sending<'a> {
+    Fresh,
+    /// The frame's number, its steps, and the symbols beside it.
+    Provide(u64, u8, &'a [f32]),
+    Read,
+    /// Fill, capacity, latency.
+    Update([u64; 3]),
+    Run,
+}
+
+/// What the port holds after a sample: the record's numbers, the candidate's three floats, and the new
+/// filtered value.
+pub struct Note {
+    pub numbers: [u64; NUMBERS],
+    pub values: [f32; 4],
+}
+
+impl Program {
+    pub fn start(program: &Path) -> Result<Self> {
+        let mut child = Command::new(program)
+            .stdin(Stdio::piped())
+            .stdout(Stdio::piped())
+            .spawn()?;
+        let requests = child.stdin.take().expect("a pipe to the program");
+        let answers = child.stdout.take().expect("a pipe from the program");
+        Ok(Program {
+            child,
+            requests: BufWriter::with_capacity(1 << 16, requests),
+            answers: BufReader::with_capacity(1 << 16, answers),
+        })
+    }
+
+    /// A program ends where its input does, and well.
+    pub fn end(self) -> Result<()> {
+        let Program {
+            mut child,
+            requests,
+            ..
+        } = self;
+        drop(requests);
+        let status = child.wait()?;
+        if status.success() {
+            Ok(())
+        } else {
+            Err(Error::other(format!("it ended with {status}")))
         }
     }
 
-    pub fn numbers(&self, i: usize) -> &[u64] {
-        &self.numbers[NUMBERS * i..NUMBERS * (i + 1)]
+    fn ask(&mut self, head: [u64; 4], parts: &[&[u8]]) {
+        let mut numbers = [0; 32];
+        wire::put_numbers(&mut numbers, &head);
+        let mut send = || {
+            self.requests.write_all(&numbers)?;
+            for part in parts {
+                self.requests.write_all(part)?;
+            }
+            self.requests.flush()
+        };
+        send().expect("the port reads its requests");
     }
 
-    pub fn values(&self, i: usize) -> &[f32] {
-        &self.values[4 * i..4 * (i + 1)]
+    fn answer(&mut self, bytes: &mut [u8]) {
+        let read = self.answers.read_exact(bytes);
+        read.expect("the port answers its requests");
     }
-}
 
-pub fn fresh_receiver() -> Receiver {
-    let mut r = Receiver::empty();
-    let Receiver {
-        window: w,
-        floats: f,
-        numbers: n,
-    } = &mut r;
-    unsafe {
-        beside_fresh_receiver(
-            w.as_mut_ptr(),
-            w.len(),
-            f.as_mut_ptr(),
-            f.len(),
-            n.as_mut_ptr(),
-            n.len(),
+    /// The record and the room are as the call left them; gives the notes of samples heard one by one.
+    pub fn hear(&mut self, call: Hearing, record: &mut Receiver, room: &mut [f32]) -> Vec<Note> {
+        let (number, samples, accepted) = match call {
+            Hearing::Fresh => (0, &[][..], false),
+            Hearing::Listen(samples) => (1, samples, false),
+            Hearing::Feed(samples) => (2, samples, false),
+            Hearing::Reply(accepted) => (3, &[][..], accepted),
+            Hearing::Carrier => (4, &[][..], false),
+        };
+        let mut flat = record.bytes();
+        let mut lent = [0; 4 * ROOM];
+        wire::put_floats(&mut lent, room);
+        let mut given = vec![0; 2 * samples.len()];
+        wire::put_samples(&mut given, samples);
+        self.ask(
+            [
+                number,
+                samples.len() as u64,
+                room.len() as u64,
+                u64::from(accepted),
+            ],
+            &[&flat, &lent, &given],
         );
+        let notes = match call {
+            Hearing::Listen(samples) => self.notes(samples.len()),
+            _ => vec![],
+        };
+        self.answer(&mut flat);
+        record.lay(&flat);
+        self.answer(&mut lent);
+        wire::floats(&lent, room);
+        notes
     }
-    r
-}
 
-/// A call for each sample, up to the first that is refused or brings an offer; gives how many that is.
-pub fn listen(r: &mut Receiver, samples: &[i16], room: &mut [f32], notes: &mut Notes) -> usize {
-    let Receiver {
-        window: w,
-        floats: f,
-        numbers: n,
-    } = r;
-    unsafe {
-        beside_listen(
-            samples.as_ptr(),
-            samples.len(),
-            room.as_mut_ptr(),
-            room.len(),
-            notes.numbers.as_mut_ptr(),
-            notes.numbers.len(),
-            notes.values.as_mut_ptr(),
-            notes.values.len(),
-            w.as_mut_ptr(),
-            w.len(),
-            f.as_mut_ptr(),
-            f.len(),
-            n.as_mut_ptr(),
-            n.len(),
-        ) as usize
+    /// The last one is of the last sample, or of one that was refused or brought an offer.
+    fn notes(&mut self, samples: usize) -> Vec<Note> {
+        let mut notes = Vec::with_capacity(samples);
+        while notes.len() < samples {
+            let mut bytes = [0; 8 * NUMBERS + 16];
+            self.answer(&mut bytes);
+            let mut note = Note {
+                numbers: [0; NUMBERS],
+                values: [0.0; 4],
+            };
+            wire::numbers(&bytes, &mut note.numbers);
+            wire::floats(&bytes[8 * NUMBERS..], &mut note.values);
+            let quiet = note.numbers[REFUSAL] == 0 && note.numbers[ANSWER] == NO_KIND;
+            notes.push(note);
+            if !quiet {
+                break;
+            }
+        }
+        notes
     }
-}
 
-/// The stretch in one call; gives how many samples were taken.
-pub fn feed(r: &mut Receiver, samples: &[i16], room: &mut [f32]) -> usize {
-    let Receiver {
-        window: w,
-        floats: f,
-        numbers: n,
-    } = r;
-    unsafe {
-        beside_feed(
-            samples.as_ptr(),
-            samples.len(),
-            room.as_mut_ptr(),
-            room.len(),
-            w.as_mut_ptr(),
-            w.len(),
-            f.as_mut_ptr(),
-            f.len(),
-            n.as_mut_ptr(),
-            n.len(),
-        ) as usize
-    }
-}
-
-pub fn reply(r: &mut Receiver, accepted: bool) {
-    let Receiver {
-        window: w,
-        floats: f,
-        numbers: n,
-    } = r;
-    unsafe {
-        beside_reply(
-            u64::from(accepted),
-            w.as_mut_ptr(),
-            w.len(),
-            f.as_mut_ptr(),
-            f.len(),
-            n.as_mut_ptr(),
-            n.len(),
-        );
-    }
-}
-
-pub fn carrier(r: &mut Receiver) {
-    let Receiver {
-        window: w,
-        floats: f,
-        numbers: n,
-    } = r;
-    unsafe {
-        beside_carrier(
-            w.as_mut_ptr(),
-            w.len(),
-            f.as_mut_ptr(),
-            f.len(),
-            n.as_mut_ptr(),
-            n.len(),
-        );
-    }
-}
-
-pub fn fresh_sender() -> Sender {
-    let mut m = Sender::empty();
-    let Sender {
-        store: s,
-        window: w,
-        numbers: n,
-    } = &mut m;
-    unsafe {
-        beside_fresh_sender(
-            s.as_mut_ptr(),
-            s.len(),
-            w.as_mut_ptr(),
-            w.len(),
-            n.as_mut_ptr(),
-            n.len(),
-        );
-    }
-    m
-}
-
-/// A frame by its number: 0 none, 1 a preamble, 2 the symbols, 3 the end.
-pub fn provide(m: &mut Sender, frame: u64, steps: u8, symbols: &[f32]) {
-    let Sender {
-        store: s,
-        window: w,
-        numbers: n,
-    } = m;
-    unsafe {
-        beside_provide(
-            frame,
-            steps,
-            symbols.as_ptr(),
-            symbols.len(),
-            s.as_mut_ptr(),
-            s.len(),
-            w.as_mut_ptr(),
-            w.len(),
-            n.as_mut_ptr(),
-            n.len(),
-        );
-    }
-}
-
-pub fn read(m: &mut Sender, out: &mut [i16]) {
-    let Sender {
-        store: s,
-        window: w,
-        numbers: n,
-    } = m;
-    unsafe {
-        beside_read(
-            out.as_mut_ptr(),
-            out.len(),
-            s.as_mut_ptr(),
-            s.len(),
-            w.as_mut_ptr(),
-            w.len(),
-            n.as_mut_ptr(),
-            n.len(),
-        );
-    }
-}
-
-pub fn update(m: &mut Sender, fill: u64, capacity: u64, latency: u64) {
-    let Sender {
-        store: s,
-        window: w,
-        numbers: n,
-    } = m;
-    unsafe {
-        beside_update(
-            fill,
-            capacity,
-            latency,
-            s.as_mut_ptr(),
-            s.len(),
-            w.as_mut_ptr(),
-            w.len(),
-            n.as_mut_ptr(),
-            n.len(),
-        );
-    }
-}
-
-pub fn run(m: &mut Sender) {
-    let Sender {
-        store: s,
-        window: w,
-        numbers: n,
-    } = m;
-    unsafe {
-        beside_run(
-            s.as_mut_ptr(),
-            s.len(),
-            w.as_mut_ptr(),
-            w.len(),
-            n.as_mut_ptr(),
-            n.len(),
-        );
+    /// The record is as the call left it, and so is the room, which is read into.
+    pub fn send(&mut self, call: Sending, record: &mut Sender, room: &mut [i16]) {
+        let (head, symbols) = match call {
+            Sending::Fresh => ([0; 4], &[][..]),
+            Sending::Provide(frame, steps, symbols) => {
+                ([1, frame, u64::from(steps), symbols.len() as u64], symbols)
+            }
+            Sending::Read => ([2, room.len() as u64, 0, 0], &[][..]),
+            Sending::Update([fill, capacity, latency]) => ([3, fill, capacity, latency], &[][..]),
+            Sending::Run => ([4, 0, 0, 0], &[][..]),
+        };
+        let mut flat = record.bytes();
+        let mut given = vec![0; 4 * symbols.len()];
+        wire::put_floats(&mut given, symbols);
+        self.ask(head, &[&flat, &given]);
+        self.answer(&mut flat);
+        record.lay(&flat);
+        let mut read = vec![0; 2 * room.len()];
+        self.answer(&mut read);
+        wire::samples(&read, room);
     }
 }

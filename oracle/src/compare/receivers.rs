@@ -3,7 +3,7 @@
 use super::flat::*;
 use super::refusals::tested;
 use super::steps::{Case, Step};
-use super::values::{in_range, nan, out_of_range};
+use super::values::{in_range, nan, numbered, out_of_range};
 use crate::decode::{signs, sync_burst_correlation, SyncBurst, KINDS};
 use crate::modem::peek::{Control, Held};
 use crate::random::Random;
@@ -46,7 +46,7 @@ pub fn made_up(random: &mut Random) -> Case {
         1 => 0,
         _ => 192 + random.below(9),
     };
-    let room = (0..size).map(|_| nan(random)).collect();
+    let room = numbered(size);
     Case { record, step, room }
 }
 
@@ -179,7 +179,7 @@ fn held(random: &mut Random, eight: [f32; 8]) -> Held {
     }
 }
 
-/// Not-a-numbers and what is out of range, with payloads, in places that the call does not test.
+/// Not-a-numbers and what is out of range, in places that the call does not test.
 fn lay_not_numbers(random: &mut Random, record: &mut Receiver, step: &Step) {
     let mut free = [true; 1920];
     for place in tested(record, step) {

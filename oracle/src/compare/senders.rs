@@ -2,6 +2,7 @@
 
 use super::calls::{written, Call, Pair};
 use super::flat::*;
+use super::port::Program;
 use super::sessions::{any_call, any_window};
 use super::smallest::plainer;
 use super::tally::Tally;
@@ -11,7 +12,12 @@ use crate::bits::row;
 use crate::random::Random;
 
 /// So many records, or up to the first that shows a difference.
-pub fn compare(random: &mut Random, records: u64, tally: &mut Tally) -> Option<Difference> {
+pub fn compare(
+    program: &mut Program,
+    random: &mut Random,
+    records: u64,
+    tally: &mut Tally,
+) -> Option<Difference> {
     while tally.sender_records < records {
         let mut record = made_up(random);
         if random.below(8) == 0 {
@@ -23,29 +29,29 @@ pub fn compare(random: &mut Random, records: u64, tally: &mut Tally) -> Option<D
                 call => break call,
             }
         };
-        if let Some(what) = difference(&record, &call, tally) {
-            return Some(smallest(record, &call, what));
+        if let Some(what) = difference(program, &record, &call, tally) {
+            return Some(smallest(program, record, &call, what));
         }
         tally.sender_records += 1;
     }
     None
 }
 
-fn smallest(mut record: Sender, call: &Call, what: String) -> Difference {
-    let shows = |record: &Sender| difference(record, call, &mut Tally::default()).is_some();
+fn smallest(program: &mut Program, mut record: Sender, call: &Call, what: String) -> Difference {
+    let mut found = |record: &Sender| difference(program, record, call, &mut Tally::default());
     let mut store = record.store;
     plainer(&mut store, 0, &mut |part| {
         record.store.copy_from_slice(part);
-        shows(&record)
+        found(&record).is_some()
     });
     record.store = store;
     let mut window = record.window;
     plainer(&mut window, 0.0, &mut |part| {
         record.window.copy_from_slice(part);
-        shows(&record)
+        found(&record).is_some()
     });
     record.window = window;
-    let what = difference(&record, call, &mut Tally::default()).unwrap_or(what);
+    let what = found(&record).unwrap_or(what);
     Difference {
         what: format!("sender, a made-up record, {what}"),
         input: format!(
@@ -58,14 +64,19 @@ fn smallest(mut record: Sender, call: &Call, what: String) -> Difference {
     }
 }
 
-fn difference(record: &Sender, call: &Call, tally: &mut Tally) -> Option<String> {
+fn difference(
+    program: &mut Program,
+    record: &Sender,
+    call: &Call,
+    tally: &mut Tally,
+) -> Option<String> {
     // The old modem takes any record; it is asked only where the port does not refuse.
     let mut pair = Pair {
         old: old_sender(record),
         port: record.clone(),
         frames: record.numbers[PADDING] as usize,
     };
-    match pair.call(call, tally) {
+    match pair.call(program, call, tally) {
         Err(what) => return Some(what),
         Ok(false) => tally.sender_record_refusals += 1,
         Ok(true) => {

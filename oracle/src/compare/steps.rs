@@ -1,12 +1,12 @@
 //! One call on a made-up receiver record, to both sides.
 
 use super::flat::*;
-use super::port::{self, Notes};
+use super::port::{Hearing, Program};
 use super::receivers::made_up;
 use super::refusals::of_receiver;
 use super::smallest::plainer;
 use super::tally::Tally;
-use super::values::payloads;
+use super::values::{not_numbers, numbered};
 use super::{caught, Difference};
 use crate::bits::row;
 use crate::decode::{name, KINDS};
@@ -35,32 +35,37 @@ pub struct Case {
 }
 
 /// So many records, or up to the first that shows a difference.
-pub fn compare(random: &mut Random, records: u64, tally: &mut Tally) -> Option<Difference> {
+pub fn compare(
+    program: &mut Program,
+    random: &mut Random,
+    records: u64,
+    tally: &mut Tally,
+) -> Option<Difference> {
     while tally.receiver_records < records {
         let case = made_up(random);
-        if let Err(what) = compared(&case, tally) {
-            return Some(smallest(case, what));
+        if let Err(what) = compared(program, &case, tally) {
+            return Some(smallest(program, case, what));
         }
         tally.receiver_records += 1;
     }
     None
 }
 
-fn smallest(mut case: Case, what: String) -> Difference {
+fn smallest(program: &mut Program, mut case: Case, what: String) -> Difference {
+    let mut found = |case: &Case| compared(program, case, &mut Tally::default());
     let mut floats = case.record.floats;
     plainer(&mut floats[..1920], 0.0, &mut |part| {
         case.record.floats[..1920].copy_from_slice(part);
-        compared(&case, &mut Tally::default()).is_err()
+        found(&case).is_err()
     });
     case.record.floats = floats;
     let mut window = case.record.window;
     plainer(&mut window, 0, &mut |part| {
         case.record.window.copy_from_slice(part);
-        compared(&case, &mut Tally::default()).is_err()
+        found(&case).is_err()
     });
     case.record.window = window;
-    let shown = compared(&case, &mut Tally::default());
-    let what = shown.err().unwrap_or(what);
+    let what = found(&case).err().unwrap_or(what);
     let laid = |(place, value): (usize, &f32)| format!("{place}: {}", pattern(*value));
     let ring: Vec<String> = (case.record.floats[..1920].iter().enumerate())
         .filter(|(_, value)| value.to_bits() != 0)
@@ -80,19 +85,22 @@ fn smallest(mut case: Case, what: String) -> Difference {
     }
 }
 
-fn compared(case: &Case, tally: &mut Tally) -> Result<(), String> {
+fn compared(program: &mut Program, case: &Case, tally: &mut Tally) -> Result<(), String> {
     let expected = of_receiver(&case.record, &case.step, case.room.len());
     let mut port = case.record.clone();
     let mut room = case.room.clone();
-    let mut notes = Notes::new(1);
     match case.step {
         Step::Sample { sample, .. } => {
-            port::listen(&mut port, &[sample], &mut room, &mut notes);
-            port.numbers[REFUSAL..].copy_from_slice(&notes.numbers[REFUSAL..]);
-            fed(case, sample, &port, &room)?;
+            let notes = program.hear(Hearing::Listen(&[sample]), &mut port, &mut room);
+            port.numbers[REFUSAL..].copy_from_slice(&notes[0].numbers[REFUSAL..]);
+            fed(program, case, sample, &port, &room)?;
         }
-        Step::Reply { accepted } => port::reply(&mut port, accepted),
-        Step::Query => port::carrier(&mut port),
+        Step::Reply { accepted } => {
+            program.hear(Hearing::Reply(accepted), &mut port, &mut room);
+        }
+        Step::Query => {
+            program.hear(Hearing::Carrier, &mut port, &mut room);
+        }
     }
     if port.numbers[REFUSAL] != expected {
         return Err(say(
@@ -106,11 +114,13 @@ fn compared(case: &Case, tally: &mut Tally) -> Result<(), String> {
             .map_err(|what| format!("after refusal {expected}, {what}"))?;
         tally.record_refusals += 1;
         tally.refused(expected);
-        tally.nan_refused += payloads(&port.floats) + payloads(&room);
+        tally.nan_refused += not_numbers(&case.record.floats);
         return Ok(());
     }
     match case.step {
-        Step::Sample { sample, accepted } => sampled(case, sample, accepted, port, &room, tally),
+        Step::Sample { sample, accepted } => {
+            sampled(program, case, sample, accepted, port, &room, tally)
+        }
         Step::Reply { accepted } => {
             count_minus_zeros(&port, accepted, tally);
             replied(case, accepted, &port, tally)
@@ -119,18 +129,28 @@ fn compared(case: &Case, tally: &mut Tally) -> Result<(), String> {
     }
 }
 
-/// The room and the record are as they were, by their bytes.
-/// The same sample by `feed`: record, answer and room as by `demod`, by their bytes.
-fn fed(case: &Case, sample: i16, port: &Receiver, room: &[f32]) -> Result<(), String> {
-    let (mut record, mut lent) = (case.record.clone(), case.room.clone());
-    port::feed(&mut record, &[sample], &mut lent);
+/// The same sample by `feed`, with another room: record, answer and symbols as by `demod`.
+fn fed(
+    program: &mut Program,
+    case: &Case,
+    sample: i16,
+    port: &Receiver,
+    room: &[f32],
+) -> Result<(), String> {
+    let (mut record, mut lent) = (case.record.clone(), numbered(case.room.len()));
+    program.hear(Hearing::Feed(&[sample]), &mut record, &mut lent);
     if record.numbers[REFUSAL..=OFFERED_AT] != port.numbers[REFUSAL..=OFFERED_AT] {
         return Err("`feed` answers otherwise than `demod`".to_string());
     }
+    if record.numbers[GIVEN] != u64::from(record.numbers[REFUSAL] == 0) {
+        return Err(say("samples taken by `feed`", 1, record.numbers[GIVEN]));
+    }
     same(receivers_differ(port, &record))?;
-    same(floats_differ("room after `feed`, place", room, &lent))
+    let expected = room_after(&record.numbers, numbered(case.room.len()), room);
+    same(floats_differ("room after `feed`, place", &expected, &lent))
 }
 
+/// The room and the record are as they were.
 fn unchanged(case: &Case, port: &Receiver, room: &[f32]) -> Result<(), String> {
     let what = receivers_differ(&case.record, port)
         .or_else(|| floats_differ("room, place", &case.room, room));
@@ -140,6 +160,7 @@ fn unchanged(case: &Case, port: &Receiver, room: &[f32]) -> Result<(), String> {
 }
 
 fn sampled(
+    program: &mut Program,
     case: &Case,
     sample: i16,
     accepted: bool,
@@ -171,16 +192,17 @@ fn sampled(
                 port.numbers[OFFERED_AT],
             ));
         }
-        port::reply(&mut port, accepted);
+        program.hear(Hearing::Reply(accepted), &mut port, &mut []);
         if port.numbers[REFUSAL] != 0 {
             return Err(say("refusal of the reply", 0, port.numbers[REFUSAL]));
         }
         tally.record_offers += 1;
     }
-    same(receivers_differ(&receiver(&old), &port))?;
+    let expected = receiver(&old);
+    same(receivers_differ(&expected, &port))?;
     same(floats_differ("room, place", &expected_room, room))?;
     tally.record_samples += 1;
-    tally.nan_kept += payloads(&port.floats) + payloads(room);
+    tally.nan_kept += not_numbers(&expected.floats);
     count_minus_zeros(&port, spared, tally);
     let changed = port.numbers[KIND..=AGE] != case.record.numbers[KIND..=AGE];
     tally.record_searches += u64::from(changed && port.numbers[KIND] != NO_KIND);
@@ -188,25 +210,22 @@ fn sampled(
     let three = DIFF..=SHIFT;
     tally.record_ties += u64::from(tie && case.record.floats[three.clone()] != port.floats[three]);
     if port.numbers[AGE] == 255 {
-        refused_at_255(&mut port, &old, tally)?;
+        refused_at_255(program, &mut port, &old, tally)?;
     }
     Ok(())
 }
 
 /// The one step behind document 01's age: the port refuses it, where the Rust goes on.
 fn refused_at_255(
+    program: &mut Program,
     port: &mut Receiver,
     old: &SoftDemodulator,
     tally: &mut Tally,
 ) -> Result<(), String> {
-    let mut notes = Notes::new(1);
-    port::listen(port, &[0], &mut [0.0; 192], &mut notes);
-    if notes.numbers[REFUSAL] != 1 {
-        return Err(say(
-            "refusal at age 255, by document 01",
-            1,
-            notes.numbers[REFUSAL],
-        ));
+    let notes = program.hear(Hearing::Listen(&[0]), port, &mut [0.0; 192]);
+    let refusal = notes[0].numbers[REFUSAL];
+    if refusal != 1 {
+        return Err(say("refusal at age 255, by document 01", 1, refusal));
     }
     same(receivers_differ(&receiver(old), port))?;
     tally.aged_255 += 1;
@@ -247,7 +266,7 @@ fn replied(case: &Case, accepted: bool, port: &Receiver, tally: &mut Tally) -> R
     same(receivers_differ(&expected, port))?;
     tally.record_replies += 1;
     tally.stale_timers += u64::from(stale);
-    tally.nan_kept += payloads(&port.floats);
+    tally.nan_kept += not_numbers(&expected.floats);
     let changed = port.numbers[..OWED] != case.record.numbers[..OWED];
     tally.record_searched += u64::from(changed);
     Ok(())
@@ -266,7 +285,7 @@ fn queried(case: &Case, port: &Receiver, room: &[f32], tally: &mut Tally) -> Res
     }
     tally.record_queries += 1;
     tally.record_carrier_yes += u64::from(held);
-    tally.nan_kept += payloads(&port.floats) + payloads(room);
+    tally.nan_kept += not_numbers(&case.record.floats);
     Ok(())
 }
 

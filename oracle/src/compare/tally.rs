@@ -77,8 +77,8 @@ tally! {
     refused_7: "calls refused with 7",
     refused_8: "calls refused with 8",
     refused_9: "calls refused with 9",
-    nan_kept: "not-a-numbers with a payload found again by their bytes after an accepted call",
-    nan_refused: "not-a-numbers with a payload found again by their bytes after a refused call",
+    nan_kept: "not-a-numbers of a record that were not-a-numbers again after an accepted call",
+    nan_refused: "not-a-numbers of a record that were not-a-numbers again after a refused call",
 }
 
 impl Tally {

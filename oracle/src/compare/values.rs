@@ -38,11 +38,12 @@ pub fn out_of_range(random: &mut Random) -> f32 {
     }
 }
 
-/// How many of them are not-a-numbers with another pattern than the processor's own.
-pub fn payloads(values: &[f32]) -> u64 {
-    const OWN: u32 = 0x7fc0_0000;
-    values
-        .iter()
-        .filter(|value| value.is_nan() && value.to_bits() != OWN)
-        .count() as u64
+/// No two places hold the same number. Not-a-numbers cannot be told apart when they come back from the port.
+pub fn numbered(places: usize) -> Vec<f32> {
+    (0..places).map(|place| 0.5 + place as f32).collect()
+}
+
+/// How many of them are not-a-numbers.
+pub fn not_numbers(values: &[f32]) -> u64 {
+    values.iter().filter(|value| value.is_nan()).count() as u64
 }

@@ -20,17 +20,17 @@ loop-holds c = search needs
 find-requires : tie.Need-find-requires Inv-loop μ-loop
 find-requires c κs = search needs
 
-sub-answer-line : tie.Need-sub-answer-line Inv-loop μ-loop
-sub-answer-line c = search needs
+sub-answered : tie.Need-sub-answered Inv-loop μ-loop
+sub-answered c = search needs
 
-part-answer-line-start : tie.Need-part-answer-line-start Inv-loop μ-loop
-part-answer-line-start c = search needs
+part-answered-start : tie.Need-part-answered-start Inv-loop μ-loop
+part-answered-start c = search needs
 
-part-answer-line-end : tie.Need-part-answer-line-end Inv-loop μ-loop
-part-answer-line-end c = search needs
+part-answered-end : tie.Need-part-answered-end Inv-loop μ-loop
+part-answered-end c = search needs
 
-answer-line-requires : tie.Need-answer-line-requires Inv-loop μ-loop
-answer-line-requires c κs = search needs
+answered-requires : tie.Need-answered-requires Inv-loop μ-loop
+answered-requires c κs = search needs
 
 add-at : tie.Need-add-at Inv-loop μ-loop
 add-at c = search needs
@@ -53,10 +53,10 @@ replay-spec =
     new-requires
     loop-holds
     find-requires
-    sub-answer-line
-    part-answer-line-start
-    part-answer-line-end
-    answer-line-requires
+    sub-answered
+    part-answered-start
+    part-answered-end
+    answered-requires
     add-at
     loop-less
     loop-again

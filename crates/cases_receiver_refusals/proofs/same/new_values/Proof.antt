@@ -28,6 +28,9 @@ array-read-same-float-2 c = search needs
 same-float-requires : tie.Need-same-float-requires Inv-loop μ-loop
 same-float-requires c κs = search needs
 
+cast-wrapping-add-u64 : tie.Need-cast-wrapping-add-u64 Inv-loop μ-loop
+cast-wrapping-add-u64 c = search needs
+
 wrapping-add-u64-requires : tie.Need-wrapping-add-u64-requires Inv-loop μ-loop
 wrapping-add-u64-requires c κs = search needs
 
@@ -55,6 +58,7 @@ new-values-spec =
     mul-same-float-2
     array-read-same-float-2
     same-float-requires
+    cast-wrapping-add-u64
     wrapping-add-u64-requires
     add-i
     loop-less

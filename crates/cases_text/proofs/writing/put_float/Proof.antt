@@ -1,19 +1,13 @@
 -- `put_float` is safe: what equals itself has a pattern, of 32 digits. Assumes nothing.
-use mathlib.Core.Path.{_≡_, sym, subst}
-use mathlib.Core.Bool.{false, not, true≢false}
+use mathlib.Core.Path.{sym, subst}
 use native.Mathlib.Nat.{lt-of-lt-of-le}
 use borrow.Author.Needs.{needs}
 use lib.Dec.{T, lit≤}
-use lib.Ieee.{Float, nan, inf, fin, binary32, fits, ne, isNan}
+use lib.Ieee.{binary32, fits}
 use lib.Ieee.Bits.{toBits-lt}
+use Rattle.numbers.proofs.Pattern.{equals-itself}
 use Rattle.cases_text.proofs.writing.put_float.Statement.{statement}
 use Rattle.cases_text.proofs.writing.put_float.Tie as tie
-
-equals-itself : (x : Float) → ne x x ≡ false → T (not (isNan x))
-unfolding ne isNan
-equals-itself nan h = absurd (true≢false h)
-equals-itself (inf s) h = tt
-equals-itself (fin s m e) h = tt
 
 slice-aggregate-write-all : tie.Need-slice-aggregate-write-all
 slice-aggregate-write-all c = search needs

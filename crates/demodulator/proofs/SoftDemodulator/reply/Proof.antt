@@ -6,7 +6,7 @@ use borrow.Author.Tests.{not-true, not-false}
 use Rattle.demodulator.specs.Fit.{fitForReply}
 use Rattle.demodulator.proofs.Fitness.{record-facts, reply-record}
 use Rattle.demodulator.proofs.Demodulating.{reply-unfit, reply-unasked}
-use Rattle.demodulator.proofs.Replying.{reply-ready, replies}
+use Rattle.demodulator.proofs.Replying.{replies}
 use borrow.Author.Needs.{needs}
 use Rattle.demodulator.proofs.SoftDemodulator.reply.Statement.{statement}
 use Rattle.demodulator.proofs.SoftDemodulator.reply.Tie as tie
@@ -34,7 +34,7 @@ eight-requires : tie.Need-eight-requires
 eight-requires c κs = record-facts _ (reply-record _ (fit (c .before .before .before .before))) .ring-cursor
 
 replied-requires : tie.Need-replied-requires
-replied-requires c κs = reply-ready _ (fit (c .before .before .before .before .before)) _ (c .eight .ensures)
+replied-requires c κs = search needs
 
 returns-3 : tie.Need-returns-3
 returns-3 c =

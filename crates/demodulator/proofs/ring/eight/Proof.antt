@@ -9,7 +9,7 @@ use lib.ListN.{replicate}
 use lib.Ieee.{Float, nan, binary32, ofBits}
 use Rattle.numbers.specs.Firsts.{firsts, written}
 use Rattle.numbers.proofs.Firsts.{written-step}
-use Rattle.demodulator.specs.Turn.{eight}
+use Rattle.demodulator.specs.Spans.{eight}
 use Rattle.demodulator.specs.Record.{ringBack}
 use Rattle.demodulator.proofs.ring.eight.Statement.{statement}
 use Rattle.demodulator.proofs.ring.eight.Tie as tie

@@ -9,7 +9,7 @@ use lib.Ieee.{Float, nan}
 use Rattle.numbers.specs.Firsts.{firsts, written}
 use Rattle.numbers.proofs.Firsts.{written-step}
 use Rattle.decode.specs.Correlator.{symbolOf}
-use Rattle.demodulator.specs.Turn.{symbolAt}
+use Rattle.demodulator.specs.Spans.{symbolAt}
 use Rattle.demodulator.specs.Record.{ringBack}
 use Rattle.demodulator.proofs.ring.write_window.Statement.{statement}
 use Rattle.demodulator.proofs.ring.write_window.Tie as tie

@@ -1,7 +1,7 @@
 -- `advance` meets its contract. Assumes nothing.
 use mir.Facts.{toZ-ofZ}
 use Rattle.demodulator.specs.Parts.{Stores}
-use Rattle.demodulator.proofs.Stepping.{accepts-inside, accepts-counts, search-ready, rests, offers, looks}
+use Rattle.demodulator.proofs.Stepping.{accepts-inside, rests, offers, looks}
 use borrow.Author.Needs.{needs}
 use Rattle.demodulator.proofs.step.advance.Statement.{statement}
 use Rattle.demodulator.proofs.step.advance.Tie as tie
@@ -19,7 +19,7 @@ add-rx-next : tie.Need-add-rx-next
 add-rx-next c = let inside = accepts-inside (c .before .before .before .before .pre) in search needs
 
 turn-of-requires : tie.Need-turn-of-requires
-turn-of-requires c κs = accepts-counts (c .before .before .before .before .pre)
+turn-of-requires c κs = search needs
 
 enum-known-turn : tie.Need-enum-known-turn
 enum-known-turn c = search needs
@@ -39,12 +39,7 @@ eight-requires : tie.Need-eight-requires
 eight-requires c κs = search needs
 
 searched-requires : tie.Need-searched-requires
-searched-requires c κs =
-    let k = c .before .before .before in
-    let t = k .before .before in
-    let s = t .before in
-    let start = s .before .before .before .before in
-    search-ready _ _ _ _ _ _ _ (stored-is s) _ (start .pre) (start .fits .sample) _ (c .eight .ensures) _ (t .turn-of .ensures .looks _ (k .turn3 .given .1))
+searched-requires c κs = search needs
 
 returns : tie.Need-returns
 returns c =
@@ -70,7 +65,8 @@ returns-3 c =
     let k = e .before .before .before in
     let t = k .before .before in
     let s = t .before in
-    looks _ _ _ _ _ _ _ (stored-is s) _ (s .before .before .before .before .pre) _ (t .turn-of .ensures) _ (k .turn3 .given .1) _ (e .eight .ensures) _ (c .searched .ensures)
+    let start = s .before .before .before .before in
+    looks _ _ _ _ _ _ _ (stored-is s) _ (start .pre) _ (t .turn-of .ensures) (start .fits .sample) _ (k .turn3 .given .1) _ (e .eight .ensures) _ (c .searched .ensures)
 
 pub advance-spec : {M : Type 1} → statement M
 advance-spec =

@@ -1,6 +1,6 @@
 -- `part::bytes_of` meets its contract: the bytes of the first i samples are written, and the rest is as it was. Assumes nothing.
 use mathlib.Core.Path.{_≡_, refl, ap, _∙_}
-use mathlib.Core.List.{_++_}
+use mathlib.Core.List.{_++_, flatten}
 use Prim.Native.Nat.{ℕ, _≤_, _-_, _*_}
 use native.Mathlib.Omega.{arith}
 use native.Mathlib.Numerals.{add-one}
@@ -11,7 +11,7 @@ use mir.Facts.{toZ-ofZ}
 use lib.IntN.{ℤ, pos}
 use lib.ListN.{length, getD, take, drop, replicate, length-set, length-replicate}
 use Rattle.house.specs.Samples.{bytesOf}
-use Rattle.sending.specs.Text.{joined, sampleBytes}
+use Rattle.sending.specs.Text.{sampleBytes}
 use Rattle.sending.proofs.Bytes.{pair-step, all-pairs}
 use Rattle.sending.proofs.part.bytes_of.Statement.{statement}
 use Rattle.sending.proofs.part.bytes_of.Tie as tie
@@ -23,7 +23,7 @@ abbrev μ-loop : tie.MeasureT-loop
 μ-loop samples bytes₀ i₀ bytes i = 2720 - i
 
 loop-holds : tie.Need-loop-holds Inv-loop μ-loop
-unfolding sampleBytes joined
+unfolding sampleBytes flatten
 loop-holds c = (omega arith, refl, refl, refl)
 
 mul-sample : tie.Need-mul-sample Inv-loop μ-loop

@@ -1,0 +1,102 @@
+// The answer to a call, and how it is written.
+
+// Its word; the refusal's number; whether record or room is not as it was; how many of the ring's values are new; how many of the room's first 192 places are written, and of those past them; and the age of the candidate that is held then, 256 where none is.
+pub(crate) struct Answer {
+    pub word: usize,
+    pub number: u32,
+    pub changed: bool,
+    pub new: u64,
+    pub written: u64,
+    pub past: u64,
+    pub age: u64,
+}
+
+pub(crate) fn same_answer(a: Answer, b: Answer) -> bool {
+    (a.word == b.word)
+        & (a.number == b.number)
+        & (a.changed == b.changed)
+        & (a.new == b.new)
+        & (a.written == b.written)
+        & (a.past == b.past)
+        & (a.age == b.age)
+}
+
+// The texts that are written, by their places among them; those of a call that is taken and leaves a record come before those of the carrier.
+pub(crate) const REFUSED: usize = 0;
+
+pub(crate) const QUIET: usize = 1;
+
+pub(crate) const OFFERED: usize = 2;
+
+pub(crate) const DONE: usize = 3;
+
+pub(crate) const NO: usize = 4;
+
+pub(crate) const YES: usize = 5;
+
+pub(crate) const NEXT: usize = 6;
+
+pub(crate) const IN: usize = 7;
+
+pub(crate) const PLACES: usize = 8;
+
+const CHANGED: usize = 9;
+
+const COMMA: usize = 10;
+
+const NEW: usize = 11;
+
+const WRITTEN: usize = 12;
+
+const PAST: usize = 13;
+
+const AGE: usize = 14;
+
+const NOTHING: usize = 15;
+
+const UNCHANGED: usize = 16;
+
+pub(crate) const NO_CALL: usize = 17;
+
+pub(crate) fn put_text(k: usize) {
+    let texts =
+        b"refused|quiet|offered|done|no|yes|; | in| places| and changed|,| new| written| past|, age||, unchanged|no such call";
+    io::write_all(1, cases_text::cell(texts, k));
+}
+
+fn put_part(yes: bool, before: usize, n: u64, behind: usize) {
+    if yes {
+        put_text(before);
+        cases_text::put_count(n);
+        put_text(behind);
+    }
+}
+
+fn put_refusal(number: u32, changed: bool) {
+    cases_text::put_count(number as u64);
+    if changed {
+        put_text(CHANGED);
+    }
+}
+
+fn put_taken(a: Answer) {
+    let offered = (0 < a.written) | (0 < a.past);
+    put_part(true, COMMA, a.new, NEW);
+    put_part(offered, COMMA, a.written, WRITTEN);
+    put_part(offered, COMMA, a.past, PAST);
+    put_part(a.age < 256, AGE, a.age, NOTHING);
+    if !a.changed {
+        put_text(UNCHANGED);
+    }
+}
+
+pub(crate) fn put(a: Answer) {
+    put_text(a.word);
+    if a.word == REFUSED {
+        put_refusal(a.number, a.changed);
+        return;
+    }
+    if a.word < NO {
+        put_taken(a);
+    }
+}

@@ -1,0 +1,204 @@
+-- Each limit of 'Unfit receiver', met and passed by one, worked out: the clauses are those of `Fit`, and a call of a record that one of them shuts out is refused with 1
+-- (`sample-unfit`, `reply-unfit`, `carrier-unfit`). Assumes nothing.
+use mathlib.Core.Path.{_≡_, refl}
+use mathlib.Core.Bool.{Bool, true, false}
+use Prim.Native.Nat.{ℕ, _+_, _^_}
+use lib.Ieee.{Float, nan, binary32, ofBits, lt, le}
+use lib.ListN.{set}
+use Rattle.numbers.specs.Below.{allBelow}
+use Rattle.protocol.specs.declared.Kind.the-variants.{Packet}
+use Rattle.decode.specs.Correlator.{inRange}
+use Rattle.search.specs.declared.Candidate.{Candidate}
+use Rattle.search.specs.declared.Candidate.the-variants.{Nothing, Held}
+use Rattle.search.specs.declared.Wait.{Wait}
+use Rattle.search.specs.declared.Wait.the-variants.{Free, Due}
+use Rattle.search.specs.declared.Timer.the-variants.{Off, Until}
+use Rattle.search.specs.declared.Control.{Control}
+use Rattle.search.specs.Fit.{candidateFit, waitFit, controlFit}
+use Rattle.demodulator.specs.declared.SoftDemodulator.{SoftDemodulator}
+use Rattle.demodulator.specs.Record.{fresh, assembled}
+use Rattle.demodulator.specs.Fit.{recordFit, fitForSample, fitForReply}
+
+-- ---- the control
+abbrev control : ℕ → ℕ → ℕ → Float → Float → Float → ℕ → Control
+control count end age diff gain shift left = record {
+  candidate = Held Packet age diff gain shift;
+  wait = Due (record { left = left });
+  dcd = Until end;
+  owed = false;
+  sample = count;
+}
+
+abbrev million : Float
+million = ofBits binary32 0x4974_2400
+
+abbrev pastMillion : Float
+pastMillion = ofBits binary32 0x4974_2401
+
+-- the last float below 100, and 16
+abbrev underHundred : Float
+underHundred = ofBits binary32 0x42c7_ffff
+
+abbrev sixteen : Float
+sixteen = ofBits binary32 0x4180_0000
+
+abbrev fits : Control → Bool → Type 0
+fits c answer = controlFit 10 c ≡ answer
+
+-- all limits at once: the largest count, end, age, diff, gain, shift and wait; and the smallest, where a diff of -0.0 is not below 0
+highest : fits (control (2 ^ 63) (2 ^ 63 + 3840) 254 underHundred million million 1839) true
+unfolding controlFit candidateFit waitFit inRange ofBits le lt
+highest = refl
+
+lowest : fits (control 0 0 1 (ofBits binary32 0x8000_0000) sixteen (ofBits binary32 0xc974_2400) 1) true
+unfolding controlFit candidateFit waitFit inRange ofBits le lt
+lowest = refl
+
+-- "count above 2^63"
+count-past : fits (control (2 ^ 63 + 1) (2 ^ 63 + 3840) 254 underHundred million million 1839) false
+unfolding controlFit
+count-past = refl
+
+-- "timer end above 2^63 + 3,840"
+end-past : fits (control (2 ^ 63) (2 ^ 63 + 3841) 254 underHundred million million 1839) false
+unfolding controlFit
+end-past = refl
+
+-- "age outside 1 to 254"
+age-past : fits (control (2 ^ 63) (2 ^ 63 + 3840) 255 underHundred million million 1839) false
+unfolding controlFit candidateFit
+age-past = refl
+
+age-none : fits (control 0 0 0 (ofBits binary32 0) sixteen million 1) false
+unfolding controlFit candidateFit
+age-none = refl
+
+-- "diff below 0 or not below 100"
+diff-past : fits (control (2 ^ 63) (2 ^ 63 + 3840) 254 (ofBits binary32 0x42c8_0000) million million 1839) false
+unfolding controlFit candidateFit ofBits le lt
+diff-past = refl
+
+diff-below : fits (control 0 0 1 (ofBits binary32 0x8000_0001) sixteen million 1) false
+unfolding controlFit candidateFit ofBits le lt
+diff-below = refl
+
+-- "gain not within 16 to 1,000,000"
+gain-past : fits (control (2 ^ 63) (2 ^ 63 + 3840) 254 underHundred pastMillion million 1839) false
+unfolding controlFit candidateFit ofBits le lt
+gain-past = refl
+
+gain-below : fits (control 0 0 1 (ofBits binary32 0) (ofBits binary32 0x417f_ffff) million 1) false
+unfolding controlFit candidateFit ofBits le lt
+gain-below = refl
+
+-- "shift not within ±1,000,000"
+shift-past : fits (control (2 ^ 63) (2 ^ 63 + 3840) 254 underHundred million pastMillion 1839) false
+unfolding controlFit candidateFit inRange ofBits le lt
+shift-past = refl
+
+shift-below : fits (control 0 0 1 (ofBits binary32 0) sixteen (ofBits binary32 0xc974_2401) 1) false
+unfolding controlFit candidateFit inRange ofBits le lt
+shift-below = refl
+
+-- "A not-a-number is never within."
+shift-nan : fits (control 0 0 1 (ofBits binary32 0) sixteen nan 1) false
+unfolding controlFit candidateFit inRange ofBits le lt
+shift-nan = refl
+
+-- "a wait outside 1 to 1,839, or held without a candidate, or with a reply owed"
+wait-past : fits (control (2 ^ 63) (2 ^ 63 + 3840) 254 underHundred million million 1840) false
+unfolding controlFit candidateFit waitFit inRange ofBits le lt
+wait-past = refl
+
+wait-none : fits (control 0 0 1 (ofBits binary32 0) sixteen million 0) false
+unfolding controlFit candidateFit waitFit inRange ofBits le lt
+wait-none = refl
+
+abbrev bare : Candidate → Wait → Bool → Control
+bare candidate wait owed = record { candidate = candidate; wait = wait; dcd = Off; owed = owed; sample = 0 }
+
+abbrev held : Candidate
+held = Held Packet 1 (ofBits binary32 0) sixteen million
+
+wait-alone : fits (bare Nothing (Due (record { left = 1 })) false) false
+unfolding controlFit candidateFit waitFit
+wait-alone = refl
+
+wait-owing : fits (bare held (Due (record { left = 1 })) true) false
+unfolding controlFit candidateFit waitFit inRange ofBits le lt
+wait-owing = refl
+
+-- "a reply owed with a candidate held"
+owed-alone : fits (bare Nothing Free true) true
+unfolding controlFit candidateFit waitFit
+owed-alone = refl
+
+owed-held : fits (bare held Free true) false
+unfolding controlFit candidateFit waitFit inRange ofBits le lt
+owed-held = refl
+
+-- ---- the cursors: "a cursor at or past its ring's length (81, 1,920)"
+abbrev placed : ℕ → ℕ → Bool → Type 0
+placed windowCursor ringCursor answer = recordFit (assembled (fresh .«filter_win») windowCursor (fresh .«rx_win») ringCursor (fresh .control)) ≡ answer
+
+cursors-last : placed 80 1919 true
+unfolding fresh recordFit controlFit candidateFit waitFit
+cursors-last = refl
+
+window-past : placed 81 1919 false
+unfolding recordFit
+window-past = refl
+
+ring-past : placed 80 1920 false
+unfolding recordFit
+ring-past = refl
+
+-- ---- the filtered values, at a cursor of 0
+abbrev waiting : ℕ → Control
+waiting left = bare held (Due (record { left = left })) false
+
+abbrev with-value : Control → ℕ → Float → SoftDemodulator
+with-value c place value = assembled (fresh .«filter_win») 0 (set (fresh .«rx_win») place value) 0 c
+
+-- "a filtered value not within ±1,000,000 in one of the seven ring places this sample's search would read besides the new value": 1910, 1900, .. 1850
+sample-value-last : fitForSample (with-value (fresh .control) 1850 million) ≡ true
+unfolding fresh fitForSample recordFit controlFit candidateFit waitFit allBelow inRange ofBits le lt
+sample-value-last = refl
+
+sample-value-past : fitForSample (with-value (fresh .control) 1850 pastMillion) ≡ false
+unfolding fresh fitForSample recordFit controlFit candidateFit waitFit allBelow inRange ofBits le lt
+sample-value-past = refl
+
+sample-value-below : fitForSample (with-value (fresh .control) 1910 (ofBits binary32 0xc974_2401)) ≡ false
+unfolding fresh fitForSample recordFit controlFit candidateFit waitFit allBelow inRange ofBits le lt
+sample-value-below = refl
+
+sample-value-untested : fitForSample (with-value (fresh .control) 1840 nan) ≡ true
+unfolding fresh fitForSample recordFit controlFit candidateFit waitFit allBelow inRange ofBits le lt
+sample-value-untested = refl
+
+-- "or, where the wait is 1, in one of the other places the window reads": down to 10
+window-value-last : fitForSample (with-value (waiting 1) 10 million) ≡ true
+unfolding fresh fitForSample recordFit controlFit candidateFit waitFit allBelow inRange ofBits le lt
+window-value-last = refl
+
+window-value-past : fitForSample (with-value (waiting 1) 10 pastMillion) ≡ false
+unfolding fresh fitForSample recordFit controlFit candidateFit waitFit allBelow inRange ofBits le lt
+window-value-past = refl
+
+window-value-untested : fitForSample (with-value (waiting 2) 10 nan) ≡ true
+unfolding fresh fitForSample recordFit controlFit candidateFit waitFit allBelow inRange ofBits le lt
+window-value-untested = refl
+
+-- "on a reply: in one of the eight places": 1919, 1909, .. 1849
+reply-value-last : fitForReply (with-value (fresh .control) 1849 million) ≡ true
+unfolding fresh fitForReply recordFit controlFit candidateFit waitFit allBelow inRange ofBits le lt
+reply-value-last = refl
+
+reply-value-past : fitForReply (with-value (fresh .control) 1849 pastMillion) ≡ false
+unfolding fresh fitForReply recordFit controlFit candidateFit waitFit allBelow inRange ofBits le lt
+reply-value-past = refl
+
+reply-value-untested : fitForReply (with-value (fresh .control) 1850 nan) ≡ true
+unfolding fresh fitForReply recordFit controlFit candidateFit waitFit allBelow inRange ofBits le lt
+reply-value-untested = refl

@@ -1,0 +1,38 @@
+-- A fit control stays fit while a sample is counted, and where a wait ends. Assumes nothing.
+use mathlib.Core.Bool.{Bool, true, false, not, _&&_}
+use Prim.Native.Nat.{ℕ, _+_, _^_, _<_}
+use native.Mathlib.Omega.{arith}
+use lib.Dec.{T, ltb, le→leb}
+use Rattle.search.specs.declared.Timer.{Timer}
+use Rattle.search.specs.declared.Timer.the-variants.{Off, Until}
+use Rattle.search.specs.declared.Control.{Control}
+use Rattle.search.specs.Turn.{cleared, counted, freed, owing}
+use Rattle.search.specs.Fit.{timerFit, candidateFit, waitFit, controlFit}
+use Rattle.search.proofs.Clauses.{clauses, joined}
+use Rattle.search.proofs.Passing.{by-test}
+
+-- ---- the timer
+cleared-fit : (p count : ℕ) (timer : Timer) → T (timerFit p timer) → T (timerFit p (cleared count timer))
+unfolding cleared
+cleared-fit p count Off t = tt
+cleared-fit p count (Until end) t = by-test (λ (o : Timer). T (timerFit p o)) (ltb end count) Off (Until end) (λ e. tt) (λ e. t)
+
+-- ---- a reply
+none-held : (owed : Bool) → T (not (owed && false))
+none-held true = tt
+none-held false = tt
+
+-- ---- the control
+module _ (p : ℕ) (c : Control) (fit : T (controlFit p c)) where
+  pub counted-fit : c .sample < 2 ^ 63 → T (controlFit p (counted c))
+  counted-fit l =
+      let s = clauses p c fit in
+      joined p (counted c)
+      (record { count = le→leb (c .sample + 1) (2 ^ 63) (omega arith); timer = cleared-fit p (c .sample + 1) (c .dcd) (s .timer); candidate = s .candidate; wait = s .wait; reply = s .reply })
+
+  -- whether a reply is then owed or not
+  pub freed-fit : (owed : Bool) → T (controlFit p (owing owed (freed c)))
+  freed-fit owed =
+      let s = clauses p c fit in
+      joined p (owing owed (freed c))
+      (record { count = s .count; timer = s .timer; candidate = unfold candidateFit in tt; wait = unfold waitFit in tt; reply = none-held owed })

@@ -1,0 +1,81 @@
+-- Document 01, 'The receiver': the search, over p, the samples in a symbol, and over the eight values that the correlator is given, `v i` for the value i, the oldest 0.
+-- Assumes nothing.
+use mathlib.Core.Bool.{Bool, cond}
+use Prim.Native.Nat.{ℕ, _+_, _-_, _*_}
+use lib.Dec.{eqb}
+use lib.Ieee.{Float, lt}
+use Rattle.protocol.specs.declared.Kind.{Kind}
+use Rattle.protocol.specs.declared.Kind.the-variants.{Lsf, Bert, Stream, Packet}
+use Rattle.protocol.specs.declared.SyncBurst.{SyncBurst}
+use Rattle.protocol.specs.declared.SyncBurst.the-variants.{Frame, Preamble, EndOfTransmission}
+use Rattle.decode.specs.declared.Correlation.{Correlation}
+use Rattle.decode.specs.Correlator.{correlation, matches}
+use Rattle.search.specs.declared.Candidate.{Candidate}
+use Rattle.search.specs.declared.Candidate.the-variants.{Nothing, Held}
+use Rattle.search.specs.declared.Wait.{Wait}
+use Rattle.search.specs.declared.Wait.the-variants.{Due}
+use Rattle.search.specs.declared.Timer.{Timer}
+use Rattle.search.specs.declared.Timer.the-variants.{Until}
+use Rattle.search.specs.declared.Control.{Control}
+
+-- ---- the control with one part changed
+abbrev pub withTimer : Timer → Control → Control
+withTimer timer c = record { candidate = c .candidate; wait = c .wait; dcd = timer; owed = c .owed; sample = c .sample }
+
+abbrev pub withCandidate : Candidate → Control → Control
+withCandidate held c = record { candidate = held; wait = c .wait; dcd = c .dcd; owed = c .owed; sample = c .sample }
+
+-- ---- first part
+-- "preamble, then end of transmission; a match sets the timer's end to count + 240, even if that is sooner than before"
+unfoldable pub carried : ℕ → SyncBurst → (ℕ → Float) → Control → Control
+carried p burst v c = cond (matches burst v) (withTimer (Until (c .sample + 24 * p)) c) c
+
+-- ---- second part
+-- the order in which the kinds are tried
+abbrev pub rank : Kind → ℕ
+rank Lsf = 0
+rank Bert = 1
+rank Stream = 2
+rank Packet = 3
+
+abbrev pub sameKind : Kind → Kind → Bool
+sameKind j k = eqb (rank j) (rank k)
+
+-- a held candidate's age, and 0 where none is held
+abbrev pub ageOf : Candidate → ℕ
+ageOf Nothing = 0
+ageOf (Held kind age diff gain shift) = age
+
+-- "takes a new candidate: kind, age 1, diff, gain, shift"
+abbrev pub taken : Kind → Correlation → Candidate
+taken kind m = Held kind 1 (m .diff) (m .gain) (m .shift)
+
+-- "A match whose diff is above the held candidate's adds one to its age, whatever its kind. Any other match, ties included, takes a new candidate"
+unfoldable pub heldAfter : Candidate → Kind → Correlation → Candidate
+heldAfter Nothing kind m = taken kind m
+heldAfter (Held k age diff gain shift) kind m = cond (lt diff (m .diff)) (Held k (age + 1) diff gain shift) (taken kind m)
+
+-- "the wait becomes 1,840 - age"
+abbrev pub waitAfter : ℕ → ℕ → Wait
+waitAfter p age = Due (record { left = 184 * p - age })
+
+-- "If a kind does not match and the held candidate is of that kind, the wait becomes 1,840 - age and the timer's end count + 3,840."
+unfoldable pub missed : ℕ → Kind → Candidate → Control → Control
+missed p kind Nothing c = c
+missed p kind (Held k age diff gain shift) c =
+    cond (sameKind k kind)
+    (record { candidate = c .candidate; wait = waitAfter p age; dcd = Until (c .sample + 384 * p); owed = c .owed; sample = c .sample })
+    c
+
+-- one kind's turn in the pass
+unfoldable pub tried : ℕ → (ℕ → Float) → Kind → Control → Control
+tried p v kind c =
+    cond (matches (Frame kind) v) (withCandidate (heldAfter (c .candidate) kind (correlation (Frame kind) v)) c) (missed p kind (c .candidate) c)
+
+-- "LSF, BERT, Stream, Packet in that order .. Later kinds in the same pass can still replace the candidate or add to its age; the wait stays."
+unfoldable pub passed : ℕ → (ℕ → Float) → Control → Control
+passed p v c = tried p v Packet (tried p v Stream (tried p v Bert (tried p v Lsf c)))
+
+-- "Search, first part: preamble, then end of transmission .. Search, second part: LSF, BERT, Stream, Packet in that order."
+unfoldable pub searched : ℕ → (ℕ → Float) → Control → Control
+searched p v c = passed p v (carried p EndOfTransmission v (carried p Preamble v c))

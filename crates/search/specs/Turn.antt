@@ -1,0 +1,70 @@
+-- Document 01, 'The receiver': what a sample and a reply do to the control, over p and over the eight values that the correlator is given then. Assumes nothing.
+use mathlib.Core.Bool.{Bool, true, false, cond}
+use Prim.Native.Nat.{ℕ, _+_, _-_}
+use lib.Dec.{ltb}
+use lib.Ieee.{Float}
+use Rattle.protocol.specs.declared.Kind.{Kind}
+use Rattle.protocol.specs.declared.Kind.the-variants.{Lsf, Bert, Stream, Packet}
+use Rattle.search.specs.declared.Candidate.{Candidate}
+use Rattle.search.specs.declared.Candidate.the-variants.{Nothing, Held}
+use Rattle.search.specs.declared.Wait.{Wait}
+use Rattle.search.specs.declared.Wait.the-variants.{Free, Due}
+use Rattle.search.specs.declared.Timer.{Timer}
+use Rattle.search.specs.declared.Timer.the-variants.{Off, Until}
+use Rattle.search.specs.declared.Control.{Control}
+use Rattle.search.specs.declared.Reply.{Reply}
+use Rattle.search.specs.declared.Reply.the-variants.{Accepted, Rejected}
+use Rattle.search.specs.Search.{searched}
+
+-- ---- "store, count, clear the carrier timer if the count is above its end"
+unfoldable pub cleared : ℕ → Timer → Timer
+cleared count Off = Off
+cleared count (Until end) = cond (ltb end count) Off (Until end)
+
+abbrev pub counted : Control → Control
+counted c = record { candidate = c .candidate; wait = c .wait; dcd = cleared (c .sample + 1) (c .dcd); owed = c .owed; sample = c .sample + 1 }
+
+-- ---- the wait
+abbrev pub waitingOn : ℕ → Control → Control
+waitingOn left c = record { candidate = c .candidate; wait = Due (record { left = left }); dcd = c .dcd; owed = c .owed; sample = c .sample }
+
+abbrev pub freed : Control → Control
+freed c = record { candidate = Nothing; wait = Free; dcd = c .dcd; owed = c .owed; sample = c .sample }
+
+abbrev pub owing : Bool → Control → Control
+owing owed c = record { candidate = c .candidate; wait = c .wait; dcd = c .dcd; owed = owed; sample = c .sample }
+
+-- "A due LSF, Stream or Packet frame is offered .. A due BERT frame is not offered"
+abbrev pub offered : Kind → Bool
+offered Lsf = true
+offered Bert = false
+offered Stream = true
+offered Packet = true
+
+-- what a sample comes to: nothing for the caller, or an offer of a kind, with the gain and the shift of its symbols
+pub data Outcome : Type 0 where
+  quiet : Control → Outcome
+  offer : Kind → Float → Float → Control → Outcome
+
+abbrev pub pickOutcome : Bool → Outcome → Outcome → Outcome
+pickOutcome true a b = a
+pickOutcome false a b = b
+
+-- "At 0 the wait and the candidate are removed and a frame is due."
+unfoldable pub due : ℕ → (ℕ → Float) → Candidate → Control → Outcome
+due p v Nothing c = quiet (searched p v c)
+due p v (Held kind age diff gain shift) c = pickOutcome (offered kind) (offer kind gain shift (owing true c)) (quiet (searched p v c))
+
+-- "If a wait is held, take one from it; while more than 0 is left the sample is finished, with no search."
+unfoldable pub waited : ℕ → (ℕ → Float) → Wait → Control → Outcome
+waited p v Free c = quiet (searched p v c)
+waited p v (Due w) c = pickOutcome (ltb 1 (w .left)) (quiet (waitingOn (w .left - 1) c)) (due p v (c .candidate) (freed c))
+
+-- a sample, once it is stored: `v` are the eight values then
+unfoldable pub sampled : ℕ → (ℕ → Float) → Control → Outcome
+sampled p v c = waited p v (c .wait) (counted c)
+
+-- "Accepted: the sample is finished. Rejected: the search runs for that same sample."
+unfoldable pub replied : ℕ → (ℕ → Float) → Reply → Control → Control
+replied p v Accepted c = owing false c
+replied p v Rejected c = searched p v (owing false c)

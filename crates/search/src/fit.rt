@@ -1,0 +1,115 @@
+// Whether a control is fit: no phrase of 'Unfit receiver' applies to it. Tests are joined by `&`: none hangs on another.
+use crate::Candidate;
+use crate::Control;
+use crate::LAST_COUNT;
+use crate::Timer;
+use crate::Wait;
+ghost use mathlib.Core.Path.{_≡_};
+ghost use Rattle.search.specs.Fit.{timerFit, candidateFit, held, waitFit};
+ghost use Rattle.search.specs.Search.{ageOf};
+ghost use Rattle.search.specs.Ready.{ready, control-fit-says};
+
+// The latest end of the carrier timer: 3,840 samples after the largest count.
+const LAST_END: u64 = 9223372036854779648;
+
+fn timer_fit(timer: Timer) -> bool
+    ensures { λ r. ⌜ r ≡ timerFit 10 timer ⌝ }
+{
+    match timer {
+        Timer::Off => true,
+        Timer::Until(end) => end <= LAST_END,
+    }
+}
+
+fn candidate_fit(candidate: Candidate) -> bool
+    ensures { λ r. ⌜ r ≡ candidateFit candidate ⌝ }
+{
+    match candidate {
+        Candidate::Nothing => true,
+        Candidate::Held {
+            kind: _,
+            age,
+            diff,
+            gain,
+            shift,
+        } => {
+            let age_fit = (1 <= age) & (age <= 254);
+            let diff_fit = (0.0 <= diff) & (diff < 100.0);
+            let gain_fit = (16.0 <= gain) & (gain <= 1000000.0);
+            age_fit & diff_fit & gain_fit & decode::in_range(shift)
+        }
+    }
+}
+
+fn is_held(candidate: Candidate) -> bool
+    ensures { λ r. ⌜ r ≡ held candidate ⌝ }
+{
+    match candidate {
+        Candidate::Nothing => false,
+        Candidate::Held {
+            kind: _,
+            age: _,
+            diff: _,
+            gain: _,
+            shift: _,
+        } => true,
+    }
+}
+
+fn wait_fit(wait: Wait, candidate: Candidate, owed: bool) -> bool
+    ensures { λ r. ⌜ r ≡ waitFit 10 wait candidate owed ⌝ }
+{
+    match wait {
+        Wait::Free => true,
+        Wait::Due(w) => {
+            let held = is_held(candidate);
+            let left = w.left;
+            (1 <= left) & (left < 1840) & held & !owed
+        }
+    }
+}
+
+pub fn control_fit(control: Control) -> bool
+    ensures { λ r. ⌜ control-fit-says control r ⌝ }
+{
+    let candidate = control.candidate;
+    let wait = control.wait;
+    let timer = control.dcd;
+    let owed = control.owed;
+    let owed_with_candidate = owed & is_held(candidate);
+    (control.sample <= LAST_COUNT)
+        & timer_fit(timer)
+        & candidate_fit(candidate)
+        & wait_fit(wait, candidate, owed)
+        & !owed_with_candidate
+}
+
+// 0 where none is held.
+fn age_of(candidate: Candidate) -> u8
+    ensures { λ r. ⌜ r ≡ ageOf candidate ⌝ }
+{
+    match candidate {
+        Candidate::Nothing => 0,
+        Candidate::Held {
+            kind: _,
+            age,
+            diff: _,
+            gain: _,
+            shift: _,
+        } => age,
+    }
+}
+
+// Whether eight values may be searched: the age has room for one more, the count is not past its last, and the correlator takes each value.
+pub(crate) fn is_ready(control: Control, values: [f32; 8]) -> bool
+    ensures { λ r. ⌜ r ≡ ready control values ⌝ }
+{
+    let candidate = control.candidate;
+    let mut all = (age_of(candidate) <= 254) & (control.sample <= LAST_COUNT);
+    let mut i: usize = 0;
+    while i < 8 {
+        all = all & decode::in_range(values[i]);
+        i += 1;
+    }
+    all
+}

@@ -1,0 +1,126 @@
+// What a sample and a reply ask of the control alone: no ring is read here.
+use crate::Candidate;
+use crate::Control;
+use crate::LAST_COUNT;
+use crate::Reply;
+use crate::Timer;
+use crate::Turn;
+use crate::Wait;
+use crate::Waiting;
+use crate::bursts;
+use crate::fit;
+use protocol::Kind;
+ghost use mathlib.Core.Path.{_≡_};
+ghost use Rattle.search.specs.Turn.{cleared, offered};
+ghost use Rattle.search.specs.Turns.{dueTurn};
+ghost use Rattle.search.specs.Ready.{turn-of-says, replied-says};
+
+fn cleared(timer: Timer, count: u64) -> Timer
+    ensures { λ r. ⌜ r ≡ cleared count timer ⌝ }
+{
+    match timer {
+        Timer::Off => timer,
+        Timer::Until(end) => if end < count { Timer::Off } else { timer },
+    }
+}
+
+fn is_offered(kind: Kind) -> bool
+    ensures { λ r. ⌜ r ≡ offered kind ⌝ }
+{
+    match kind {
+        Kind::Lsf => true,
+        Kind::Bert => false,
+        Kind::Stream => true,
+        Kind::Packet => true,
+    }
+}
+
+// A frame is due: the candidate that awaited it is offered, or the search goes on.
+fn due(candidate: Candidate, control: Control) -> Turn
+    ensures { λ r. ⌜ r ≡ dueTurn candidate control ⌝ }
+{
+    match candidate {
+        Candidate::Nothing => Turn::Look(control),
+        Candidate::Held {
+            kind,
+            age: _,
+            diff: _,
+            gain,
+            shift,
+        } => {
+            if !is_offered(kind) {
+                return Turn::Look(control);
+            }
+            let mut owing = control;
+            owing.owed = true;
+            Turn::Offer {
+                kind,
+                gain,
+                shift,
+                control: owing,
+            }
+        }
+    }
+}
+
+// The sample is counted, the timer cleared, and the wait, if one is held, comes nearer to its end. A control at the last count, or past it, rests as it is.
+pub fn turn_of(control: Control) -> Turn
+    ensures { λ r. ⌜ turn-of-says control r ⌝ }
+{
+    if LAST_COUNT <= control.sample {
+        return Turn::Rest(control);
+    }
+    let candidate = control.candidate;
+    let wait = control.wait;
+    let timer = control.dcd;
+    let owed = control.owed;
+    let sample = control.sample + 1;
+    let dcd = cleared(timer, sample);
+    match wait {
+        Wait::Free => Turn::Look(Control {
+            candidate,
+            wait,
+            dcd,
+            owed,
+            sample,
+        }),
+        Wait::Due(w) => {
+            let left = w.left;
+            if 1 < left {
+                let fewer = left - 1;
+                return Turn::Rest(Control {
+                    candidate,
+                    wait: Wait::Due(Waiting { left: fewer }),
+                    dcd,
+                    owed,
+                    sample,
+                });
+            }
+            due(
+                candidate,
+                Control {
+                    candidate: Candidate::Nothing,
+                    wait: Wait::Free,
+                    dcd,
+                    owed,
+                    sample,
+                },
+            )
+        }
+    }
+}
+
+// A reply ends the wait for it; a frame that is not accepted leaves the sample to the search. What is not ready for one is given back as it is.
+pub fn replied(control: Control, reply: Reply, values: [f32; 8]) -> Control
+    ensures { λ r. ⌜ replied-says control reply values r ⌝ }
+{
+    if !fit::is_ready(control, values) {
+        return control;
+    }
+    let mut settled = control;
+    settled.owed = false;
+    match reply {
+        Reply::Accepted => settled,
+        Reply::Rejected => bursts::swept(settled, values),
+    }
+}

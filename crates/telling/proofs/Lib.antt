@@ -1,0 +1,2 @@
+-- That each promise of this crate leaves one answer.
+pub mod OnlyAnswer

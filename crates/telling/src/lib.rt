@@ -1,0 +1,25 @@
+// What a program says on standard error before it stops. No contract can say what is written there.
+use house::Text;
+use house::Trouble;
+use libc::STDERR_FILENO;
+ghost use Rattle.telling.specs.Telling.{tell-says, say-says};
+
+// Tells a text that lies within its bytes, and says whether it does: of one that is said to be longer nothing is written.
+pub fn tell(text: Text) -> bool
+    ensures { λ r. ⌜ tell-says text r ⌝ }
+{
+    let bytes = text.bytes;
+    let length = text.length;
+    if length > bytes.len() {
+        return false;
+    }
+    io::write_all(STDERR_FILENO, &bytes[..length]);
+    true
+}
+
+// Says why a program stops.
+pub fn say(trouble: Trouble) -> bool
+    ensures { λ r. ⌜ say-says trouble r ⌝ }
+{
+    tell(house::trouble_text(trouble))
+}
