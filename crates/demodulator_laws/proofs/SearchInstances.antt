@@ -26,12 +26,14 @@ use Rattle.search.specs.declared.Reply.the-variants.{Rejected}
 use Rattle.search.specs.Search.{ageOf, heldAfter, carried, missed, tried, passed, searched}
 use Rattle.search.specs.Turn.{sampled, replied}
 use Rattle.search.specs.Fit.{candidateFit, waitFit, controlFit}
-use Rattle.search.specs.Parts.{Sensed, Carries, Tries, TryReady, SearchReady}
+use Rattle.search.specs.Parts.{Sensed, Carries, Tries, TryReady, SearchReady, silent}
 use Rattle.search.specs.Ready.{ready}
 use Rattle.search.proofs.Fitness.{ControlFacts, control-facts, fit-ready, ready-search}
 use Rattle.search.proofs.Searching.{searched-same, replied-same}
 use Rattle.search.proofs.Passing.{Passing, passing, tried-passing}
 use Rattle.search.proofs.Sensing.{answer-own, test-own, carried-ready, try-ready, tried-next}
+use Rattle.search.proofs.Silent.{silent-search}
+use Rattle.demodulator.specs.Record.{freshControl}
 use Rattle.demodulator_laws.proofs.Turning.{sampled-same}
 use Rattle.demodulator_laws.proofs.SearchFits.{Outgrown, search-fits}
 
@@ -122,3 +124,14 @@ search-fits-meets = search-fits 10 (lit≤ tt) (valuesOf sixth) sixth-range olde
 comes-back : ageOf (searched 10 (valuesOf sixth) oldest .candidate) ≡ 255
 unfolding searched passed tried missed heldAfter carried matches correlation diffOf summed sumTo anyBelow distanceOf symbolOf shiftOf gainOf highest lowest heard larger smaller sizeOf signsOf spelled wordOf signOf high low add sub div lt eq ofInt ofBits
 comes-back = refl
+
+-- ---- nothing to do: no candidate, and silence
+zeros : ℕ → Float
+zeros i = ofBits binary32 0
+
+zeros-silent : silent zeros freshControl ≡ true
+unfolding zeros matches correlation diffOf summed sumTo anyBelow distanceOf symbolOf shiftOf gainOf highest lowest heard larger smaller sizeOf signsOf spelled wordOf signOf add sub div lt eq ofInt ofBits
+zeros-silent = refl
+
+silent-search-meets : searched 10 zeros freshControl ≡ freshControl
+silent-search-meets = silent-search 10 zeros freshControl zeros-silent

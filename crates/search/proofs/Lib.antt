@@ -9,6 +9,8 @@ pub mod Searching
 pub mod Passing
 -- six bursts from one hearing
 pub mod Sensing
+-- a search with nothing to do
+pub mod Silent
 -- what comes before a search leaves a fit control fit
 pub mod TurnFits
 -- a sample's turn

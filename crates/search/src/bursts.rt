@@ -13,7 +13,7 @@ ghost use mathlib.Core.Path.{_≡_};
 ghost use Prim.Native.Nat.{_≤_, _^_};
 ghost use Rattle.decode.specs.Parts.{valuesOf};
 ghost use Rattle.search.specs.Search.{rank, ageOf, heldAfter, missed, searched};
-ghost use Rattle.search.specs.Parts.{Carries, TryReady, Tries, PassReady, Passes, SearchReady};
+ghost use Rattle.search.specs.Parts.{Carries, TryReady, Tries, PassReady, Passes, SearchReady, Hears, Silences};
 ghost use Rattle.search.specs.Ready.{searched-says};
 
 // A diff below it is a match.
@@ -153,6 +153,27 @@ fn passed(control: Control, heard: [f32; 8], spread: Spread) -> Control
     tried(after_stream, Kind::Packet, heard, spread)
 }
 
+fn is_heard(burst: SyncBurst, heard: [f32; 8], spread: Spread) -> bool
+    ensures { λ r. ⌜ Hears burst heard spread r ⌝ }
+{
+    let m = decode::compare(burst, heard, spread);
+    m.diff < SYNC_THRESHOLD
+}
+
+// Whether there is nothing to do: no candidate is held, and none of the six bursts is heard. Most searches are so, and a control that goes from burst to burst costs more than the bursts.
+fn is_silent(control: Control, heard: [f32; 8], spread: Spread) -> bool
+    ensures { λ r. ⌜ Silences heard spread control r ⌝ }
+{
+    let candidate = control.candidate;
+    !fit::is_held(candidate)
+        & !is_heard(SyncBurst::Preamble, heard, spread)
+        & !is_heard(SyncBurst::EndOfTransmission, heard, spread)
+        & !is_heard(SyncBurst::Frame(Kind::Lsf), heard, spread)
+        & !is_heard(SyncBurst::Frame(Kind::Bert), heard, spread)
+        & !is_heard(SyncBurst::Frame(Kind::Stream), heard, spread)
+        & !is_heard(SyncBurst::Frame(Kind::Packet), heard, spread)
+}
+
 // The six bursts, from one hearing and one spread.
 pub(crate) fn swept(control: Control, values: [f32; 8]) -> Control
     requires { ⌜ SearchReady control values ⌝ }
@@ -160,6 +181,9 @@ pub(crate) fn swept(control: Control, values: [f32; 8]) -> Control
 {
     let heard = decode::hear(values);
     let spread = decode::spread_of(heard);
+    if is_silent(control, heard, spread) {
+        return control;
+    }
     let after_preamble = carried(control, SyncBurst::Preamble, heard, spread);
     let after_end = carried(after_preamble, SyncBurst::EndOfTransmission, heard, spread);
     passed(after_end, heard, spread)

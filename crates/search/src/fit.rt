@@ -41,7 +41,7 @@ fn candidate_fit(candidate: Candidate) -> bool
     }
 }
 
-fn is_held(candidate: Candidate) -> bool
+pub(crate) fn is_held(candidate: Candidate) -> bool
     ensures { λ r. ⌜ r ≡ held candidate ⌝ }
 {
     match candidate {
