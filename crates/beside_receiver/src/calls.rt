@@ -95,7 +95,7 @@ fn feed(receiver: SoftDemodulator, samples: &[i16], room: &mut [f32]) {
     let after = receiver.feed(samples, room);
     let answer = after.answer;
     let next = after.demodulator;
-    layout::put_record(next, heard(answer, 0, after.taken));
+    layout::put_record(next, heard(answer, 0, after.fed));
 }
 
 fn reply(receiver: SoftDemodulator, accepted: bool) {

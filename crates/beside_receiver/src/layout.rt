@@ -1,6 +1,6 @@
 // The receiver's record in bytes: 15 numbers; the candidate's diff, gain and shift and the newest filtered value; the ring's 1,920 values; the window's 81 samples. The numbers are both
 // cursors, the count, the candidate's kind (4 for none) and age, whether a wait is held and what is left of it, whether a timer is held and its end, whether a reply is owed; then an answer:
-// the refusal's number or 0, the offered kind or what the carrier query says, the offer's sample, the carrier after a sample, and how many samples were given. The numbers end at byte 120,
+// the refusal's number or 0, the offered kind or what the carrier query says, the offer's sample, the carrier after a sample, and how many samples were given, by `feed` how many went in. The numbers end at byte 120,
 // the four floats at 136, the ring at 7,816 and the window at 7,978.
 use demodulator::Candidate;
 use demodulator::Control;

@@ -7,6 +7,7 @@ use modulator::ModulatorAction;
 use modulator::ModulatorFrame;
 use modulator::Provided;
 use modulator::Read;
+use modulator::SampleCount;
 use modulator::SoftModulator;
 use modulator::Updated;
 ghost use Prim.Native.Nat.{_≤_};
@@ -112,9 +113,9 @@ fn read(sender: SoftModulator, size: u64) {
 
 fn update(sender: SoftModulator, asked: [u64; 4]) {
     let after = sender.update_output_buffer(
-        asked[1] as usize,
-        asked[2] as usize,
-        asked[3] as usize,
+        SampleCount(asked[1] as usize),
+        SampleCount(asked[2] as usize),
+        SampleCount(asked[3] as usize),
     );
     let answer = after.answer;
     let next = after.modulator;

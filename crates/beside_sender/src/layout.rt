@@ -23,7 +23,7 @@ fn progress_of(n: [u64; 15]) -> Progress {
     Progress {
         next_len: n[1] as usize,
         next_read: n[2] as usize,
-        tx_delay_padding: n[3] as usize,
+        tx_delay_padding: SampleCount(n[3] as usize),
     }
 }
 
@@ -45,9 +45,9 @@ fn pending_of(n: [u64; 15]) -> Pending {
 
 fn buffer_of(n: [u64; 15]) -> OutputBuffer {
     OutputBuffer {
-        output_latency: n[9] as usize,
-        samples_in_buf: n[10] as usize,
-        buf_capacity: n[11] as usize,
+        output_latency: SampleCount(n[9] as usize),
+        samples_in_buf: SampleCount(n[10] as usize),
+        buf_capacity: SampleCount(n[11] as usize),
     }
 }
 
@@ -96,15 +96,15 @@ fn numbers_of(
         cursor as u64,
         progress.next_len as u64,
         progress.next_read as u64,
-        progress.tx_delay_padding as u64,
+        progress.tx_delay_padding.0 as u64,
         pending.update_idle as u64,
         pending.calculate_tx_end as u64,
         report_held(report),
         end_of(report),
         pending.try_get_frame as u64,
-        buffer.output_latency as u64,
-        buffer.samples_in_buf as u64,
-        buffer.buf_capacity as u64,
+        buffer.output_latency.0 as u64,
+        buffer.samples_in_buf.0 as u64,
+        buffer.buf_capacity.0 as u64,
         told.refusal as u64,
         told.action,
         told.amount as u64,

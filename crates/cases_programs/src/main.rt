@@ -3,8 +3,8 @@ mod pieces;
 mod received;
 mod sent;
 
-fn decimal(line: &[u8]) -> usize {
-    cases_text::decimal(cases_text::word(line, 1)) as usize
+fn decimal(line: &[u8], k: usize) -> usize {
+    cases_text::decimal(cases_text::word(line, k)) as usize
 }
 
 // A sample of zero is two bytes of zero.
@@ -28,11 +28,13 @@ fn answer_line(line: &[u8], recording: &mut [u8], recorded: usize) -> usize {
     }
     cases_text::end_line();
     if check::same(name, b"zeros") {
-        silence(recording, decimal(line))
+        silence(recording, decimal(line, 1))
     } else if check::same(name, b"append") {
         append(recording, recorded, cases_text::word(line, 1))
     } else {
-        received::receive(pieces::front(recording, recorded), decimal(line));
+        let size = decimal(line, 1);
+        let room = decimal(line, 2);
+        received::receive(pieces::front(recording, recorded), size, room);
         recorded
     }
 }

@@ -1,46 +1,66 @@
-// A recording, in reads of a size, through the library of receive.
+// A recording, in reads of a size and with room for lines, through the library of receive.
 use crate::pieces;
 use receiving::Receiving;
 use std::num::wrapping_add_u64;
+ghost use Prim.Native.Nat.{_≤_};
+ghost use lib.ListN.{length};
 
-// The most bytes that the library takes in one call.
-const MOST: usize = 512;
+// Room for a line of each sample that a call looks at.
+const MOST: usize = 24832;
 
+// What the last call took, and how many lines there are by now.
 struct Turn {
     receiving: Receiving,
+    taken: usize,
     found: u64,
 }
 
 // The lines are written as they come, and counted.
-fn hear_some(turn: Turn, bytes: &[u8]) -> Turn {
-    let mut lines = [0u8; 24832];
+fn hear_into(turn: Turn, bytes: &[u8], lines: &mut [u8]) -> Turn
+    ensures { λ r. ⌜ r .taken ≤ length (now (bytes .entry)) ⌝ }
+{
     let receiving = turn.receiving;
-    let after = receiving.hear(bytes, &mut lines);
+    let after = receiving.hear(bytes, lines);
     let written = after.written;
-    cases_text::put_front(&lines, written);
+    cases_text::put_front(lines, written);
     let next = after.receiving;
     Turn {
         receiving: next,
+        taken: after.taken,
         found: wrapping_add_u64(turn.found, (written / 97) as u64),
     }
 }
 
-fn hear_all(recording: &[u8], size: usize) -> u64 {
+fn hear_some(turn: Turn, bytes: &[u8], room: usize) -> Turn
+    ensures { λ r. ⌜ r .taken ≤ length (now (bytes .entry)) ⌝ }
+{
+    let mut lines = io::large_buffer();
+    let places = pieces::least(room, MOST);
+    hear_into(turn, bytes, &mut lines[..places])
+}
+
+// What a call does not take begins the next read.
+fn hear_all(recording: &[u8], size: usize, room: usize) -> u64 {
     let mut turn = Turn {
         receiving: Receiving::new(),
+        taken: 0,
         found: 0,
     };
     let mut at: usize = 0;
     while at < recording.len() {
         let end = pieces::read_end(at, size, recording.len());
-        turn = hear_some(turn, &recording[at..end]);
-        at = end;
+        turn = hear_some(turn, &recording[at..end], room);
+        let taken = turn.taken;
+        if taken == 0 {
+            return turn.found;
+        }
+        at += taken;
     }
     turn.found
 }
 
-pub(crate) fn receive(recording: &[u8], size: usize) {
-    let found = hear_all(recording, pieces::least(size, MOST));
+pub(crate) fn receive(recording: &[u8], size: usize, room: usize) {
+    let found = hear_all(recording, size, room);
     io::write_all(1, b"found");
     cases_text::put_count(found);
     cases_text::end_line();

@@ -1,24 +1,29 @@
 // The answer to a call, and how it is written.
 
-// Its word; the refusal's number; whether record or room is not as it was; how many of the ring's values are new; how many of the room's first 192 places are written, and of those past them; and the age of the candidate that is held then, 256 where none is.
+// Its word; the refusal's number; whether record or room is not as it was; how many samples went in or bytes were taken, with the text that says which; how many of the ring's values are new; how many of the room's first places are written, as many as an offer or a line has, and of those past them; the age of the candidate that is held then, 256 where none is; and whether a byte waits.
 pub(crate) struct Answer {
     pub word: usize,
     pub number: u32,
     pub changed: bool,
+    pub counted: usize,
+    pub count: u64,
     pub new: u64,
     pub written: u64,
     pub past: u64,
     pub age: u64,
+    pub waits: bool,
 }
 
 pub(crate) fn same_answer(a: Answer, b: Answer) -> bool {
     (a.word == b.word)
         & (a.number == b.number)
         & (a.changed == b.changed)
+        & (a.count == b.count)
         & (a.new == b.new)
         & (a.written == b.written)
         & (a.past == b.past)
         & (a.age == b.age)
+        & (a.waits == b.waits)
 }
 
 // The texts that are written, by their places among them; those of a call that is taken and leaves a record come before those of the carrier.
@@ -30,37 +35,45 @@ pub(crate) const OFFERED: usize = 2;
 
 pub(crate) const DONE: usize = 3;
 
-pub(crate) const NO: usize = 4;
+pub(crate) const ADMITTED: usize = 4;
 
-pub(crate) const YES: usize = 5;
+pub(crate) const NO: usize = 5;
 
-pub(crate) const NEXT: usize = 6;
+pub(crate) const YES: usize = 6;
 
-pub(crate) const IN: usize = 7;
+pub(crate) const NEXT: usize = 7;
 
-pub(crate) const PLACES: usize = 8;
+pub(crate) const IN: usize = 8;
 
-const CHANGED: usize = 9;
+pub(crate) const PLACES: usize = 9;
 
-const COMMA: usize = 10;
+const CHANGED: usize = 10;
 
-const NEW: usize = 11;
+const COMMA: usize = 11;
 
-const WRITTEN: usize = 12;
+const NEW: usize = 12;
 
-const PAST: usize = 13;
+const WRITTEN: usize = 13;
 
-const AGE: usize = 14;
+const PAST: usize = 14;
 
-const NOTHING: usize = 15;
+const AGE: usize = 15;
 
-const UNCHANGED: usize = 16;
+pub(crate) const NOTHING: usize = 16;
 
-pub(crate) const NO_CALL: usize = 17;
+const UNCHANGED: usize = 17;
+
+pub(crate) const NO_CALL: usize = 18;
+
+pub(crate) const FED: usize = 19;
+
+pub(crate) const TAKEN: usize = 20;
+
+const WAITS: usize = 21;
 
 pub(crate) fn put_text(k: usize) {
     let texts =
-        b"refused|quiet|offered|done|no|yes|; | in| places| and changed|,| new| written| past|, age||, unchanged|no such call";
+        b"refused|quiet|offered|done|admitted|no|yes|; | in| places| and changed|,| new| written| past|, age||, unchanged|no such call| fed| taken|, a byte waits";
     io::write_all(1, cases_text::cell(texts, k));
 }
 
@@ -81,10 +94,14 @@ fn put_refusal(number: u32, changed: bool) {
 
 fn put_taken(a: Answer) {
     let offered = (0 < a.written) | (0 < a.past);
+    put_part(a.counted != NOTHING, COMMA, a.count, a.counted);
     put_part(true, COMMA, a.new, NEW);
     put_part(offered, COMMA, a.written, WRITTEN);
     put_part(offered, COMMA, a.past, PAST);
     put_part(a.age < 256, AGE, a.age, NOTHING);
+    if a.waits {
+        put_text(WAITS);
+    }
     if !a.changed {
         put_text(UNCHANGED);
     }

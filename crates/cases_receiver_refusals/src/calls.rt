@@ -2,6 +2,7 @@
 use crate::answer;
 use crate::answer::Answer;
 use crate::made;
+use crate::many;
 use crate::same;
 use demodulator::Carrier;
 use demodulator::Heard;
@@ -12,10 +13,10 @@ use std::num::wrapping_add_u64;
 ghost use Prim.Native.Nat.{_≤_};
 
 // What stands in each place of the room before a sample: no symbol that is offered here equals it.
-const UNWRITTEN: f32 = -7.25;
+pub(crate) const UNWRITTEN: f32 = -7.25;
 
 // How many of the places from `from` on, below `to`, are not as they were laid.
-fn written(room: [f32; 200], from: usize, to: usize) -> u64 {
+pub(crate) fn written(room: [f32; 200], from: usize, to: usize) -> u64 {
     let mut count: u64 = 0;
     let mut i = from;
     while i < to {
@@ -27,12 +28,12 @@ fn written(room: [f32; 200], from: usize, to: usize) -> u64 {
 }
 
 // An answer's word, and the number of a refusal.
-struct Said {
-    word: usize,
-    number: u32,
+pub(crate) struct Said {
+    pub word: usize,
+    pub number: u32,
 }
 
-fn heard(answer: Heard) -> Said {
+pub(crate) fn heard(answer: Heard) -> Said {
     match answer {
         Heard::Refused(why) => Said {
             word: answer::REFUSED,
@@ -76,7 +77,7 @@ fn queried(answer: Carrier) -> Said {
 }
 
 // The answer of a call that lays so many symbols and leaves another record.
-fn left(
+pub(crate) fn left(
     said: Said,
     written: u64,
     past: u64,
@@ -93,15 +94,18 @@ fn left(
         word: said.word,
         number: said.number,
         changed: (0 < new) | (0 < written) | (0 < past) | !same::same_rest(before, after),
+        counted: answer::NOTHING,
+        count: 0,
         new,
         written,
         past,
         age: held.age,
+        waits: false,
     }
 }
 
 // How much of the room the words ask for, up to 200.
-fn room_size(words: &[u8]) -> usize
+pub(crate) fn room_size(words: &[u8]) -> usize
     ensures { λ r. ⌜ r ≤ 200 ⌝ }
 {
     let size = cases_text::count_behind(words, b"room", 200);
@@ -142,16 +146,19 @@ fn unknown() -> Answer {
         word: answer::NO_CALL,
         number: 0,
         changed: false,
+        counted: answer::NOTHING,
+        count: 0,
         new: 0,
         written: 0,
         past: 0,
         age: 256,
+        waits: false,
     }
 }
 
 // The answer to a call on the record that the words make up, their value in this place of the ring.
 pub(crate) fn called(words: &[u8], call: &[u8], place: usize) -> Answer {
-    let which = cases_text::place_behind(b"sample accept reject carrier", call);
+    let which = cases_text::place_behind(b"sample accept reject carrier feed rest hear", call);
     if which == 1 {
         return sample(words, place);
     }
@@ -163,6 +170,15 @@ pub(crate) fn called(words: &[u8], call: &[u8], place: usize) -> Answer {
     }
     if which == 4 {
         return carrier(words, place);
+    }
+    if which == 5 {
+        return many::feed(words, place);
+    }
+    if which == 6 {
+        return many::rest(words, place);
+    }
+    if which == 7 {
+        return many::hear(words, place);
     }
     unknown()
 }

@@ -33,6 +33,22 @@ fn plain_ring(words: &[u8], place: usize) -> [f32; 1920] {
     ring
 }
 
+// The LSF's word, 55F7, in the first eight places that a window reads, for the gain 20 and the shift 5.
+fn headed(word: bool, plain: [f32; 1920]) -> [f32; 1920] {
+    let mut ring = plain;
+    if word {
+        ring[10] = 25.0;
+        ring[20] = 25.0;
+        ring[30] = 25.0;
+        ring[40] = 25.0;
+        ring[50] = -15.0;
+        ring[60] = -15.0;
+        ring[70] = 25.0;
+        ring[80] = -15.0;
+    }
+    ring
+}
+
 // A burst lays seven values of the LSF's in the places that a sample searches.
 fn ring(burst: bool, plain: [f32; 1920]) -> [f32; 1920] {
     let mut ring = plain;
@@ -108,10 +124,11 @@ fn control(words: &[u8]) -> Control {
 // With the value that the words name, if any, in this place of the ring; where they name others, the places that those leave out lie back from it.
 pub(crate) fn record(words: &[u8], place: usize) -> SoftDemodulator {
     let burst = cases_text::names(words, b"burst");
+    let word = cases_text::names(words, b"word");
     SoftDemodulator {
         filter_win: window(burst),
         filter_cursor: cases_text::count_behind(words, b"filter_cursor", 0) as usize,
-        rx_win: ring(burst, plain_ring(words, place)),
+        rx_win: ring(burst, headed(word, plain_ring(words, place))),
         rx_cursor: cases_text::count_behind(words, b"ring_cursor", 0) as usize,
         control: control(words),
     }

@@ -2,6 +2,7 @@
 mod answer;
 mod calls;
 mod made;
+mod many;
 mod places;
 mod same;
 

@@ -90,13 +90,13 @@ pub(crate) fn put_kept(m: SoftModulator) {
     io::write_all(1, b" :");
     cases_text::put_count(progress.next_len as u64);
     cases_text::put_count(progress.next_read as u64);
-    cases_text::put_count(progress.tx_delay_padding as u64);
+    cases_text::put_count(progress.tx_delay_padding.0 as u64);
     io::write_all(1, b" ");
     put_flag(pending.update_idle);
     put_flag(pending.try_get_frame);
     put_flag(pending.calculate_tx_end);
     put_report(report);
-    cases_text::put_count(buffer.samples_in_buf as u64);
-    cases_text::put_count(buffer.buf_capacity as u64);
-    cases_text::put_count(buffer.output_latency as u64);
+    cases_text::put_count(buffer.samples_in_buf.0 as u64);
+    cases_text::put_count(buffer.buf_capacity.0 as u64);
+    cases_text::put_count(buffer.output_latency.0 as u64);
 }

@@ -4,6 +4,7 @@ use modulator::DelaySteps;
 use modulator::ModulatorFrame;
 use modulator::Provided;
 use modulator::Read;
+use modulator::SampleCount;
 use modulator::SoftModulator;
 use modulator::Updated;
 ghost use Prim.Native.Nat.{_≤_};
@@ -70,7 +71,11 @@ pub(crate) fn read(m: SoftModulator, line: &[u8]) -> SoftModulator {
 }
 
 pub(crate) fn updated(m: SoftModulator, line: &[u8]) -> SoftModulator {
-    let left = m.update_output_buffer(count(line, 1), count(line, 2), count(line, 3));
+    let left = m.update_output_buffer(
+        SampleCount(count(line, 1)),
+        SampleCount(count(line, 2)),
+        SampleCount(count(line, 3)),
+    );
     let answer = left.answer;
     if let Updated::Refused(why) = answer {
         answers::put_refusal(why.number());

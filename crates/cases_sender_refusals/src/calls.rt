@@ -5,6 +5,7 @@ use crate::made;
 use crate::same::same;
 use modulator::DelaySteps;
 use modulator::ModulatorFrame;
+use modulator::SampleCount;
 use modulator::SoftModulator;
 ghost use Prim.Native.Nat.{_≤_};
 
@@ -75,9 +76,9 @@ fn read(m: SoftModulator, parts: &[u8]) -> Left {
 
 fn updated(m: SoftModulator, parts: &[u8]) -> Left {
     let left = m.update_output_buffer(
-        made::count(parts, made::TO_FILL),
-        made::count(parts, made::TO_CAPACITY),
-        made::count(parts, made::TO_LATENCY),
+        SampleCount(made::count(parts, made::TO_FILL)),
+        SampleCount(made::count(parts, made::TO_CAPACITY)),
+        SampleCount(made::count(parts, made::TO_LATENCY)),
     );
     let answer = left.answer;
     let after = left.modulator;
@@ -97,9 +98,9 @@ fn ran(m: SoftModulator) -> Left {
     }
 }
 
-// The calls by their places in this list, the two looks at a record behind them; 0 for any other word.
+// The calls by their places in this list, the two looks at a record and the turn after them; 0 for any other word.
 pub(crate) fn number(name: &[u8]) -> usize {
-    let list = b"none preamble symbols end read update action shown first";
+    let list = b"none preamble symbols end read update action shown first turn";
     cases_text::place_behind(list, name)
 }
 

@@ -2,7 +2,9 @@
 use crate::answer;
 use crate::answer::Answer;
 use crate::calls;
+use crate::made;
 use crate::shown;
+use crate::turns;
 use modulator::SoftModulator;
 use std::num::wrapping_add_u64;
 
@@ -52,6 +54,7 @@ fn calls_of(before: SoftModulator, parts: &[u8], names: &[u8]) -> SoftModulator 
             0 => last,
             8 => shown::all(last),
             9 => shown::first(last),
+            10 => turns::turn(made::start(before, parts, 0), parts),
             _ => call(before, parts, number),
         };
         k += 1;

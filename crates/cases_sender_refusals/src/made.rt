@@ -84,7 +84,7 @@ fn progress(parts: &[u8]) -> Progress {
     Progress {
         next_len: count(parts, LENGTH),
         next_read: count(parts, READ_PLACE),
-        tx_delay_padding: count(parts, PADDING),
+        tx_delay_padding: SampleCount(count(parts, PADDING)),
     }
 }
 
@@ -111,9 +111,9 @@ fn pending(parts: &[u8]) -> Pending {
 
 fn buffer(parts: &[u8]) -> OutputBuffer {
     OutputBuffer {
-        output_latency: count(parts, LATENCY),
-        samples_in_buf: count(parts, FILL),
-        buf_capacity: count(parts, CAPACITY),
+        output_latency: SampleCount(count(parts, LATENCY)),
+        samples_in_buf: SampleCount(count(parts, FILL)),
+        buf_capacity: SampleCount(count(parts, CAPACITY)),
     }
 }
 

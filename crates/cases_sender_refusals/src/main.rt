@@ -7,6 +7,7 @@ mod line;
 mod made;
 mod same;
 mod shown;
+mod turns;
 
 use modulator::SoftModulator;
 

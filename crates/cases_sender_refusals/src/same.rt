@@ -28,7 +28,7 @@ fn same_window(a: [f32; 81], b: [f32; 81]) -> bool {
 fn same_progress(a: Progress, b: Progress) -> bool {
     (a.next_len == b.next_len)
         & (a.next_read == b.next_read)
-        & (a.tx_delay_padding == b.tx_delay_padding)
+        & (a.tx_delay_padding.0 == b.tx_delay_padding.0)
 }
 
 fn same_report(a: EndReport, b: EndReport) -> bool {
@@ -54,9 +54,9 @@ fn same_pending(a: Pending, b: Pending) -> bool {
 }
 
 fn same_buffer(a: OutputBuffer, b: OutputBuffer) -> bool {
-    (a.output_latency == b.output_latency)
-        & (a.samples_in_buf == b.samples_in_buf)
-        & (a.buf_capacity == b.buf_capacity)
+    (a.output_latency.0 == b.output_latency.0)
+        & (a.samples_in_buf.0 == b.samples_in_buf.0)
+        & (a.buf_capacity.0 == b.buf_capacity.0)
 }
 
 pub(crate) fn same(a: SoftModulator, b: SoftModulator) -> bool {

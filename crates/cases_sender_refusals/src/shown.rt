@@ -18,10 +18,10 @@ fn put_number(label: usize, n: usize) {
 fn put_numbers(progress: Progress, buffer: OutputBuffer) {
     put_number(0, progress.next_len);
     put_number(1, progress.next_read);
-    put_number(2, progress.tx_delay_padding);
-    put_number(3, buffer.samples_in_buf);
-    put_number(4, buffer.buf_capacity);
-    put_number(5, buffer.output_latency);
+    put_number(2, progress.tx_delay_padding.0);
+    put_number(3, buffer.samples_in_buf.0);
+    put_number(4, buffer.buf_capacity.0);
+    put_number(5, buffer.output_latency.0);
 }
 
 fn put_report(report: EndReport) {

@@ -10,7 +10,8 @@ ghost use lib.ListN.{length};
 ghost use Rattle.decode.specs.Correlator.{heard, distanceOf, summed, distances, in-range-says, sync-burst-correlation-says};
 ghost use Rattle.decode.specs.Parts.{valuesOf, eightInRange, extremesOf, hear-says, spread-of-says, compare-says};
 
-const SYNC_MIN_GAIN: f32 = 16.0;
+// No burst matches below it.
+pub const SYNC_MIN_GAIN: f32 = 16.0;
 
 const SYNC_BIT_THRESHOLD: f32 = 0.3;
 

@@ -4,6 +4,7 @@ use protocol::Refusal;
 mod correlator;
 mod slicer;
 
+pub use correlator::SYNC_MIN_GAIN;
 pub use correlator::compare;
 pub use correlator::hear;
 pub use correlator::in_range;

@@ -5,12 +5,8 @@ pub mod Readers
 pub mod Fitness
 -- a call by what applies
 pub mod Demodulating
--- what a record's type says of its window
-pub mod Samples
--- what follows from a stored sample
+-- what a step leaves
 pub mod Stepping
--- rings may be lent again
-pub mod LentAgain
 -- what a reply hands to a search
 pub mod Replying
 -- each promise fixes its answer

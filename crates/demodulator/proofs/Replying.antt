@@ -2,39 +2,26 @@
 use mathlib.Core.Path.{_≡_, ap, _∙_}
 use mathlib.Core.Bool.{true}
 use mathlib.Core.List.{List, []}
-use Prim.Native.Nat.{_-_}
-use native.Mathlib.Omega.{arith}
 use lib.Ieee.{Float}
-use lib.Ieee.Fits.{and-r}
 use Rattle.numbers.specs.Firsts.{firsts}
-use Rattle.numbers.proofs.Tests.{holds}
 use Rattle.decode.specs.Parts.{valuesOf}
 use Rattle.search.specs.declared.Control.{Control}
 use Rattle.search.specs.declared.Reply.{Reply}
-use Rattle.search.specs.Turn.{replied}
-use Rattle.search.specs.Fit.{controlFit}
-use Rattle.search.specs.Ready.{ready, replied-says}
-use Rattle.search.proofs.Fitness.{fit-ready}
+use Rattle.search.specs.Promises.{replied-says}
 use Rattle.search.proofs.Searching.{replied-same}
 use Rattle.demodulator.specs.declared.SoftDemodulator.{SoftDemodulator}
 use Rattle.demodulator.specs.declared.Replied.the-variants.{Done}
 use Rattle.demodulator.specs.Spans.{eight}
 use Rattle.demodulator.specs.Record.{back, withControl}
-use Rattle.demodulator.specs.Fit.{recordFit, cursorsFit, fitForReply}
+use Rattle.demodulator.specs.Fit.{fitForReply}
 use Rattle.demodulator.specs.Calls.{reply-says}
-use Rattle.demodulator.proofs.Fitness.{reply-record, reply-eight}
 use Rattle.demodulator.proofs.Readers.{eight-at}
 use Rattle.demodulator.proofs.Demodulating.{reply-taken}
 
 module _ (m : SoftDemodulator) (fit : fitForReply m ≡ true) (values : List Float) (e : values ≡ firsts (eight 10 (back m)) 8) where
-  pub reply-ready : ready (m .control) values ≡ true
-  unfolding recordFit
-  reply-ready = fit-ready (m .control) values (λ i l. rw (eight-at values (back m) e i l) (reply-eight m fit (7 - i) (omega arith))) (and-r (cursorsFit m) (controlFit 10 (m .control)) (holds (reply-record m fit)))
-
   pub replies : m .control .owed ≡ true → (reply : Reply) (settled : Control) → replied-says (m .control) reply values settled
       → reply-says m reply (record { answer = Done; demodulator = withControl settled m })
   replies owed reply settled s =
       let t = reply-taken m reply [] fit owed in
-      let done : settled ≡ replied 10 (valuesOf values) reply (m .control) = rw reply-ready at s in
-      let same = done ∙ replied-same 10 (valuesOf values) (eight 10 (back m)) (eight-at values (back m) e) reply (m .control) in
+      let same = s ∙ replied-same 10 (valuesOf values) (eight 10 (back m)) (eight-at values (back m) e) reply (m .control) in
       record { answers = rw t; leaves = ap (λ (d : Control). withControl d m) same ∙ rw t }

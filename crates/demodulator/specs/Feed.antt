@@ -1,42 +1,67 @@
--- A stretch of samples in one call: the calls for the single samples, one after the other, until one is refused or brings an offer. Assumes nothing.
+-- A stretch of samples in one call, said once for any receiver: the single samples one after the other, until one brings an offer or would be refused. Assumes nothing.
 use mathlib.Core.Path.{_≡_}
-use mathlib.Core.Bool.{Bool, true, false}
+use mathlib.Core.Bool.{Bool, true, false, cond}
 use mathlib.Core.List.{List, [], _∷_}
 use Prim.Native.Nat.{ℕ, _+_}
+use lib.Dec.{eqb}
 use lib.IntN.{ℤ}
 use lib.Ieee.{Float}
 use Rattle.demodulator.specs.declared.SoftDemodulator.{SoftDemodulator}
 use Rattle.demodulator.specs.declared.Heard.{Heard}
 use Rattle.demodulator.specs.declared.Heard.the-variants.{Refused, Quiet, Offered}
 use Rattle.demodulator.specs.declared.AfterStretch.{AfterStretch}
-use Rattle.demodulator.specs.Calls.{Paper, refusal, nothing, frame, done, carrier, heardPaper, Left, demodulated}
+use Rattle.demodulator.specs.Fit.{recordFit}
+use Rattle.demodulator.specs.Calls.{Paper, refusal, nothing, frame, done, carrier, heardPaper, demodulated}
 
--- what a stretch leaves: the answer to its last sample, how many samples were taken, the record and the room
-pub record Stretch : Type 0 where
+-- what a stretch leaves: its answer, how many samples went in, the receiver and the room
+pub record Stretch (S : Type 0) : Type 0 where
   pub answer : Paper
-  pub taken : ℕ
-  pub demodulator : SoftDemodulator
+  pub fed : ℕ
+  pub state : S
   pub room : List Float
 
--- the stretch ends with what a call left
-abbrev pub stops : ℕ → Left → Stretch
-stops taken left = record { answer = left .answer; taken = taken; demodulator = left .demodulator; room = left .room }
+-- "Every refusal returns its number only, with record and buffers as they were": so a stretch is refused only where no sample went in.
+-- After `n` that did, the answer is quiet, and the caller, who gives the rest, gets the refusal.
+abbrev pub stopsBefore : {S : Type 0} → Paper → ℕ → S → List Float → Stretch S
+stopsBefore why n s room = record { answer = cond (eqb n 0) why nothing; fed = n; state = s; room = room }
 
--- by the answer to a sample, after `n` that were taken: a quiet one goes on with the rest; an offer is the last that is taken; a refused sample is not taken
--- (a sample is never answered as a reply or a carrier query is)
-unfoldable pub goesOn : ℕ → Paper → Left → Stretch → Stretch
-goesOn n nothing left rest = rest
-goesOn n (frame kind d) left rest = stops (n + 1) left
-goesOn n (refusal number) left rest = stops n left
-goesOn n done left rest = stops n left
-goesOn n (carrier there) left rest = stops n left
+-- by the answer to the next sample: a quiet one goes on with the rest; one with an offer is the last that goes in;
+-- one that would be refused does not go in (and a sample is never answered as a reply or a carrier query is)
+unfoldable pub goesOn : {S : Type 0} → Paper → (before last rest : Stretch S) → Stretch S
+goesOn nothing before last rest = rest
+goesOn (frame kind d) before last rest = last
+goesOn (refusal number) before last rest = before
+goesOn done before last rest = before
+goesOn (carrier there) before last rest = before
 
--- the samples that are left, after `n` that were taken
-unfoldable pub fed : ℕ → SoftDemodulator → List ℤ → List Float → Stretch
-fed n m [] room = record { answer = nothing; taken = n; demodulator = m; room = room }
-fed n m (x ∷ xs) room =
-    goesOn n (demodulated m x room .answer) (demodulated m x room)
-    (fed (n + 1) (demodulated m x room .demodulator) xs (demodulated m x room .room))
+-- ---- any receiver: what it says to a sample with its room, what it is after it, and what the room then holds
+module _ (S : Type 0) (said : S → ℤ → List Float → Paper) (next : S → ℤ → List Float → S) (after : S → ℤ → List Float → List Float) where
+  -- the samples that are left, after `n` that went in
+  unfoldable pub fedFrom : ℕ → S → List ℤ → List Float → Stretch S
+  fedFrom n s [] room = record { answer = nothing; fed = n; state = s; room = room }
+  fedFrom n s (x ∷ xs) room =
+      goesOn (said s x room) (stopsBefore (said s x room) n s room)
+      (record { answer = said s x room; fed = n + 1; state = next s x room; room = after s x room })
+      (fedFrom (n + 1) (next s x room) xs (after s x room))
+
+  -- "a call that gives neither tests no filtered value": an empty stretch gives no sample, and is refused with 1 where the receiver
+  -- is unfit even so
+  unfoldable pub fed : (S → Bool) → S → List ℤ → List Float → Stretch S
+  fed fit s [] room = record { answer = cond (fit s) nothing (refusal 1); fed = 0; state = s; room = room }
+  fed fit s (x ∷ xs) room = fedFrom 0 s (x ∷ xs) room
+
+-- ---- the record
+abbrev pub sampleSaid : SoftDemodulator → ℤ → List Float → Paper
+sampleSaid m x room = demodulated m x room .answer
+
+abbrev pub sampleNext : SoftDemodulator → ℤ → List Float → SoftDemodulator
+sampleNext m x room = demodulated m x room .demodulator
+
+abbrev pub sampleRoom : SoftDemodulator → ℤ → List Float → List Float
+sampleRoom m x room = demodulated m x room .room
+
+abbrev pub fedInto : SoftDemodulator → List ℤ → List Float → Stretch SoftDemodulator
+fedInto = fed SoftDemodulator sampleSaid sampleNext sampleRoom recordFit
 
 -- ---- an answer, as the code looks at it
 abbrev pub isQuiet : Heard → Bool
@@ -44,14 +69,22 @@ isQuiet (Refused why) = false
 isQuiet Quiet = true
 isQuiet (Offered o) = false
 
-abbrev pub sampleTaken : Heard → ℕ
-sampleTaken (Refused why) = 0
-sampleTaken Quiet = 1
-sampleTaken (Offered o) = 1
+abbrev pub wentIn : Heard → ℕ
+wentIn (Refused why) = 0
+wentIn Quiet = 1
+wentIn (Offered o) = 1
+
+abbrev pub toldAfter : ℕ → Heard → Heard
+toldAfter n (Refused why) = cond (eqb n 0) (Refused why) Quiet
+toldAfter n Quiet = Quiet
+toldAfter n (Offered o) = Offered o
 
 -- ---- what the function promises
 pub record feed-says (m : SoftDemodulator) (xs : List ℤ) (room : List Float) (r : AfterStretch) (after : List Float) : Type 0 where
-  pub answers : heardPaper (r .answer) ≡ fed 0 m xs room .answer
-  pub takes : r .taken ≡ fed 0 m xs room .taken
-  pub leaves : r .demodulator ≡ fed 0 m xs room .demodulator
-  pub writes : after ≡ fed 0 m xs room .room
+  pub answers : heardPaper (r .answer) ≡ fedInto m xs room .answer
+  pub counts : r .fed ≡ fedInto m xs room .fed
+  pub leaves : r .demodulator ≡ fedInto m xs room .state
+  pub writes : after ≡ fedInto m xs room .room
+
+abbrev pub FeedsNothing : SoftDemodulator → AfterStretch → Type 0
+FeedsNothing m r = (room : List Float) → feed-says m [] room r room

@@ -2,12 +2,10 @@
 use mathlib.Core.Path.{_≡_}
 use mathlib.Core.Bool.{true, false}
 use mathlib.Core.List.{List}
-use Prim.Native.Nat.{ℕ, _^_, _≤_, _<_}
-use lib.IntN.{ℤ, pos}
-use lib.ListN.{length, getD}
+use Prim.Native.Nat.{_^_, _≤_, _<_}
+use lib.IntN.{ℤ}
+use lib.ListN.{length}
 use lib.Ieee.{Float}
-use mir.Syntax.{w16}
-use mir.Val.{SFits}
 use Rattle.protocol.specs.declared.Refusal.{Refusal}
 use Rattle.search.specs.declared.Control.{Control}
 use Rattle.demodulator.specs.declared.Heard.the-variants.{Refused}
@@ -17,14 +15,8 @@ use Rattle.demodulator.specs.Record.{assembled}
 use Rattle.demodulator.specs.Fit.{fitForSample}
 use Rattle.demodulator.specs.Calls.{demod-says}
 
--- what the types of lent rings say of them: samples of 16 bits, and 1,920 places. Of an array that is lent nothing of that is known; a record by value has it, and hands it on
-pub record Rings (window : List ℤ) (ring : List Float) : Type 0 where
-  pub samples : (i : ℕ) → SFits w16 (getD window i (pos 0))
-  pub places : length ring ≡ 1920
-
 -- nothing refuses the sample
 pub record Accepts (window : List ℤ) (ring : List Float) (at : Places) (c : Control) (room : List Float) : Type 0 where
-  pub rings : Rings window ring
   pub fit : fitForSample (assembled window (at .«filter_cursor») ring (at .«rx_cursor») c) ≡ true
   pub no-reply : c .owed ≡ false
   pub room-enough : 192 ≤ length room

@@ -2,10 +2,14 @@
 use crate::AfterStretch;
 use crate::Heard;
 use crate::SoftDemodulator;
+use crate::fit;
 use crate::step;
 use crate::step::Places;
+use protocol::Refusal;
+use search::Control;
 ghost use mathlib.Core.Path.{_≡_};
-ghost use Rattle.demodulator.specs.Feed.{feed-says, isQuiet, sampleTaken};
+ghost use Rattle.demodulator.specs.Record.{assembled};
+ghost use Rattle.demodulator.specs.Feed.{isQuiet, wentIn, toldAfter, FeedsNothing, feed-says};
 
 fn is_quiet(answer: Heard) -> bool
     ensures { λ r. ⌜ r ≡ isQuiet answer ⌝ }
@@ -17,9 +21,9 @@ fn is_quiet(answer: Heard) -> bool
     }
 }
 
-// How many samples such an answer takes.
-fn sample_taken(answer: Heard) -> usize
-    ensures { λ r. ⌜ r ≡ sampleTaken answer ⌝ }
+// How many samples go in with such an answer.
+fn count_in(answer: Heard) -> usize
+    ensures { λ r. ⌜ r ≡ wentIn answer ⌝ }
 {
     match answer {
         Heard::Refused(_) => 0,
@@ -28,11 +32,62 @@ fn sample_taken(answer: Heard) -> usize
     }
 }
 
+// Once samples went in, a refusal is left to the call that gives the rest.
+fn tell(answer: Heard, fed: usize) -> Heard
+    ensures { λ r. ⌜ r ≡ toldAfter fed answer ⌝ }
+{
+    match answer {
+        Heard::Refused(_) => if fed == 0 { answer } else { Heard::Quiet },
+        Heard::Quiet => answer,
+        Heard::Offered(_) => answer,
+    }
+}
+
+// No sample is given, so no filtered value is tested.
+fn feed_nothing(demodulator: SoftDemodulator) -> AfterStretch
+    ensures { λ r. ⌜ FeedsNothing demodulator r ⌝ }
+{
+    let control = demodulator.control;
+    if !fit::record_fit(demodulator.filter_cursor, demodulator.rx_cursor, control) {
+        return AfterStretch {
+            answer: Heard::Refused(Refusal::RecordUnfit),
+            fed: 0,
+            demodulator,
+        };
+    }
+    AfterStretch {
+        answer: Heard::Quiet,
+        fed: 0,
+        demodulator,
+    }
+}
+
+fn rebuild(
+    filter_win: [i16; 81],
+    rx_win: [f32; 1920],
+    places: Places,
+    control: Control,
+) -> SoftDemodulator
+    ensures { λ r. ⌜ r ≡ assembled «filter_win» (places .«filter_cursor») «rx_win» (places .«rx_cursor») control ⌝ }
+{
+    SoftDemodulator {
+        filter_win,
+        filter_cursor: places.filter_cursor,
+        rx_win,
+        rx_cursor: places.rx_cursor,
+        control,
+    }
+}
+
 impl SoftDemodulator {
-    // The samples one after the other, until one is refused or brings an offer, which is then the answer; quiet if all are taken.
+    // The samples one after the other, until one brings an offer or would be refused. Only the first can be refused:
+    // a later one does not go in, and is left to the caller.
     pub fn feed(self, samples: &[i16], room: &mut [f32]) -> AfterStretch
         ensures { λ r. ⌜ feed-says self (now (samples .entry)) (now (room .entry)) r (now (room .exit)) ⌝ }
     {
+        if samples.len() == 0 {
+            return feed_nothing(self);
+        }
         let mut filter_win = self.filter_win;
         let mut rx_win = self.rx_win;
         let mut control = self.control;
@@ -40,40 +95,28 @@ impl SoftDemodulator {
             filter_cursor: self.filter_cursor,
             rx_cursor: self.rx_cursor,
         };
-        let mut taken: usize = 0;
-        while taken < samples.len() {
-            let sample = samples[taken];
+        let mut fed: usize = 0;
+        while fed < samples.len() {
+            let sample = samples[fed];
             let stepped = step::step(&mut filter_win, &mut rx_win, places, control, sample, room);
             places = stepped.places;
             control = stepped.control;
             let answer = stepped.answer;
             if !is_quiet(answer) {
-                let last = sample_taken(answer);
-                let count = taken + last;
+                let last = count_in(answer);
+                let count = fed + last;
                 return AfterStretch {
-                    answer,
-                    taken: count,
-                    demodulator: SoftDemodulator {
-                        filter_win,
-                        filter_cursor: places.filter_cursor,
-                        rx_win,
-                        rx_cursor: places.rx_cursor,
-                        control,
-                    },
+                    answer: tell(answer, fed),
+                    fed: count,
+                    demodulator: rebuild(filter_win, rx_win, places, control),
                 };
             }
-            taken += 1;
+            fed += 1;
         }
         AfterStretch {
             answer: Heard::Quiet,
-            taken,
-            demodulator: SoftDemodulator {
-                filter_win,
-                filter_cursor: places.filter_cursor,
-                rx_win,
-                rx_cursor: places.rx_cursor,
-                control,
-            },
+            fed,
+            demodulator: rebuild(filter_win, rx_win, places, control),
         }
     }
 }

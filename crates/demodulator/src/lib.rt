@@ -54,10 +54,11 @@ pub struct AfterSample {
     pub demodulator: SoftDemodulator,
 }
 
-// `taken` counts the samples that were not refused, the one that brought an offer among them.
+// `fed` counts the samples that went in, the one that brought an offer among them. A refused stretch has none;
+// after a quiet one that is shorter than what was given, the rest would be refused.
 pub struct AfterStretch {
     pub answer: Heard,
-    pub taken: usize,
+    pub fed: usize,
     pub demodulator: SoftDemodulator,
 }
 

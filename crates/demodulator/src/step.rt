@@ -8,7 +8,7 @@ use search::Control;
 use search::LAST_COUNT;
 use search::Turn;
 ghost use mathlib.Core.Path.{_≡_};
-ghost use Rattle.demodulator.specs.Steps.{Rings, Accepts, Steps, unmoved};
+ghost use Rattle.demodulator.specs.Steps.{Accepts, Steps, unmoved};
 
 // Where the two rings are written next.
 pub(crate) struct Places {
@@ -44,7 +44,8 @@ fn advance(
         filter_cursor: filter_next,
         rx_cursor: rx_next,
     };
-    let turn = search::turn_of(control);
+    let number = control.sample + 1;
+    let turn = search::turn_of(control, number);
     match turn {
         Turn::Rest(rested) => Stepped {
             answer: Heard::Quiet,
@@ -98,7 +99,6 @@ pub(crate) fn step(
     sample: i16,
     room: &mut [f32],
 ) -> Stepped
-    requires { ⌜ Rings (now «filter_win») (now «rx_win») ⌝ }
     ensures { λ r. ⌜ Steps (now («filter_win» .entry)) (now («rx_win» .entry)) places control sample (now (room .entry)) r (now («filter_win» .exit)) (now («rx_win» .exit)) (now (room .exit)) ⌝ }
 {
     if !fit::fit_for_sample(&*rx_win, places.filter_cursor, places.rx_cursor, control) {

@@ -22,7 +22,7 @@ use Rattle.search.specs.declared.Control.{Control}
 use Rattle.search.specs.declared.Reply.the-variants.{Accepted}
 use Rattle.search.specs.Search.{sameKind, taken}
 use Rattle.search.specs.Turn.{Outcome, quiet, offer, counted, owing, sampled}
-use Rattle.demodulator_run.specs.Rules.{Call, sample, reply, Heard, After, start, settled, accepted, called, heardFrom, heardAll}
+use Rattle.demodulator_run.specs.Rules.{Single, sample, reply, Heard, After, start, settled, accepted, single, heardFrom, heardAll}
 use Rattle.demodulator_run.specs.Marks.{Mark, First, FellDue, isRefusal, logAll}
 use Rattle.demodulator_run.specs.Demands.{Ear, earOf, at, In}
 use Rattle.demodulator_run.specs.Exact.{ByRules, lastSample}
@@ -41,7 +41,7 @@ unfolding settled
 settled-taken xs (quiet c) = refl
 settled-taken xs (offer kind gain shift c) = refl
 
-pub is-accepted : (h : Heard) (x : ℤ) → h .control .owed ≡ false → h .control .sample < 2 ^ 63 → isRefusal (called taps 10 h (sample x room) .said .answer) ≡ false
+pub is-accepted : (h : Heard) (x : ℤ) → h .control .owed ≡ false → h .control .sample < 2 ^ 63 → isRefusal (single taps 10 h (sample x room) .said .answer) ≡ false
 is-accepted h x o l = ap (λ (a : After). isRefusal (a .said .answer)) (taken-in h x o l) ∙ settled-taken (h .samples ++ (x ∷ [])) (sampled 10 (eightAt (h .samples ++ (x ∷ []))) (h .control))
 
 -- one sample more
@@ -51,7 +51,7 @@ one-more xs x = ap (heardFrom taps 10 start) (fed-append xs (x ∷ [])) ∙ hear
 
 -- ---- a run
 module _ (all : List ℤ) (small : Sixteen all) (few : length all ≤ 2 ^ 63) where
-  abbrev pub calls : List Call
+  abbrev pub calls : List Single
   calls = fed all
 
   pub heard-all : heardAll taps 10 calls .samples ≡ all
@@ -72,7 +72,7 @@ module _ (all : List ℤ) (small : Sixteen all) (few : length all ≤ 2 ^ 63) wh
         call = sample x room;
         after = reply Accepted ∷ fed more;
         split = ap fed part ∙ fed-split xs x more;
-        accepted = subst (λ (g : Heard). isRefusal (called taps 10 g (sample x room) .said .answer) ≡ false) (sym e) (is-accepted h x o l);
+        accepted = subst (λ (g : Heard). isRefusal (single taps 10 g (sample x room) .said .answer) ≡ false) (sym e) (is-accepted h x o l);
         rules = subst (λ (g : Heard). ByRules (earAll taps 10 calls) y g (sample x room)) (sym e) (subst (λ (ear : Ear). ByRules ear y h (sample x room)) ear-all r);
       })
 

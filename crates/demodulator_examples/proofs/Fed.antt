@@ -16,21 +16,21 @@ use Rattle.demodulator.specs.Spans.{eight}
 use Rattle.demodulator.specs.Calls.{done}
 use Rattle.demodulator_laws.proofs.SampleFits.{controlOf}
 use Rattle.demodulator_run.specs.Filter.{ago}
-use Rattle.demodulator_run.specs.Rules.{Call, sample, reply, Heard, After, refused, settled, accepted, given, answered, called, heardFrom}
+use Rattle.demodulator_run.specs.Rules.{Single, sample, reply, Heard, After, refused, settled, accepted, given, answered, single, heardFrom}
 use Rattle.demodulator_run.specs.Run.{Callable, Sampled}
 use Rattle.demodulator_run.specs.Stretch.{Sixteen}
 use Rattle.demodulator_run.proofs.Count.{sampled-count}
 use Rattle.demodulator_run.proofs.Worked.{room}
 
 -- ---- the calls
-unfoldable pub fed : List ℤ → List Call
+unfoldable pub fed : List ℤ → List Single
 fed [] = []
 fed (x ∷ xs) = sample x room ∷ reply Accepted ∷ fed xs
 
 pub fed-append : (xs ys : List ℤ) → fed (xs ++ ys) ≡ fed xs ++ fed ys
 unfolding fed
 fed-append [] ys = refl
-fed-append (x ∷ xs) ys = ap (λ (l : List Call). sample x room ∷ reply Accepted ∷ l) (fed-append xs ys)
+fed-append (x ∷ xs) ys = ap (λ (l : List Single). sample x room ∷ reply Accepted ∷ l) (fed-append xs ys)
 
 pub fed-split : (xs : List ℤ) (x : ℤ) (ys : List ℤ) → fed (xs ++ (x ∷ ys)) ≡ fed xs ++ (sample x room ∷ reply Accepted ∷ fed ys)
 unfolding fed
@@ -44,7 +44,7 @@ fed-sampled (x ∷ xs) s = (s .0, (tt, fed-sampled xs (s .1)))
 
 -- ---- one sample and its reply
 abbrev pub next : Heard → ℤ → Heard
-next h x = called taps 10 (called taps 10 h (sample x room) .heard) (reply Accepted) .heard
+next h x = single taps 10 (single taps 10 h (sample x room) .heard) (reply Accepted) .heard
 
 -- what is heard when the newest is x
 abbrev pub eightAt : List ℤ → ℕ → Float
@@ -53,12 +53,12 @@ eightAt xs = eight 10 (ago taps 10 xs)
 pub not-full : (n : ℕ) → n < 2 ^ 63 → eqb n (2 ^ 63) ≡ false
 not-full n l = is-false (eqb n (2 ^ 63)) (not-T (eqb n (2 ^ 63)) (λ u. let e : n ≡ 2 ^ 63 = eqb→eq n (2 ^ 63) u in omega arith))
 
-pub taken-in : (h : Heard) (x : ℤ) → h .control .owed ≡ false → h .control .sample < 2 ^ 63 → called taps 10 h (sample x room) ≡ accepted taps 10 h x room
-unfolding called given
+pub taken-in : (h : Heard) (x : ℤ) → h .control .owed ≡ false → h .control .sample < 2 ^ 63 → single taps 10 h (sample x room) ≡ accepted taps 10 h x room
+unfolding single given
 taken-in h x o l = rw (o, not-full (h .control .sample) l)
 
-replied-in : (h : Heard) → called taps 10 h (reply Accepted) .heard ≡ record { samples = h .samples; control = owing false (h .control) }
-unfolding called answered replied
+replied-in : (h : Heard) → single taps 10 h (reply Accepted) .heard ≡ record { samples = h .samples; control = owing false (h .control) }
+unfolding single answered replied
 replied-in h = go (h .control .owed) refl
   where
     go : (b : Bool) → h .control .owed ≡ b
@@ -77,15 +77,15 @@ settled-heard xs (offer kind gain shift c) = refl
 pub next-is : (h : Heard) (x : ℤ) → h .control .owed ≡ false → h .control .sample < 2 ^ 63
     → next h x ≡ record { samples = h .samples ++ (x ∷ []); control = owing false (controlOf (sampled 10 (eightAt (h .samples ++ (x ∷ []))) (h .control))) }
 next-is h x o l =
-    replied-in (called taps 10 h (sample x room) .heard)
+    replied-in (single taps 10 h (sample x room) .heard)
     ∙ ap (λ (g : Heard). record { samples = g .samples; control = owing false (g .control) })
     (ap (λ (a : After). a .heard) (taken-in h x o l) ∙ settled-heard (h .samples ++ (x ∷ [])) (sampled 10 (eightAt (h .samples ++ (x ∷ []))) (h .control)))
 
 -- ---- all of them
-pub heard-append : (cs ds : List Call) (h : Heard) → heardFrom taps 10 h (cs ++ ds) ≡ heardFrom taps 10 (heardFrom taps 10 h cs) ds
+pub heard-append : (cs ds : List Single) (h : Heard) → heardFrom taps 10 h (cs ++ ds) ≡ heardFrom taps 10 (heardFrom taps 10 h cs) ds
 unfolding heardFrom
 heard-append [] ds h = refl
-heard-append (c ∷ cs) ds h = heard-append cs ds (called taps 10 h c .heard)
+heard-append (c ∷ cs) ds h = heard-append cs ds (single taps 10 h c .heard)
 
 pub fed-heard : (xs : List ℤ) (h : Heard) → h .control .owed ≡ false → h .control .sample + length xs ≤ 2 ^ 63 → heardFrom taps 10 h (fed xs) .samples ≡ h .samples ++ xs
 unfolding heardFrom fed

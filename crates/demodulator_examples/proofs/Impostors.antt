@@ -24,7 +24,7 @@ use Rattle.search.specs.Turn.{sampled}
 use Rattle.demodulator.specs.Spans.{eight, symbolAt}
 use Rattle.demodulator.specs.Calls.{frame}
 use Rattle.demodulator_run.specs.Filter.{filtered, ago}
-use Rattle.demodulator_run.specs.Rules.{Call, sample, Heard, Said, After, start, accepted, given, called, heardFrom, heardAll}
+use Rattle.demodulator_run.specs.Rules.{Single, sample, Heard, Said, After, start, accepted, given, single, heardFrom, heardAll}
 use Rattle.demodulator_run.specs.Marks.{isRefusal}
 use Rattle.demodulator_run.specs.Run.{left, recordAfter, Sampled}
 use Rattle.demodulator_run.specs.Demands.{at, Shown, shownAt, earOf}
@@ -34,7 +34,7 @@ use Rattle.demodulator_run.proofs.Calling.{settled-samples, heard-extends}
 use Rattle.demodulator_run.proofs.LogExact.{not-refused}
 use Rattle.demodulator_run.proofs.Hearing.{filtered-taken}
 use Rattle.demodulator_run.proofs.Sixteen.{taps-size}
-use Rattle.demodulator_run.proofs.ReceiverRun.{sampled-front, next-call}
+use Rattle.demodulator_run.proofs.SinglesRun.{sampled-front, next-single}
 use Rattle.demodulator_run.proofs.Demand48.{due-offered-48}
 use Rattle.demodulator_examples.proofs.Fed.{fed, heard-append}
 use Rattle.demodulator_examples.proofs.Table.{listed}
@@ -56,13 +56,13 @@ pub finds-another : OfferedAt taps 10 1910 (shownAt (shaped earlierLarger) Strea
 finds-another = due-offered-48 (calls earlierLarger) (small earlierLarger) 1910 (shownAt (shaped earlierLarger) Stream 71) refl corner-due
 
 -- ---- 3: it always offers one window. The two offers' windows differ in their first symbol.
-module _ {cs : List Call} {d : ℕ} {w : Shown} (O : OfferedAt taps 10 d w cs) where
+module _ {cs : List Single} {d : ℕ} {w : Shown} (O : OfferedAt taps 10 d w cs) where
   abbrev pub answer : Said
-  answer = called taps 10 (heardAll taps 10 (O .before)) (sample (O .value) (O .room)) .said
+  answer = single taps 10 (heardAll taps 10 (O .before)) (sample (O .value) (O .room)) .said
 
-  accepted-samples : (h : Heard) (x : ℤ) (room : List Float) → isRefusal (called taps 10 h (sample x room) .said .answer) ≡ false
-      → called taps 10 h (sample x room) .heard .samples ≡ h .samples ++ (x ∷ [])
-  unfolding called given
+  accepted-samples : (h : Heard) (x : ℤ) (room : List Float) → isRefusal (single taps 10 h (sample x room) .said .answer) ≡ false
+      → single taps 10 h (sample x room) .heard .samples ≡ h .samples ++ (x ∷ [])
+  unfolding single given
   accepted-samples h x room =
       let P : After → Type 0 = λ a. a .heard .samples ≡ h .samples ++ (x ∷ []) in
       not-refused taps 10 h P (h .control .owed) 2 room _ λ o.
@@ -73,7 +73,7 @@ module _ {cs : List Call} {d : ℕ} {w : Shown} (O : OfferedAt taps 10 d w cs) w
   -- and so does the record
   pub record-answers : Sampled cs → left (recordAfter (O .before)) (sample (O .value) (O .room)) .answer ≡ frame (w .kind) d
   record-answers s =
-      ap (λ (a : Said). a .answer) (next-call (O .before) (sampled-front (O .before) (sample (O .value) (O .room) ∷ O .after) (subst Sampled (O .split) s)) (sample (O .value) (O .room)) ∙ O .said)
+      ap (λ (a : Said). a .answer) (next-single (O .before) (sampled-front (O .before) (sample (O .value) (O .room) ∷ O .after) (subst Sampled (O .split) s)) (sample (O .value) (O .room)) ∙ O .said)
 
   -- the samples up to the offer are the first of all
   prefix : (more : List ℤ) × (heardAll taps 10 cs .samples ≡ (heardAll taps 10 (O .before) .samples ++ (O .value ∷ [])) ++ more)
@@ -81,9 +81,9 @@ module _ {cs : List Call} {d : ℕ} {w : Shown} (O : OfferedAt taps 10 d w cs) w
   prefix =
       let h : Heard = heardAll taps 10 (O .before) in
       let e = accepted-samples h (O .value) (O .room) (ap (λ (a : Said). isRefusal (a .answer)) (O .said)) in
-      let (m, f) = heard-extends taps 10 (called taps 10 h (sample (O .value) (O .room)) .heard) (O .after) in (
+      let (m, f) = heard-extends taps 10 (single taps 10 h (sample (O .value) (O .room)) .heard) (O .after) in (
         m,
-        ap (λ (l : List Call). heardAll taps 10 l .samples) (O .split)
+        ap (λ (l : List Single). heardAll taps 10 l .samples) (O .split)
             ∙ ap (λ (g : Heard). g .samples) (heard-append (O .before) (sample (O .value) (O .room) ∷ O .after) start)
             ∙ f ∙ ap (λ (l : List ℤ). l ++ m) e,
       )

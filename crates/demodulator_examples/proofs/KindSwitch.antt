@@ -22,7 +22,7 @@ use Rattle.search.specs.declared.Control.{Control}
 use Rattle.search.specs.declared.Reply.the-variants.{Accepted}
 use Rattle.search.specs.Search.{rank, sameKind, taken}
 use Rattle.search.specs.Turn.{cleared, counted, waited, sampled as turned}
-use Rattle.demodulator_run.specs.Rules.{Call, sample, reply, Heard, After, start, called, heardFrom, heardAll}
+use Rattle.demodulator_run.specs.Rules.{Single, sample, reply, Heard, After, start, single, heardFrom, heardAll}
 use Rattle.demodulator_run.specs.Run.{Sampled}
 use Rattle.demodulator_run.specs.Marks.{Mark, Anew, Failed, isRefusal, searchedMarks, waitedMarks, sampledMarks, repliedMarks, stepMarks, calledMarks, logFrom, logAll}
 use Rattle.demodulator_run.specs.Demands.{Ear, earOf, at, In, Switched, WaitSet, SwitchHeld}
@@ -31,7 +31,7 @@ use Rattle.demodulator_run.proofs.Pass.{Step, controlled, searchStep, passBy, s
 use Rattle.demodulator_run.proofs.Phase.{kept-past}
 use Rattle.demodulator_run.proofs.Run.{kept-all}
 use Rattle.demodulator_run.proofs.Demand.{earAll}
-use Rattle.demodulator_run.proofs.Demand48.{alone-48, again-48, switch-earlier-48, switch-held-48}
+use Rattle.demodulator_run.proofs.Demand48.{ten, alone-48, again-48, switch-earlier-48, switch-held-48}
 use Rattle.demodulator_run.proofs.Worked.{room}
 use Rattle.demodulator_run.proofs.Sixteen.{sixteen-front}
 use Rattle.demodulator_examples.proofs.Fed.{fed, fed-split, fed-sampled, eightAt, taken-in, settled-heard}
@@ -43,7 +43,7 @@ use Rattle.demodulator_examples.proofs.EarlierSmaller.{front, x, y, tab
 abbrev pub samples : List ℤ
 samples = front ++ (x ∷ y ∷ [])
 
-abbrev pub calls : List Call
+abbrev pub calls : List Single
 calls = fed samples
 
 abbrev pub ear : Ear
@@ -128,16 +128,16 @@ called-72 t =
 
 nothing-replied : (h : Heard) → calledMarks taps 10 h (reply Accepted) ≡ []
 unfolding calledMarks stepMarks repliedMarks
-nothing-replied h = go (isRefusal (called taps 10 h (reply Accepted) .said .answer))
+nothing-replied h = go (isRefusal (single taps 10 h (reply Accepted) .said .answer))
   where
     go : (b : Bool) → _≡_ {A = List Mark} (cond b [] []) []
     go true = refl
     go false = refl
 
-log-append : (cs ds : List Call) (h : Heard) → logFrom taps 10 h (cs ++ ds) ≡ logFrom taps 10 h cs ++ logFrom taps 10 (heardFrom taps 10 h cs) ds
+log-append : (cs ds : List Single) (h : Heard) → logFrom taps 10 h (cs ++ ds) ≡ logFrom taps 10 h cs ++ logFrom taps 10 (heardFrom taps 10 h cs) ds
 unfolding logFrom heardFrom
 log-append [] ds h = refl
-log-append (c ∷ cs) ds h = ap (λ (l : List Mark). calledMarks taps 10 h c ++ l) (log-append cs ds (called taps 10 h c .heard)) ∙ sym (append-assoc (calledMarks taps 10 h c) _ _)
+log-append (c ∷ cs) ds h = ap (λ (l : List Mark). calledMarks taps 10 h c ++ l) (log-append cs ds (single taps 10 h c .heard)) ∙ sym (append-assoc (calledMarks taps 10 h c) _ _)
 
 -- ---- no wait is set there
 -- the marks up to 71 are of samples up to 71
@@ -148,14 +148,14 @@ early i m =
     let b = again-48 (fed before) s in
     let (t, e) = held in
     let n = ap (λ (h : Heard). h .control .sample) e in
-    let u = kept-past (earAll taps 10 (fed before)) 10 (logAll taps 10 (fed before)) (heardAll taps 10 (fed before) .control) (kept-all taps 10 (fed before) (lit< tt) a b) (Failed 72 i) m in
+    let u = kept-past (earAll taps 10 (fed before)) 10 (logAll taps 10 (fed before)) (heardAll taps 10 (fed before) .control) (kept-all taps 10 (fed before) ten a b) (Failed 72 i) m in
     omega arith
 
 log-72 : (t : Timer) → logFrom taps 10 (holding t) (sample y room ∷ reply Accepted ∷ []) ≡ Anew 72 Packet Stream ∷ []
 unfolding logFrom
 log-72 t =
-    ap (λ (l : List Mark). l ++ (calledMarks taps 10 (called taps 10 (holding t) (sample y room) .heard) (reply Accepted) ++ [])) (called-72 t)
-    ∙ ap (λ (l : List Mark). Anew 72 Packet Stream ∷ (l ++ [])) (nothing-replied (called taps 10 (holding t) (sample y room) .heard))
+    ap (λ (l : List Mark). l ++ (calledMarks taps 10 (single taps 10 (holding t) (sample y room) .heard) (reply Accepted) ++ [])) (called-72 t)
+    ∙ ap (λ (l : List Mark). Anew 72 Packet Stream ∷ (l ++ [])) (nothing-replied (single taps 10 (holding t) (sample y room) .heard))
 
 log-parts : logAll taps 10 calls ≡ logAll taps 10 (fed before) ++ (Anew 72 Packet Stream ∷ [])
 unfolding fed
@@ -179,13 +179,13 @@ went-earlier = switch-earlier-48 calls sampled 72 Packet Stream switched no-wait
 pub held-before : (t : Timer) × (heardAll taps 10 (fed before) .control ≡ controlled (taken Packet (at ear Packet 71)) Free t false 71)
 held-before = (held .0, ap (λ (h : Heard). h .control) (held .1))
 
-pub held-after : (u : Timer) × (called taps 10 (heardAll taps 10 (fed before)) (sample y room) .heard .control ≡ controlled (taken Stream (at ear Stream 72)) Free u false 72)
+pub held-after : (u : Timer) × (single taps 10 (heardAll taps 10 (fed before)) (sample y room) .heard .control ≡ controlled (taken Stream (at ear Stream 72)) Free u false 72)
 unfolding turned waited
 held-after =
     let (t, e) = held in
     let (u, f) = search-72 (cleared 72 t) in (
       u,
-      ap (λ (h : Heard). called taps 10 h (sample y room) .heard .control) e
+      ap (λ (h : Heard). single taps 10 h (sample y room) .heard .control) e
           ∙ ap (λ (a : After). a .heard .control) (taken-in (holding t) y refl (lit< tt))
           ∙ ap (λ (h : Heard). h .control) (settled-heard (before ++ (y ∷ [])) (turned 10 (eightAt (before ++ (y ∷ []))) (holding t .control)))
           ∙ ap (λ (v : ℕ → Float). searchStep 10 v (counted (holding t .control)) .control) (sym heard-72)
@@ -197,6 +197,6 @@ held-earlier =
     let (t, e) = held-before in
     let (u, f) = held-after in
     subst (SwitchHeld (controlled (taken Packet (at ear Packet 71)) Free t false 71)) f
-    (subst (λ (c : Control). SwitchHeld c (called taps 10 (heardAll taps 10 (fed before)) (sample y room) .heard .control)) e
+    (subst (λ (c : Control). SwitchHeld c (single taps 10 (heardAll taps 10 (fed before)) (sample y room) .heard .control)) e
     (switch-held-48 calls sampled (fed before) (sample y room) (reply Accepted ∷ fed []) (ap fed part ∙ fed-split before y [])))
     refl refl (switched .1)

@@ -16,6 +16,8 @@ pub mod EarlierLarger
 pub mod LaterSmaller
 -- their due frames: the rule, its corner, a replacement
 pub mod DueFrames
+-- the first of them as a caller sees it
+pub mod Seen
 -- a switch of kind without a wait
 pub mod EarlierSmaller
 pub mod KindSwitch

@@ -21,7 +21,7 @@ use Rattle.search.specs.declared.Wait.the-variants.{Free}
 use Rattle.search.specs.declared.Timer.{Timer}
 use Rattle.search.specs.Search.{sameKind, taken}
 use Rattle.demodulator_run.specs.Filter.{filtered}
-use Rattle.demodulator_run.specs.Rules.{Call, heardAll}
+use Rattle.demodulator_run.specs.Rules.{Single, heardAll}
 use Rattle.demodulator_run.specs.Run.{Sampled}
 use Rattle.demodulator_run.specs.Marks.{FellDue, logAll}
 use Rattle.demodulator_run.specs.Demands.{Ear, earOf, at, In, Started, DueAt, Shown, dueMark, Cause, Matches}
@@ -54,7 +54,7 @@ module _ (S : Sketch) where
   abbrev pub samples : List ℤ
   samples = S .front ++ (S .x ∷ S .y ∷ pause 1900)
 
-  abbrev pub calls : List Call
+  abbrev pub calls : List Single
   calls = fed samples
 
   abbrev pub shaped : Ear

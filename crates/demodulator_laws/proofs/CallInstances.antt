@@ -20,7 +20,6 @@ use Rattle.search.specs.declared.Reply.the-variants.{Accepted, Rejected}
 use Rattle.search.specs.Search.{searched}
 use Rattle.search.specs.Turn.{quiet, counted, waitingOn, freed, owing, due, sampled, replied}
 use Rattle.search.specs.Fit.{candidateFit, waitFit, controlFit}
-use Rattle.search.specs.Ready.{ready}
 use Rattle.search.proofs.TurnFits.{counted-fit, freed-fit}
 use Rattle.demodulator.specs.declared.SoftDemodulator.{SoftDemodulator}
 use Rattle.demodulator.specs.Spans.{eight}
@@ -32,7 +31,6 @@ use Rattle.demodulator.proofs.StepInstances.{fresh-for-sample, room, room-enoug
 use Rattle.demodulator_laws.proofs.Turning.{sampled-free, sampled-rest, sampled-due}
 use Rattle.demodulator_laws.proofs.RecordInstances.{fresh-for-reply}
 use Rattle.demodulator.proofs.Demodulating.{sample-unfit, sample-owed, sample-cramped, sample-last, sample-taken, refuses, reply-unfit, reply-unasked, reply-taken, carrier-unfit, carrier-told}
-use Rattle.demodulator.proofs.Replying.{reply-ready}
 use Rattle.demodulator_laws.proofs.SampleFits.{controlOf, sampled-fits, replied-fits}
 use Rattle.demodulator_laws.proofs.WaitFits.{waiting-fit, settled-fit}
 use Rattle.demodulator_laws.proofs.SearchFits.{Outgrown}
@@ -159,9 +157,6 @@ reply-unasked-meets = reply-unasked fresh Accepted [] fresh-for-reply fresh-free
 
 pub reply-taken-meets : answered debtor Rejected [] ≡ record { answer = done; demodulator = settled debtor Rejected; room = [] }
 reply-taken-meets = reply-taken debtor Rejected [] debtor-for-reply refl
-
-reply-ready-meets : ready owed (firsts (eight 10 (back debtor)) 8) ≡ true
-reply-ready-meets = reply-ready debtor debtor-for-reply (firsts (eight 10 (back debtor)) 8) refl
 
 carrier-unfit-meets : detected past ≡ refusal 1
 unfolding past recordFit

@@ -13,9 +13,10 @@ use Rattle.search.specs.Turn.{Outcome, quiet, offer, sampled}
 use Rattle.demodulator.specs.declared.SoftDemodulator.{SoftDemodulator}
 use Rattle.demodulator.specs.Spans.{eight}
 use Rattle.demodulator.specs.Record.{back, stored}
-use Rattle.demodulator.specs.Calls.{Paper, refusal, nothing, frame, done, carrier, Left, finished, demodulated}
-use Rattle.demodulator.specs.Feed.{Stretch, goesOn, fed}
+use Rattle.demodulator.specs.Calls.{Left, finished, demodulated}
+use Rattle.demodulator.specs.Feed.{Stretch, fedFrom, fed, fedInto}
 use Rattle.demodulator.proofs.Demodulating.{sample-taken}
+use Rattle.demodulator.proofs.Feeding.{goes-on, restFrom}
 use Rattle.demodulator_laws.proofs.FitAgain.{InRange, Fits, Old, Accepted, Given, given-or-refused, fit-again}
 
 -- ---- the statement's words
@@ -45,19 +46,15 @@ module _ (m : SoftDemodulator) (x : ℤ) (room : List Float) where
       ]
 
 -- ---- the stretch
--- whatever holds of the record after a sample and after the rest holds where the stretch ends
-went : (P : SoftDemodulator → Type 0) (n : ℕ) (answer : Paper) (left : Left) (rest : Stretch) → P (left .demodulator) → P (rest .demodulator) → P (goesOn n answer left rest .demodulator)
-unfolding goesOn
-went P n nothing left rest p q = q
-went P n (frame kind d) left rest p q = p
-went P n (refusal number) left rest p q = p
-went P n done left rest p q = p
-went P n (carrier there) left rest p q = p
-
-pub feed-fit-again : (xs : List ℤ) → ((i : ℕ) → SFits w16 (getD xs i (pos 0))) → (n : ℕ) (m : SoftDemodulator) (room : List Float) → Usable m → Usable (fed n m xs room .demodulator)
-unfolding fed
-feed-fit-again [] small n m room u = u
-feed-fit-again (x ∷ xs) small n m room u =
+rest-usable : (xs : List ℤ) → ((i : ℕ) → SFits w16 (getD xs i (pos 0))) → (n : ℕ) (m : SoftDemodulator) (room : List Float) → Usable m → Usable (restFrom n m xs room .state)
+unfolding fedFrom
+rest-usable [] small n m room u = u
+rest-usable (x ∷ xs) small n m room u =
     let l = demodulated m x room in
     let after = sample-usable m x room (small 0) u in
-    went Usable n (l .answer) l (fed (n + 1) (l .demodulator) xs (l .room)) after (feed-fit-again xs (λ i. small (suc i)) (n + 1) (l .demodulator) (l .room) after)
+    goes-on (λ (t : Stretch SoftDemodulator). Usable (t .state)) (l .answer) _ _ _ u after (rest-usable xs (λ i. small (suc i)) (n + 1) (l .demodulator) (l .room) after)
+
+pub feed-fit-again : (xs : List ℤ) → ((i : ℕ) → SFits w16 (getD xs i (pos 0))) → (m : SoftDemodulator) (room : List Float) → Usable m → Usable (fedInto m xs room .state)
+unfolding fed
+feed-fit-again [] small m room u = u
+feed-fit-again (x ∷ xs) small m room u = rest-usable (x ∷ xs) small 0 m room u

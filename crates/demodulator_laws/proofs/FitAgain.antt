@@ -28,11 +28,10 @@ use Rattle.demodulator.specs.Spans.{eight}
 use Rattle.demodulator.specs.Record.{back, withControl, filteredAfter, stored}
 use Rattle.demodulator.specs.Fit.{cursorsFit, recordFit, placesRead, fitForSample, fitForReply}
 use Rattle.demodulator.specs.Calls.{Paper, refusal, Left, refused, finished, demodulated, settled, answered}
-use Rattle.demodulator.specs.Steps.{Rings}
 use Rattle.demodulator.proofs.Fitness.{record-facts, sample-record, reply-record}
 use Rattle.demodulator_laws.proofs.Grown.{withAge}
 use Rattle.demodulator_laws.proofs.SampleFits.{either, controlOf, sampled-fits, replied-fits}
-use Rattle.demodulator.proofs.Stepping.{set-holds, new-in-range, stored-rings, stored-eight}
+use Rattle.demodulator_laws.proofs.StoredFits.{Rings, set-holds, new-in-range, stored-rings, stored-eight}
 use Rattle.demodulator.proofs.Demodulating.{sample-unfit, sample-owed, sample-cramped, sample-last, sample-taken, reply-unfit, reply-unasked, reply-taken}
 
 -- ---- the statement's words

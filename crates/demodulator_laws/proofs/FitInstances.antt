@@ -7,7 +7,7 @@ use Prim.Native.Nat.{ℕ, zero, suc}
 use native.Mathlib.Omega.{arith}
 use lib.Dec.{T, lit<}
 use lib.IntN.{pos}
-use lib.ListN.{getD, getD-replicate}
+use lib.ListN.{getD, replicate, length-replicate, getD-replicate}
 use lib.Ieee.{nan, binary32, ofBits, lt, le}
 use mir.Syntax.{w16}
 use mir.Val.{SFits}
@@ -20,15 +20,38 @@ use Rattle.search.specs.declared.Timer.the-variants.{Off}
 use Rattle.search.specs.declared.Reply.the-variants.{Rejected}
 use Rattle.search.specs.Fit.{candidateFit, waitFit, controlFit}
 use Rattle.demodulator.specs.declared.SoftDemodulator.{SoftDemodulator}
-use Rattle.demodulator.specs.Record.{fresh, back, stored, withControl}
+use Rattle.demodulator.specs.Record.{fresh, back, windowAfter, filteredAfter, stored, withControl}
 use Rattle.demodulator.specs.Fit.{recordFit, fitForSample, fitForReply}
 use Rattle.demodulator.specs.Calls.{nothing, done, refusal, Left, demodulated, answered}
-use Rattle.demodulator.specs.Feed.{fed}
-use Rattle.demodulator.proofs.StepInstances.{fresh-for-sample, room, one-fits, fresh-rings}
+use Rattle.demodulator.specs.Feed.{fedInto}
+use Rattle.demodulator.proofs.StepInstances.{fresh-for-sample, room}
+use Rattle.demodulator_laws.proofs.StoredFits.{Rings, window-fits, new-in-range, stored-eight}
 use Rattle.demodulator_laws.proofs.FitAgain.{InRange, Fits, Old, Aged, Accepted, Given, back-in-range, given, stored-in-range, fit-again, reply-fit-again}
 use Rattle.demodulator_laws.proofs.FedFits.{Usable, feed-fit-again}
 use Rattle.demodulator_laws.proofs.RecordInstances.{fresh-for-reply}
 use Rattle.demodulator_laws.proofs.CallInstances.{fresh-answer, debtor, reply-taken-meets}
+
+-- ---- a stored sample
+pub one-fits : SFits w16 (pos 1)
+one-fits = record { sfits = lit< tt }
+
+same-all : {A : Type 0} (n i : ℕ) (x : A) → getD (replicate n x) i x ≡ x
+same-all zero i x = refl
+same-all (suc n) zero x = refl
+same-all (suc n) (suc i) x = same-all n i x
+
+pub fresh-rings : Rings (fresh .«filter_win») (fresh .«rx_win»)
+unfolding fresh
+fresh-rings = record { samples = λ i. rw (same-all 81 i (pos 0)) (record { sfits = lit< tt }); places = length-replicate 1920 (ofBits binary32 0) }
+
+window-fits-meets : SFits w16 (getD (windowAfter fresh (pos 1)) 80 (pos 0))
+window-fits-meets = window-fits fresh (pos 1) (fresh-rings .samples) one-fits 80
+
+new-in-range-meets : T (inRange (filteredAfter fresh (pos 1)))
+new-in-range-meets = new-in-range fresh (pos 1) (fresh-rings .samples) one-fits
+
+stored-eight-meets : T (inRange (back (stored fresh (pos 1)) 70))
+stored-eight-meets = stored-eight fresh (pos 1) (fresh-rings .samples) one-fits fresh-for-sample (fresh-rings .places) 0 (lit< tt)
 
 -- ---- a fresh record
 silent-in-range : T (inRange (ofBits binary32 0))
@@ -70,8 +93,8 @@ small : (i : ℕ) → SFits w16 (getD (pos 1 ∷ []) i (pos 0))
 small zero = one-fits
 small (suc i) = record { sfits = lit< tt }
 
-feed-fit-again-meets : Usable (fed 0 fresh (pos 1 ∷ []) room .demodulator)
-feed-fit-again-meets = feed-fit-again (pos 1 ∷ []) small 0 fresh room (record { in-range = fresh-in-range; fit = inl (record { for-sample = fresh-for-sample; for-reply = fresh-for-reply }) })
+feed-fit-again-meets : Usable (fedInto fresh (pos 1 ∷ []) room .state)
+feed-fit-again-meets = feed-fit-again (pos 1 ∷ []) small fresh room (record { in-range = fresh-in-range; fit = inl (record { for-sample = fresh-for-sample; for-reply = fresh-for-reply }) })
 
 -- one whose age is 255
 abbrev old : SoftDemodulator
@@ -81,5 +104,5 @@ old-is : Old old
 unfolding fresh fitForSample fitForReply recordFit controlFit candidateFit waitFit allBelow inRange ofBits le lt
 old-is = record { is = refl; else-fit = record { for-sample = refl; for-reply = refl } }
 
-feed-old-meets : Usable (fed 0 old (pos 1 ∷ []) room .demodulator)
-feed-old-meets = feed-fit-again (pos 1 ∷ []) small 0 old room (record { in-range = record { rings = fresh-in-range .rings; values = fresh-in-range .values }; fit = inr old-is })
+feed-old-meets : Usable (fedInto old (pos 1 ∷ []) room .state)
+feed-old-meets = feed-fit-again (pos 1 ∷ []) small old room (record { in-range = record { rings = fresh-in-range .rings; values = fresh-in-range .values }; fit = inr old-is })

@@ -13,7 +13,7 @@ use Rattle.search.specs.declared.Candidate.{Candidate}
 use Rattle.search.specs.declared.Candidate.the-variants.{Nothing, Held}
 use Rattle.search.specs.declared.Wait.{Wait}
 use Rattle.search.specs.declared.Wait.the-variants.{Free, Due}
-use Rattle.search.specs.Search.{ageOf, taken, heldAfter}
+use Rattle.search.specs.Search.{ageOf, older, taken, heldAfter}
 use Rattle.search.specs.Fit.{ageFit, diffFit, gainFit, shiftFit, candidateFit, held, waitFit}
 use Rattle.search.proofs.Fitness.{held-facts}
 use Rattle.search.proofs.Passing.{by-test}
@@ -71,7 +71,7 @@ module _ (m : Correlation) {low high : Float} (facts : MatchFacts m low high) wh
   unfolding heldAfter
   held-grown Nothing kind g = taken-grown kind
   held-grown (Held k age diff gain shift) kind g =
-      by-test Grown (lt diff (m .diff)) (Held k (age + 1) diff gain shift) (taken kind m)
+      by-test Grown (lt diff (m .diff)) (Held k (older age) diff gain shift) (taken kind m)
       (λ e. record { values = g .values; born = λ h. omega arith })
       (λ e. taken-grown kind)
 

@@ -7,14 +7,21 @@ pub mod Grown
 pub mod SearchFits
 -- so do a wait that goes on, and a reply
 pub mod WaitFits
+-- what a stored sample leaves
+pub mod StoredFits
 -- an accepted call leaves a fit record fit
 pub mod SampleFits
 pub mod FitAgain
 pub mod FedFits
+-- what one sample comes to
+pub mod SampleComes
+-- a refused stretch changes nothing
+pub mod RefusedFeed
 -- small instances of the laws of the record, of the search and of the calls: what they ask can be met
 pub mod RecordInstances
 pub mod SearchInstances
 pub mod CallInstances
 pub mod FitInstances
+pub mod FeedInstances
 -- each limit of a record, met and passed by one
 pub mod Limits

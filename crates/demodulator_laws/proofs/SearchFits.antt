@@ -18,7 +18,7 @@ use Rattle.search.specs.declared.Candidate.{Candidate}
 use Rattle.search.specs.declared.Candidate.the-variants.{Nothing, Held}
 use Rattle.search.specs.declared.Timer.the-variants.{Until}
 use Rattle.search.specs.declared.Control.{Control}
-use Rattle.search.specs.Search.{withTimer, withCandidate, rank, sameKind, ageOf, heldAfter, waitAfter, carried, missed, tried, passed, searched}
+use Rattle.search.specs.Search.{withTimer, withCandidate, rank, sameKind, ageOf, endAfter, heldAfter, waitAfter, carried, missed, tried, passed, searched}
 use Rattle.search.specs.Fit.{candidateFit, timerFit, held, waitFit, controlFit}
 use Rattle.search.proofs.Fitness.{age-most}
 use Rattle.search.proofs.Clauses.{clauses, joined}
@@ -64,8 +64,8 @@ module _ (p : ℕ) (symbol : 2 ≤ p) (v : ℕ → Float) (range : (i : ℕ) →
   carried-sound : (burst : SyncBurst) (c : Control) → c .sample ≤ 2 ^ 63 → Sound p c → Sound p (carried p burst v c)
   unfolding carried
   carried-sound burst c l s =
-      by-test (Sound p) (matches burst v) (withTimer (Until (c .sample + 24 * p)) c) c
-      (λ e. record { timer = le→leb (c .sample + 24 * p) (2 ^ 63 + 384 * p) (omega arith); candidate = s .candidate; wait = s .wait; owed = s .owed })
+      by-test (Sound p) (matches burst v) (withTimer (Until (endAfter (c .sample) (24 * p))) c) c
+      (λ e. record { timer = le→leb (endAfter (c .sample) (24 * p)) (2 ^ 63 + 384 * p) (omega arith); candidate = s .candidate; wait = s .wait; owed = s .owed })
       (λ e. s)
 
   missed-sound : (kind : Kind) (candidate : Candidate) (c : Control) → c .candidate ≡ candidate → c .sample ≤ 2 ^ 63 → ageOf (c .candidate) ≤ 255 → Sound p c → Sound p (missed p kind candidate c)
@@ -75,9 +75,9 @@ module _ (p : ℕ) (symbol : 2 ≤ p) (v : ℕ → Float) (range : (i : ℕ) →
       let same : ageOf (c .candidate) ≡ age = ap ageOf e in
       let holding : T (held (c .candidate)) = rw e tt in
       let born : 1 ≤ age = omega (arith, s .candidate .born holding) in
-      by-test (Sound p) (sameKind k kind) (record { candidate = c .candidate; wait = waitAfter p age; dcd = Until (c .sample + 384 * p); owed = c .owed; sample = c .sample }) c
+      by-test (Sound p) (sameKind k kind) (record { candidate = c .candidate; wait = waitAfter p age; dcd = Until (endAfter (c .sample) (384 * p)); owed = c .owed; sample = c .sample }) c
       (λ t. record {
-        timer = le→leb (c .sample + 384 * p) (2 ^ 63 + 384 * p) (omega arith);
+        timer = le→leb (endAfter (c .sample) (384 * p)) (2 ^ 63 + 384 * p) (omega arith);
         candidate = s .candidate;
         wait = due-fit p (184 * p - age) (c .candidate) (omega arith) (omega arith) holding;
         owed = s .owed;

@@ -1,22 +1,22 @@
 -- Small instances of the laws of the search: P6's values, the LSF's signs times 20 plus 5, with a diff of 2.0, at a control whose age is 254 and whose count is the largest. Assumes nothing.
-use mathlib.Core.Path.{_≡_, refl, sym, _∙_}
+use mathlib.Core.Path.{_≡_, refl}
 use mathlib.Core.Logic.{_⊎_}
 use mathlib.Core.Bool.{true, false}
 use mathlib.Core.List.{List, [], _∷_, map}
 use Prim.Native.Nat.{ℕ, _^_, _<_}
 use lib.Dec.{T, lit≤}
 use lib.IntN.{pos, negsuc}
+use lib.ListN.{replicate}
 use lib.Ieee.{Float, binary32, ofBits, ofInt, add, sub, div, lt, le, eq}
 use Rattle.numbers.specs.Choice.{larger, smaller, sizeOf}
 use Rattle.numbers.specs.Below.{anyBelow, allBelow}
 use Rattle.numbers.specs.Sum.{sumTo}
 use Rattle.numbers.proofs.Below.{all-below}
 use Rattle.protocol.specs.declared.Kind.the-variants.{Lsf}
-use Rattle.protocol.specs.declared.SyncBurst.{SyncBurst}
-use Rattle.protocol.specs.declared.SyncBurst.the-variants.{Preamble, Frame}
+use Rattle.protocol.specs.declared.SyncBurst.the-variants.{Frame}
 use Rattle.protocol.specs.Bursts.{signsOf, spelled, wordOf, signOf}
 use Rattle.decode.specs.declared.Spread.{Spread}
-use Rattle.decode.specs.Correlator.{threshold, heard, highest, lowest, gainOf, shiftOf, symbolOf, distanceOf, summed, diffOf, correlation, matches, inRange}
+use Rattle.decode.specs.Correlator.{leastGain, threshold, heard, highest, lowest, gainOf, shiftOf, symbolOf, distanceOf, summed, diffOf, correlation, matches, inRange}
 use Rattle.decode.specs.Parts.{valuesOf, spreadOf, answerFrom}
 use Rattle.search.specs.declared.Candidate.the-variants.{Held}
 use Rattle.search.specs.declared.Wait.the-variants.{Free}
@@ -26,13 +26,11 @@ use Rattle.search.specs.declared.Reply.the-variants.{Rejected}
 use Rattle.search.specs.Search.{ageOf, heldAfter, carried, missed, tried, passed, searched}
 use Rattle.search.specs.Turn.{sampled, replied}
 use Rattle.search.specs.Fit.{candidateFit, waitFit, controlFit}
-use Rattle.search.specs.Parts.{Sensed, Carries, Tries, TryReady, SearchReady, silent}
-use Rattle.search.specs.Ready.{ready}
-use Rattle.search.proofs.Fitness.{ControlFacts, control-facts, fit-ready, ready-search}
+use Rattle.search.proofs.Fitness.{ControlFacts, control-facts}
 use Rattle.search.proofs.Searching.{searched-same, replied-same}
 use Rattle.search.proofs.Passing.{Passing, passing, tried-passing}
-use Rattle.search.proofs.Sensing.{answer-own, test-own, carried-ready, try-ready, tried-next}
-use Rattle.search.proofs.Silent.{silent-search}
+use Rattle.search.proofs.Compared.{match-own, Sensed, compared-own}
+use Rattle.search.proofs.Silent.{silent-search, faint}
 use Rattle.demodulator.specs.Record.{freshControl}
 use Rattle.demodulator_laws.proofs.Turning.{sampled-same}
 use Rattle.demodulator_laws.proofs.SearchFits.{Outgrown, search-fits}
@@ -76,20 +74,11 @@ sixth-spread = spreadOf (valuesOf sixth-heard)
 sixth-sensed : Sensed sixth sixth-heard sixth-spread
 sixth-sensed = record { values = refl; spread = refl }
 
-test-own-meets : matches (Frame Lsf) (valuesOf sixth) ≡ lt (answerFrom (Frame Lsf) (valuesOf sixth-heard) sixth-spread .diff) threshold
-test-own-meets = test-own sixth _ _ sixth-sensed (Frame Lsf) _ refl
+compared-own-meets : answerFrom (Frame Lsf) (valuesOf sixth-heard) sixth-spread ≡ correlation (Frame Lsf) (valuesOf sixth)
+compared-own-meets = compared-own sixth-sensed (Frame Lsf) _ refl
 
--- whatever values are heard as these
-heard-alike : (burst : SyncBurst) (vs : List Float) → Sensed vs sixth-heard sixth-spread → correlation burst (valuesOf vs) ≡ correlation burst (valuesOf sixth)
-heard-alike burst vs sensed = sym (answer-own vs _ _ sensed burst _ refl) ∙ answer-own sixth _ _ sixth-sensed burst _ refl
-
-carries-sixth : Carries Preamble sixth-heard sixth-spread oldest (carried 10 Preamble (valuesOf sixth) oldest)
-unfolding carried matches
-carries-sixth vs sensed = rw (heard-alike Preamble vs sensed)
-
-tries-sixth : Tries Lsf sixth-heard sixth-spread oldest (tried 10 (valuesOf sixth) Lsf oldest)
-unfolding tried matches
-tries-sixth vs sensed = rw (heard-alike (Frame Lsf) vs sensed)
+match-own-meets : matches (Frame Lsf) (valuesOf sixth) ≡ lt (correlation (Frame Lsf) (valuesOf sixth) .diff) threshold
+match-own-meets = match-own (Frame Lsf) (valuesOf sixth) _ refl
 
 -- ---- the pass
 begun : Passing (valuesOf sixth) 254 0 oldest
@@ -98,24 +87,9 @@ begun = passing (valuesOf sixth) 254 oldest (lit≤ tt) (lit≤ tt)
 passing-meets : Passing (valuesOf sixth) 254 1 (tried 10 (valuesOf sixth) Lsf oldest)
 passing-meets = tried-passing 10 (valuesOf sixth) sixth-range 254 Lsf oldest begun
 
-try-ready-meets : TryReady oldest Lsf sixth-heard sixth-spread
-try-ready-meets = try-ready sixth _ _ sixth-sensed Lsf oldest begun
-
-tried-next-meets : Passing (valuesOf sixth) 254 1 (tried 10 (valuesOf sixth) Lsf oldest)
-tried-next-meets = tried-next sixth _ _ sixth-sensed sixth-range Lsf oldest _ tries-sixth begun
-
 -- ---- fitness
 control-facts-meets : ControlFacts oldest
 control-facts-meets = control-facts oldest oldest-fit
-
-fit-ready-meets : ready oldest sixth ≡ true
-fit-ready-meets = fit-ready oldest sixth sixth-range oldest-fit
-
-ready-search-meets : SearchReady oldest sixth
-ready-search-meets = ready-search oldest sixth fit-ready-meets
-
-carried-ready-meets : SearchReady (carried 10 Preamble (valuesOf sixth) oldest) sixth
-carried-ready-meets = carried-ready sixth _ _ sixth-sensed Preamble oldest _ carries-sixth ready-search-meets
 
 search-fits-meets : T (controlFit 10 (searched 10 (valuesOf sixth) oldest)) ⊎ Outgrown 10 oldest (searched 10 (valuesOf sixth) oldest)
 search-fits-meets = search-fits 10 (lit≤ tt) (valuesOf sixth) sixth-range oldest oldest-fit refl
@@ -126,12 +100,15 @@ unfolding searched passed tried missed heldAfter carried matches correlation dif
 comes-back = refl
 
 -- ---- nothing to do: no candidate, and silence
-zeros : ℕ → Float
-zeros i = ofBits binary32 0
+abbrev zeros : List Float
+zeros = replicate 8 (ofBits binary32 0)
 
-zeros-silent : silent zeros freshControl ≡ true
-unfolding zeros matches correlation diffOf summed sumTo anyBelow distanceOf symbolOf shiftOf gainOf highest lowest heard larger smaller sizeOf signsOf spelled wordOf signOf add sub div lt eq ofInt ofBits
-zeros-silent = refl
+zeros-sensed : Sensed zeros (map heard zeros) (spreadOf (valuesOf (map heard zeros)))
+zeros-sensed = record { values = refl; spread = refl }
 
-silent-search-meets : searched 10 zeros freshControl ≡ freshControl
-silent-search-meets = silent-search 10 zeros freshControl zeros-silent
+zeros-faint : lt (spreadOf (valuesOf (map heard zeros)) .gain) leastGain ≡ true
+unfolding gainOf highest lowest heard larger smaller add sub div lt eq ofBits
+zeros-faint = refl
+
+silent-search-meets : searched 10 (valuesOf zeros) freshControl ≡ freshControl
+silent-search-meets = silent-search 10 (valuesOf zeros) freshControl (faint zeros-sensed zeros-faint) refl

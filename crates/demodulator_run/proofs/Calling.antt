@@ -15,9 +15,9 @@ use Rattle.search.specs.Turn.{Outcome, quiet, offer, sampled, replied}
 use Rattle.demodulator.specs.Spans.{eight}
 use Rattle.demodulator.specs.Calls.{done}
 use Rattle.demodulator_run.specs.Filter.{filtered, ago}
-use Rattle.demodulator_run.specs.Rules.{Call, sample, reply, query, Heard, After, refused, settled, accepted, given, answered, called, heardFrom}
+use Rattle.demodulator_run.specs.Rules.{Single, sample, reply, query, Heard, After, refused, settled, accepted, given, answered, single, heardFrom}
 use Rattle.demodulator_run.specs.Marks.{Mark, isRefusal, sampledMarks, repliedMarks, stepMarks, calledMarks}
-use Rattle.demodulator_run.specs.Demands.{Ear, earOf, Alone, NotAgain}
+use Rattle.demodulator_run.specs.Demands.{SymbolSize, Ear, earOf, Alone, NotAgain}
 use Rattle.demodulator_run.proofs.Phase.{Kept}
 use Rattle.demodulator_laws.proofs.SampleFits.{controlOf}
 use Rattle.demodulator_run.proofs.Turning.{sampled-kept, replied-kept}
@@ -47,8 +47,8 @@ module _ (table : List Float) (p : ℕ) where
   extends-if h true x y u v = u
   extends-if h false x y u v = v
 
-  called-extends : (h : Heard) (c : Call) → Extends h (called table p h c .heard)
-  unfolding called given answered
+  called-extends : (h : Heard) (c : Single) → Extends h (single table p h c .heard)
+  unfolding single given answered
   called-extends h (sample x room) =
       let xs : List ℤ = h .samples ++ (x ∷ []) in
       let e : Extends h (accepted table p h x room .heard) = (x ∷ [], settled-samples xs room (sampled p (eight p (ago table p xs)) (h .control))) in
@@ -56,16 +56,16 @@ module _ (table : List Float) (p : ℕ) where
   called-extends h (reply r) = extends-if h (not (h .control .owed)) _ _ (same h) (([], sym (append-nil (h .samples))))
   called-extends h query = same h
 
-  pub heard-extends : (h : Heard) (cs : List Call) → Extends h (heardFrom table p h cs)
+  pub heard-extends : (h : Heard) (cs : List Single) → Extends h (heardFrom table p h cs)
   unfolding heardFrom
   heard-extends h [] = same h
   heard-extends h (c ∷ cs) =
       let (m, e) = called-extends h c in
-      let (m', f) = heard-extends (called table p h c .heard) cs in
+      let (m', f) = heard-extends (single table p h c .heard) cs in
       (m ++ m', f ∙ ap (λ (xs : List ℤ). xs ++ m') e ∙ append-assoc (h .samples) m m')
 
   -- ---- a call keeps the invariant
-  module _ (ear : Ear) (big : 0 < p) (alone : Alone ear) (again : NotAgain ear p) (l : List Mark) where
+  module _ (ear : Ear) (big : SymbolSize p) (alone : Alone ear) (again : NotAgain ear p) (l : List Mark) where
     -- what a call came to, with the marks that it would make if it is accepted
     abbrev Good : List Mark → After → Type 0
     Good marks a = Kept ear p (l ++ cond (isRefusal (a .said .answer)) [] marks) (a .heard .control) × Counted (a .heard)
@@ -118,8 +118,8 @@ module _ (table : List Float) (p : ℕ) where
       abbrev past2 : ℤ → List Float → After
       past2 x room = cond (ltb (length room) 192) (refused 4 room h) (past4 x room)
 
-      good-called : (c : Call) → Agrees (called table p h c .heard .samples) → Good (stepMarks table p h c) (called table p h c)
-      unfolding called given answered stepMarks
+      good-called : (c : Single) → Agrees (single table p h c .heard .samples) → Good (stepMarks table p h c) (single table p h c)
+      unfolding single given answered stepMarks
       good-called (sample x room) =
           let xs : List ℤ = h .samples ++ (x ∷ []) in
           let marks : List Mark = stepMarks table p h (sample x room) in
@@ -132,9 +132,9 @@ module _ (table : List Float) (p : ℕ) where
           good-if marks (not (h .control .owed)) _ _ (λ o e. good-refused marks 3 []) (λ o e. good-replied r (not-false (h .control .owed) o) e)
       good-called query = λ e. good-quiet
         where
-          good-quiet : Good (stepMarks table p h query) (called table p h query)
+          good-quiet : Good (stepMarks table p h query) (single table p h query)
           good-quiet = (subst (λ (m : List Mark). Kept ear p m (h .control)) (sym (append-nil l)) I, n)
 
-      pub called-kept : (c : Call) → Agrees (called table p h c .heard .samples) → Kept ear p (l ++ calledMarks table p h c) (called table p h c .heard .control) × Counted (called table p h c .heard)
+      pub called-kept : (c : Single) → Agrees (single table p h c .heard .samples) → Kept ear p (l ++ calledMarks table p h c) (single table p h c .heard .control) × Counted (single table p h c .heard)
       unfolding calledMarks
       called-kept c e = good-called c e

@@ -4,9 +4,9 @@ use mathlib.Core.List.{List}
 use Prim.Native.Nat.{ℕ, _+_, _*_, _<_}
 use lib.ListN.{length}
 use lib.Ieee.{Float}
-use Rattle.demodulator_run.specs.Rules.{Call, heardAll}
+use Rattle.demodulator_run.specs.Rules.{Single, heardAll}
 use Rattle.demodulator_run.specs.Marks.{logAll}
-use Rattle.demodulator_run.specs.Demands.{Ear, earOf, Alone, NotAgain, Apart, DueSpan, DueFrom, DueCause, DueOnce, AgeAtMost, DueRule}
+use Rattle.demodulator_run.specs.Demands.{SymbolSize, Ear, earOf, Alone, NotAgain, Apart, DueSpan, DueFrom, DueCause, DueOnce, AgeAtMost, DueRule}
 use Rattle.demodulator_run.proofs.Phase.{Kept}
 use Rattle.demodulator_run.proofs.Run.{kept-all, counted-all}
 use Rattle.demodulator_run.proofs.Span.{once-of, span-again, cause-again, from-again, age-again, span-apart, cause-apart, from-apart, age-apart, span-wider, age-wider}
@@ -17,13 +17,13 @@ apart→again ear p apart k = apart k k
 
 module _ (table : List Float) (p : ℕ) where
   -- what is heard in the run, what is logged in it, and how many samples were accepted
-  abbrev pub earAll : List Call → Ear
+  abbrev pub earAll : List Single → Ear
   earAll cs = earOf table p (heardAll table p cs .samples)
 
-  abbrev pub fedAll : List Call → ℕ
+  abbrev pub fedAll : List Single → ℕ
   fedAll cs = length (heardAll table p cs .samples)
 
-  module _ (big : 0 < p) (cs : List Call) (alone : Alone (earAll cs)) where
+  module _ (big : SymbolSize p) (cs : List Single) (alone : Alone (earAll cs)) where
     module _ (again : NotAgain (earAll cs) p) where
       invariant : Kept (earAll cs) p (logAll table p cs) (heardAll table p cs .control)
       invariant = kept-all table p cs big alone again

@@ -9,13 +9,13 @@ use Rattle.protocol.specs.declared.Kind.{Kind}
 use Rattle.decode.specs.declared.Correlation.{Correlation}
 use Rattle.search.specs.Search.{rank}
 use Rattle.demodulator_run.specs.Marks.{Mark, Anew, Failed}
-use Rattle.demodulator_run.specs.Demands.{Ear, at, Matches, Unmatched, Above, Started, Taken, Standing, NotAgain, Shown, shownAt, DueBy, Corner}
+use Rattle.demodulator_run.specs.Demands.{SymbolSize, Ear, at, Matches, Unmatched, Above, Started, Taken, Standing, NotAgain, Shown, shownAt, DueBy, Corner}
 use Rattle.demodulator_run.proofs.Log.{more, taken-either, standing-either, shown-either, started-old, standing-old, due-shown, shown-due, stood}
 use Rattle.demodulator_run.proofs.Account.{SomeMatch, Episode, account-more}
 use Rattle.demodulator_run.proofs.Phase.{Busy, Holding, Awaiting, valued}
 use Rattle.demodulator_run.proofs.Hold.{young, near}
 
-module _ (ear : Ear) (p : ℕ) (big : 0 < p) (again : NotAgain ear p) (l : List Mark) (n : ℕ) (k : Kind) (age : ℕ) (diff gain shift : Float)
+module _ (ear : Ear) (p : ℕ) (big : SymbolSize p) (again : NotAgain ear p) (l : List Mark) (n : ℕ) (k : Kind) (age : ℕ) (diff gain shift : Float)
     (H : Holding ear p l n k age diff gain shift) (lost : Unmatched ear k (n + 1)) where
   -- what the marks of that sample may add: a take by a later-listed kind, which does not stand
   record Adds (l' : List Mark) : Type 0 where

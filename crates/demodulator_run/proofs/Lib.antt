@@ -67,10 +67,20 @@ pub mod SameWindow
 pub mod Step
 -- all calls
 pub mod Whole
+-- single calls since a fresh start
+pub mod SinglesRun
+-- a stretch of samples in one call
+pub mod StretchAgrees
 -- demand 2
 pub mod ReceiverRun
--- a stretch of samples in one call
-pub mod Feeding
+-- a list of calls as single ones
+pub mod Singles
+-- an offer and the wait that it ends
+pub mod OfferSeen
+-- a take and its mark
+pub mod TakenSeen
+-- demand 3 at the caller's side
+pub mod CallerSees
 -- a refused call changes nothing
 pub mod Refused
 -- examples, computed

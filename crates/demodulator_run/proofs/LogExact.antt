@@ -14,9 +14,9 @@ use Rattle.search.specs.declared.Reply.{Reply}
 use Rattle.search.specs.Turn.{sampled}
 use Rattle.demodulator.specs.Spans.{eight}
 use Rattle.demodulator_run.specs.Filter.{ago}
-use Rattle.demodulator_run.specs.Rules.{Call, sample, reply, query, Heard, After, start, refused, accepted, given, answered, called, heardFrom, heardAll}
+use Rattle.demodulator_run.specs.Rules.{Single, sample, reply, query, Heard, After, start, refused, accepted, given, answered, single, heardFrom, heardAll}
 use Rattle.demodulator_run.specs.Marks.{Mark, isRefusal, sampledMarks, repliedMarks, stepMarks, calledMarks, logFrom, logAll}
-use Rattle.demodulator_run.specs.Demands.{Ear, earOf, Alone, NotAgain, In}
+use Rattle.demodulator_run.specs.Demands.{SymbolSize, Ear, earOf, Alone, NotAgain, In}
 use Rattle.demodulator_run.specs.Exact.{ByRules, MarkedAt}
 use Rattle.demodulator_run.proofs.Calling.{settled-samples}
 use Rattle.demodulator_run.proofs.Run.{On, heard-now, on-split, on-start}
@@ -25,23 +25,23 @@ use Rattle.demodulator_run.proofs.StepExact.{nothing-exact, no-sample, 
 
 module _ (table : List Float) (p : ℕ) where
   -- ---- the log is made of the calls' marks
-  abbrev Found : Mark → Heard → List Call → Type 0
-  Found y h cs = (before : List Call) × (call : Call) × (after : List Call) × (cs ≡ before ++ (call ∷ after)) × In y (calledMarks table p (heardFrom table p h before) call)
+  abbrev Found : Mark → Heard → List Single → Type 0
+  Found y h cs = (before : List Single) × (call : Single) × (after : List Single) × (cs ≡ before ++ (call ∷ after)) × In y (calledMarks table p (heardFrom table p h before) call)
 
-  logged : (y : Mark) (h : Heard) (cs : List Call) → In y (logFrom table p h cs) → Found y h cs
+  logged : (y : Mark) (h : Heard) (cs : List Single) → In y (logFrom table p h cs) → Found y h cs
   unfolding logFrom heardFrom
   logged y h [] i = absurd (List·Memᴰ·not-nil i)
-  logged y h (c ∷ cs) i = later (λ j. logged y (called table p h c .heard) cs j) (List·Memᴰ·append-cases (calledMarks table p h c) i)
+  logged y h (c ∷ cs) i = later (λ j. logged y (single table p h c .heard) cs j) (List·Memᴰ·append-cases (calledMarks table p h c) i)
     where
-      later : (In y (logFrom table p (called table p h c .heard) cs) → Found y (called table p h c .heard) cs)
-          → In y (calledMarks table p h c) ⊎ In y (logFrom table p (called table p h c .heard) cs) → Found y h (c ∷ cs)
+      later : (In y (logFrom table p (single table p h c .heard) cs) → Found y (single table p h c .heard) cs)
+          → In y (calledMarks table p h c) ⊎ In y (logFrom table p (single table p h c .heard) cs) → Found y h (c ∷ cs)
       later more (inl j) = ([], c, cs, refl, j)
-      later more (inr j) = let (b, d, a, e, k) = more j in (c ∷ b, d, a, ap (λ (l : List Call). c ∷ l) e, k)
+      later more (inr j) = let (b, d, a, e, k) = more j in (c ∷ b, d, a, ap (λ (l : List Single). c ∷ l) e, k)
 
-  in-log : (y : Mark) (h : Heard) (before : List Call) (call : Call) (after : List Call) → In y (calledMarks table p (heardFrom table p h before) call) → In y (logFrom table p h (before ++ (call ∷ after)))
+  in-log : (y : Mark) (h : Heard) (before : List Single) (call : Single) (after : List Single) → In y (calledMarks table p (heardFrom table p h before) call) → In y (logFrom table p h (before ++ (call ∷ after)))
   unfolding logFrom heardFrom
-  in-log y h [] call after i = Memᴰ·append-left (logFrom table p (called table p h call .heard) after) i
-  in-log y h (c ∷ before) call after i = Memᴰ·append-right (calledMarks table p h c) (in-log y (called table p h c .heard) before call after i)
+  in-log y h [] call after i = Memᴰ·append-left (logFrom table p (single table p h call .heard) after) i
+  in-log y h (c ∷ before) call after i = Memᴰ·append-right (calledMarks table p h c) (in-log y (single table p h c .heard) before call after i)
 
   -- ---- what an accepted call was
   module _ (h : Heard) where
@@ -50,7 +50,7 @@ module _ (table : List Float) (p : ℕ) where
     not-refused P true number room a f e = absurd (true≢false e)
     not-refused P false number room a f e = f refl e
 
-    accepted-given : (x : ℤ) (room : List Float) → isRefusal (given table p h x room .said .answer) ≡ false → given table p h x room .heard .samples ≡ h .samples ++ (x ∷ [])
+    pub accepted-given : (x : ℤ) (room : List Float) → isRefusal (given table p h x room .said .answer) ≡ false → given table p h x room .heard .samples ≡ h .samples ++ (x ∷ [])
     unfolding given
     accepted-given x room =
         let P : After → Type 0 = λ a. a .heard .samples ≡ h .samples ++ (x ∷ []) in
@@ -59,16 +59,16 @@ module _ (table : List Float) (p : ℕ) where
         not-refused P (eqb (h .control .sample) (2 ^ 63)) 5 room (accepted table p h x room) λ m e.
         settled-samples table p (h .samples ++ (x ∷ [])) room (sampled p (eight p (ago table p (h .samples ++ (x ∷ [])))) (h .control))
 
-    accepted-answered : (r : Reply) → isRefusal (answered table p h r .said .answer) ≡ false → (h .control .owed ≡ true) × (answered table p h r .heard .samples ≡ h .samples)
+    pub accepted-answered : (r : Reply) → isRefusal (answered table p h r .said .answer) ≡ false → (h .control .owed ≡ true) × (answered table p h r .heard .samples ≡ h .samples)
     unfolding answered
     accepted-answered r =
         let P : After → Type 0 = λ a. (h .control .owed ≡ true) × (a .heard .samples ≡ h .samples) in
         not-refused P (not (h .control .owed)) 3 [] _ λ o e. (not-false (h .control .owed) o, refl)
 
   -- ---- a call
-  module _ (ear : Ear) (alone : Alone ear) (h : Heard) (after : List Call) (l : List Mark) where
-    step-exact : (call : Call) → On table p ear h (call ∷ after) l → isRefusal (called table p h call .said .answer) ≡ false → Exactly (λ (y : Mark). ByRules ear y h call) (stepMarks table p h call)
-    unfolding called stepMarks
+  module _ (ear : Ear) (alone : Alone ear) (h : Heard) (after : List Single) (l : List Mark) where
+    step-exact : (call : Single) → On table p ear h (call ∷ after) l → isRefusal (single table p h call .said .answer) ≡ false → Exactly (λ (y : Mark). ByRules ear y h call) (stepMarks table p h call)
+    unfolding single stepMarks
     step-exact (sample x room) O e =
         let xs : List ℤ = h .samples ++ (x ∷ []) in
         let n : h .control .sample + 1 ≡ length (h .samples ++ (x ∷ [])) = let c = O .counted in omega (arith, length-append (h .samples) (x ∷ [])) in
@@ -84,11 +84,11 @@ module _ (table : List Float) (p : ℕ) where
         (reply-exact ear p alone (h .samples) (h .control .dcd) (h .control .owed) (h .control .sample) l r (h .control .candidate) (h .control .wait) o (O .kept))
     step-exact query O e = nothing-exact ear h query (λ c s. s) (no-sample ear h query (λ x room q. let z : _≡_ {A = ℕ} 0 1 = cc in omega arith))
 
-    call-exact : (call : Call) → On table p ear h (call ∷ after) l → (y : Mark)
-        → (In y (calledMarks table p h call) → (isRefusal (called table p h call .said .answer) ≡ false) × ByRules ear y h call)
-        × (isRefusal (called table p h call .said .answer) ≡ false → ByRules ear y h call → In y (calledMarks table p h call))
+    call-exact : (call : Single) → On table p ear h (call ∷ after) l → (y : Mark)
+        → (In y (calledMarks table p h call) → (isRefusal (single table p h call .said .answer) ≡ false) × ByRules ear y h call)
+        × (isRefusal (single table p h call .said .answer) ≡ false → ByRules ear y h call → In y (calledMarks table p h call))
     unfolding calledMarks
-    call-exact call O y = go (isRefusal (called table p h call .said .answer)) (step-exact call O)
+    call-exact call O y = go (isRefusal (single table p h call .said .answer)) (step-exact call O)
       where
         go : (b : Bool) → (b ≡ false → Exactly (λ (y : Mark). ByRules ear y h call) (stepMarks table p h call))
             → (In y (cond b [] (stepMarks table p h call)) → (b ≡ false) × ByRules ear y h call) × (b ≡ false → ByRules ear y h call → In y (cond b [] (stepMarks table p h call)))
@@ -96,12 +96,12 @@ module _ (table : List Float) (p : ℕ) where
         go false E = (λ i. (refl, E refl y .0 i), λ e. E refl y .1)
 
   -- ---- the log
-  module _ (big : 0 < p) (cs : List Call) (alone : Alone (earOf table p (heardAll table p cs .samples))) (again : NotAgain (earOf table p (heardAll table p cs .samples)) p) (y : Mark) where
+  module _ (big : SymbolSize p) (cs : List Single) (alone : Alone (earOf table p (heardAll table p cs .samples))) (again : NotAgain (earOf table p (heardAll table p cs .samples)) p) (y : Mark) where
     abbrev ear : Ear
     ear = earOf table p (heardAll table p cs .samples)
 
-    at-call : (before : List Call) (call : Call) (after : List Call) → cs ≡ before ++ (call ∷ after) → (m : List Mark) × On table p ear (heardFrom table p start before) (call ∷ after) m
-    at-call before call after e = on-split table p ear big alone again start before call after [] (subst (λ (l : List Call). On table p ear start l []) e (on-start table p cs))
+    pub at-call : (before : List Single) (call : Single) (after : List Single) → cs ≡ before ++ (call ∷ after) → (m : List Mark) × On table p ear (heardFrom table p start before) (call ∷ after) m
+    at-call before call after e = on-split table p ear big alone again start before call after [] (subst (λ (l : List Single). On table p ear start l []) e (on-start table p cs))
 
     marked : In y (logAll table p cs) → MarkedAt table p ear y start cs
     marked i =
@@ -113,7 +113,7 @@ module _ (table : List Float) (p : ℕ) where
     stands : MarkedAt table p ear y start cs → In y (logAll table p cs)
     stands M =
         let (m, O) = at-call (M .before) (M .call) (M .after) (M .split) in
-        subst (λ (l : List Call). In y (logFrom table p start l)) (sym (M .split))
+        subst (λ (l : List Single). In y (logFrom table p start l)) (sym (M .split))
         (in-log y start (M .before) (M .call) (M .after) (call-exact ear alone (heardFrom table p start (M .before)) (M .after) m (M .call) O y .1 (M .accepted) (M .rules)))
 
     pub log-exact : In y (logAll table p cs) ↔ MarkedAt table p ear y start cs

@@ -17,7 +17,7 @@ use Rattle.search.specs.declared.Wait.the-variants.{Free}
 use Rattle.search.specs.declared.Timer.{Timer}
 use Rattle.search.specs.declared.Timer.the-variants.{Until}
 use Rattle.search.specs.declared.Control.{Control}
-use Rattle.search.specs.Search.{withTimer, withCandidate, carried, sameKind, taken, heldAfter, waitAfter, missed, tried, passed, searched}
+use Rattle.search.specs.Search.{withTimer, withCandidate, carried, sameKind, older, endAfter, taken, heldAfter, waitAfter, missed, tried, passed, searched}
 use Rattle.demodulator_run.specs.Marks.{Mark, First, Anew, Failed, takenMarks, missedMarks, triedMarks, passedMarks, searchedMarks}
 use Rattle.demodulator_run.proofs.Listing.{Place, Before, Level, After, place}
 
@@ -61,8 +61,8 @@ module _ (p : ℕ) (v : ℕ → Float) where
   unfolding carried
   carried-timer burst c = go (matches burst v)
     where
-      go : (b : Bool) → (t : Timer) × (cond b (withTimer (Until (c .sample + 24 * p)) c) c ≡ withTimer t c)
-      go true = (Until (c .sample + 24 * p), refl)
+      go : (b : Bool) → (t : Timer) × (cond b (withTimer (Until (endAfter (c .sample) (24 * p))) c) c ≡ withTimer t c)
+      go true = (Until (endAfter (c .sample) (24 * p)), refl)
       go false = (c .dcd, refl)
 
   -- the search is the pass, under some timer
@@ -90,24 +90,24 @@ module _ (p : ℕ) (m : Kind → Correlation) (t : Timer) (o : Bool) (n : ℕ) w
   module _ (age : ℕ) (diff gain shift : Float) where
     -- the held kind fails
     pub pass-lost : (k : Kind) → passBy p (λ k. false) m (controlled (Held k age diff gain shift) Free t o n)
-        ≡ record { control = controlled (Held k age diff gain shift) (waitAfter p age) (Until (n + 384 * p)) o n; marks = Failed n k ∷ [] }
+        ≡ record { control = controlled (Held k age diff gain shift) (waitAfter p age) (Until (endAfter n (384 * p))) o n; marks = Failed n k ∷ [] }
     unfolding passBy turn turnMarks missed missedMarks
     pass-lost Lsf = refl
     pass-lost Bert = refl
     pass-lost Stream = refl
     pass-lost Packet = refl
 
-    -- kind j alone matches while kind k is held; `above`: its diff is above
-    abbrev pub struck : Place → Bool → Kind → Kind → Step
-    struck Before true j k = record { control = controlled (Held k (age + 1) diff gain shift) (waitAfter p (age + 1)) (Until (n + 384 * p)) o n; marks = Failed n k ∷ [] }
-    struck Before false j k = record { control = controlled (taken j (m j)) Free t o n; marks = Anew n k j ∷ [] }
-    struck Level true j k = record { control = controlled (Held k (age + 1) diff gain shift) Free t o n; marks = [] }
-    struck Level false j k = record { control = controlled (taken j (m j)) Free t o n; marks = Anew n k j ∷ [] }
-    struck After true j k = record { control = controlled (Held k (age + 1) diff gain shift) (waitAfter p age) (Until (n + 384 * p)) o n; marks = Failed n k ∷ [] }
-    struck After false j k = record { control = controlled (taken j (m j)) (waitAfter p age) (Until (n + 384 * p)) o n; marks = Failed n k ∷ Anew n k j ∷ [] }
+    -- kind j alone matches while kind k is held; `above`: its diff is above. A held one's age becomes `aged`
+    abbrev pub struck : ℕ → Place → Bool → Kind → Kind → Step
+    struck aged Before true j k = record { control = controlled (Held k aged diff gain shift) (waitAfter p aged) (Until (endAfter n (384 * p))) o n; marks = Failed n k ∷ [] }
+    struck aged Before false j k = record { control = controlled (taken j (m j)) Free t o n; marks = Anew n k j ∷ [] }
+    struck aged Level true j k = record { control = controlled (Held k aged diff gain shift) Free t o n; marks = [] }
+    struck aged Level false j k = record { control = controlled (taken j (m j)) Free t o n; marks = Anew n k j ∷ [] }
+    struck aged After true j k = record { control = controlled (Held k aged diff gain shift) (waitAfter p age) (Until (endAfter n (384 * p))) o n; marks = Failed n k ∷ [] }
+    struck aged After false j k = record { control = controlled (taken j (m j)) (waitAfter p age) (Until (endAfter n (384 * p))) o n; marks = Failed n k ∷ Anew n k j ∷ [] }
 
     pub pass-hit : (j k : Kind) (above : Bool) → lt diff (m j .diff) ≡ above
-        → passBy p (sameKind j) m (controlled (Held k age diff gain shift) Free t o n) ≡ struck (place j k) above j k
+        → passBy p (sameKind j) m (controlled (Held k age diff gain shift) Free t o n) ≡ struck (older age) (place j k) above j k
     unfolding passBy turn turnMarks missed missedMarks heldAfter takenMarks
     pass-hit Lsf Lsf true e = rw e
     pass-hit Lsf Lsf false e = rw e

@@ -1,6 +1,6 @@
 -- "Every refusal returns its number only, with record and buffers as they were": of the rules, at whatever they have heard, and of every record, made-up ones too. Assumes nothing.
 use mathlib.Core.Path.{_≡_, refl, ap}
-use mathlib.Core.Bool.{not}
+use mathlib.Core.Bool.{true, not}
 use mathlib.Core.List.{List, [], _∷_, _++_}
 use Prim.Native.Nat.{ℕ, _^_}
 use native.Mathlib.Omega.{arith}
@@ -8,23 +8,37 @@ use lib.Dec.{eqb, ltb}
 use lib.IntN.{ℤ}
 use lib.ListN.{length}
 use lib.Ieee.{Float}
+use Rattle.machine.specs.Runs.{run, answers}
 use Rattle.search.specs.Turn.{Outcome, quiet, offer, sampled}
 use Rattle.search.proofs.Passing.{by-test}
 use Rattle.demodulator.specs.declared.SoftDemodulator.{SoftDemodulator}
 use Rattle.demodulator.specs.Spans.{eight}
 use Rattle.demodulator.specs.Record.{back, stored}
-use Rattle.demodulator.specs.Fit.{fitForSample, fitForReply}
+use Rattle.demodulator.specs.Fit.{recordFit, fitForSample, fitForReply}
 use Rattle.demodulator.specs.Calls.{refusal, Left, finished, taken, demodulated, answered}
+use Rattle.demodulator.specs.Feed.{Stretch}
+use Rattle.demodulator.specs.Feed.{sampleSaid as sampleSaid′, sampleNext as sampleNext′, sampleRoom as sampleRoom′}
+use Rattle.demodulator_laws.proofs.RefusedFeed.{refused-feed}
 use Rattle.demodulator_run.specs.Filter.{ago}
-use Rattle.demodulator_run.specs.Rules.{Call, sample, reply, query, Heard, After, settled, given, called, heardFrom, saidFrom}
+use Rattle.demodulator_run.specs.Rules.{Single, sample, reply, query, Heard, After, settled, given, single}
 use Rattle.demodulator_run.specs.Rules.{answered as repliedTo}
 use Rattle.demodulator_run.specs.Run.{left}
+use Rattle.demodulator_run.specs.Stretch.{sampleSaid, sampleNext, sampleRoom}
+use Rattle.demodulator_run.specs.Calls.{Call, one, stretch, Told, toldStretch, heardAfter, toldTo, rules, recordNext, toldBy}
 
 -- the room that is lent with a call
-abbrev pub roomOf : Call → List Float
+abbrev roomOf : Single → List Float
 roomOf (sample x room) = room
 roomOf (reply r) = []
 roomOf query = []
+
+abbrev pub lentWith : Call → List Float
+lentWith (one c) = roomOf c
+lentWith (stretch xs room) = room
+
+-- "its number only, with record and buffers as they were"
+abbrev turnedDown : ℕ → List Float → Told
+turnedDown number room = record { answer = refusal number; fed = 0; room = room }
 
 -- ---- the rules
 module _ (table : List Float) (p : ℕ) (h : Heard) where
@@ -36,24 +50,31 @@ module _ (table : List Float) (p : ℕ) (h : Heard) where
   settled-kept xs room (quiet c) number e = let z : _≡_ {A = ℕ} 0 1 = cc in absurd (omega arith)
   settled-kept xs room (offer kind gain shift c) number e = let z : _≡_ {A = ℕ} 0 1 = cc in absurd (omega arith)
 
-  pub refused-nothing : (c : Call) (number : ℕ) → called table p h c .said .answer ≡ refusal number → (called table p h c .heard ≡ h) × (called table p h c .said .room ≡ roomOf c)
-  unfolding called given repliedTo
-  refused-nothing (sample x room) =
+  single-nothing : (c : Single) (number : ℕ) → single table p h c .said .answer ≡ refusal number → (single table p h c .heard ≡ h) × (single table p h c .said .room ≡ roomOf c)
+  unfolding single given repliedTo
+  single-nothing (sample x room) =
       by-test (Kept room) (h .control .owed) _ _ (λ _ number e. (refl, refl))
       (λ _. by-test (Kept room) (ltb (length room) 192) _ _ (λ _ number e. (refl, refl))
       (λ _. by-test (Kept room) (eqb (h .control .sample) (2 ^ 63)) _ _ (λ _ number e. (refl, refl))
       (λ _. settled-kept (h .samples ++ (x ∷ [])) room (sampled p (eight p (ago table p (h .samples ++ (x ∷ [])))) (h .control)))))
-  refused-nothing (reply r) =
+  single-nothing (reply r) =
       by-test (Kept []) (not (h .control .owed)) _ _ (λ _ number e. (refl, refl)) (λ _ number e. let z : _≡_ {A = ℕ} 0 1 = cc in absurd (omega arith))
-  refused-nothing query = λ number e. (refl, refl)
+  single-nothing query = λ number e. (refl, refl)
+
+  pub refused-nothing : (c : Call) (number : ℕ) → toldTo table p h c .answer ≡ refusal number → (heardAfter table p h c ≡ h) × (toldTo table p h c ≡ turnedDown number (lentWith c))
+  unfolding heardAfter toldTo
+  refused-nothing (one c) number e = let k = single-nothing c number e in (k .0, λ i. record { answer = e i; fed = 0; room = k .1 i })
+  refused-nothing (stretch xs room) number e =
+      let k = refused-feed Heard (sampleSaid table p) (sampleNext table p) (sampleRoom table p) (λ (g : Heard). true) h xs room number e in
+      (ap (λ (f : Stretch Heard). f .state) k, ap (λ (f : Stretch Heard). toldStretch f) k)
 
   -- and so it counts for nothing: what comes after it is as if it had not been made
-  pub refused-skipped : (c : Call) (number : ℕ) (cs : List Call) → called table p h c .said .answer ≡ refusal number
-      → (heardFrom table p h (c ∷ cs) ≡ heardFrom table p h cs) × (saidFrom table p h (c ∷ cs) ≡ called table p h c .said ∷ saidFrom table p h cs)
-  unfolding heardFrom saidFrom
+  pub refused-skipped : (c : Call) (number : ℕ) (cs : List Call) → toldTo table p h c .answer ≡ refusal number
+      → (run (rules table p) h (c ∷ cs) ≡ run (rules table p) h cs) × (answers (rules table p) h (c ∷ cs) ≡ toldTo table p h c ∷ answers (rules table p) h cs)
+  unfolding run answers
   refused-skipped c number cs e =
       let k = refused-nothing c number e .0 in
-      (ap (λ (g : Heard). heardFrom table p g cs) k, ap (λ (g : Heard). called table p h c .said ∷ saidFrom table p g cs) k)
+      (ap (λ (g : Heard). run (rules table p) g cs) k, ap (λ (g : Heard). toldTo table p h c ∷ answers (rules table p) g cs) k)
 
 -- ---- every record
 module _ (m : SoftDemodulator) where
@@ -64,15 +85,22 @@ module _ (m : SoftDemodulator) where
   taken-kept x room (quiet c) number e = let z : _≡_ {A = ℕ} 0 1 = cc in absurd (omega arith)
   taken-kept x room (offer kind gain shift c) number e = let z : _≡_ {A = ℕ} 0 1 = cc in absurd (omega arith)
 
-  pub refused-record : (c : Call) (number : ℕ) → left m c .answer ≡ refusal number → (left m c .demodulator ≡ m) × (left m c .room ≡ roomOf c)
+  single-record : (c : Single) (number : ℕ) → left m c .answer ≡ refusal number → (left m c .demodulator ≡ m) × (left m c .room ≡ roomOf c)
   unfolding left demodulated answered taken
-  refused-record (sample x room) =
+  single-record (sample x room) =
       by-test (KeptRecord room) (not (fitForSample m)) _ _ (λ _ number e. (refl, refl))
       (λ _. by-test (KeptRecord room) (m .control .owed) _ _ (λ _ number e. (refl, refl))
       (λ _. by-test (KeptRecord room) (ltb (length room) 192) _ _ (λ _ number e. (refl, refl))
       (λ _. by-test (KeptRecord room) (eqb (m .control .sample) (2 ^ 63)) _ _ (λ _ number e. (refl, refl))
       (λ _. taken-kept x room (sampled 10 (eight 10 (back (stored m x))) (m .control))))))
-  refused-record (reply r) =
+  single-record (reply r) =
       by-test (KeptRecord []) (not (fitForReply m)) _ _ (λ _ number e. (refl, refl))
       (λ _. by-test (KeptRecord []) (not (m .control .owed)) _ _ (λ _ number e. (refl, refl)) (λ _ number e. let z : _≡_ {A = ℕ} 0 1 = cc in absurd (omega arith)))
-  refused-record query = λ number e. (refl, refl)
+  single-record query = λ number e. (refl, refl)
+
+  pub refused-record : (c : Call) (number : ℕ) → toldBy m c .answer ≡ refusal number → (recordNext m c ≡ m) × (toldBy m c ≡ turnedDown number (lentWith c))
+  unfolding recordNext toldBy
+  refused-record (one c) number e = let k = single-record c number e in (k .0, λ i. record { answer = e i; fed = 0; room = k .1 i })
+  refused-record (stretch xs room) number e =
+      let k = refused-feed SoftDemodulator sampleSaid′ sampleNext′ sampleRoom′ recordFit m xs room number e in
+      (ap (λ (f : Stretch SoftDemodulator). f .state) k, ap (λ (f : Stretch SoftDemodulator). toldStretch f) k)

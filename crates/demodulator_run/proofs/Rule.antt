@@ -19,7 +19,7 @@ use Rattle.search.specs.declared.Wait.the-variants.{Free, Due}
 use Rattle.search.specs.declared.Control.{Control}
 use Rattle.search.specs.Search.{rank}
 use Rattle.demodulator_run.specs.Marks.{Mark}
-use Rattle.demodulator_run.specs.Demands.{Ear, at, Matches, Unmatched, Above, Alone, NotAgain, In, Taken, Fails, Corner, Replaces, Shown, shownAt, dueMark, DueBy, Cause, DueRule}
+use Rattle.demodulator_run.specs.Demands.{SymbolSize, Ear, at, Matches, Unmatched, Above, Alone, NotAgain, In, Taken, Fails, Corner, Replaces, Shown, shownAt, dueMark, DueBy, Cause, DueRule}
 use Rattle.demodulator_run.proofs.Listing.{Place, Before, Level, After, place, Placed, placed, rank-only, same-self, same→≡, no→⊥, T-clash, heard}
 use Rattle.demodulator_run.proofs.Account.{Episode, HandedOn, Account}
 use Rattle.demodulator_run.proofs.Phase.{Phase, Kept, kept-past, kept-told, run-short}
@@ -45,7 +45,7 @@ module _ (ear : Ear) (p : ℕ) (alone : Alone ear) where
     decided d e x y D E = (one-due d e (D .sample) (E .sample), one-shown x y (D .shown) (E .shown))
 
     -- .. and there is always one
-    module _ (big : 0 < p) where
+    module _ (big : SymbolSize p) where
       abbrev Some : Type 0
       Some = (d : ℕ) × (x : Shown) × DueBy ear p b k s d x
 
@@ -94,7 +94,7 @@ module _ (ear : Ear) (p : ℕ) (alone : Alone ear) where
       clash k s (subst (λ (i : Kind). Matches ear i s) same (genuine s (H .kind) t)) (F .lost)
 
   -- ---- from the invariant
-  module _ (big : 0 < p) (again : NotAgain ear p) (l : List Mark) where
+  module _ (big : SymbolSize p) (again : NotAgain ear p) (l : List Mark) where
     fails-soon : {b : ℕ} {k : Kind} {s d : ℕ} {x : Shown} → Fails ear l b k s → DueBy ear p b k s d x → s < d
     fails-soon {b} {k} {s} F D =
         let o = F .later in
@@ -144,7 +144,7 @@ module _ (ear : Ear) (p : ℕ) (alone : Alone ear) where
         let u = W .some in
         omega arith
 
-  pub due-rule-of : (big : 0 < p) (again : NotAgain ear p) (l : List Mark) (c : Control) → Kept ear p l c → DueRule ear p (c .sample) l
+  pub due-rule-of : (big : SymbolSize p) (again : NotAgain ear p) (l : List Mark) (c : Control) → Kept ear p l c → DueRule ear p (c .sample) l
   due-rule-of big again l c I = record {
     exact = λ d x. (
       λ i. let (m, b, k, s, E) = kept-told ear p l c I d x i in (kept-past ear p l c I (dueMark d x) i, record { b = b; kind = k; s = s; fails = E .fails; due = E .due }),

@@ -7,46 +7,46 @@ use lib.ListN.{length}
 use lib.Ieee.{Float}
 use Rattle.demodulator.specs.Spans.{eight}
 use Rattle.demodulator_run.specs.Filter.{ago}
-use Rattle.demodulator_run.specs.Rules.{Call, Heard, start, called, heardFrom, heardAll}
+use Rattle.demodulator_run.specs.Rules.{Single, Heard, start, single, heardFrom, heardAll}
 use Rattle.demodulator_run.specs.Marks.{Mark, calledMarks, logFrom, logAll}
-use Rattle.demodulator_run.specs.Demands.{Ear, earOf, Alone, NotAgain}
+use Rattle.demodulator_run.specs.Demands.{SymbolSize, Ear, earOf, Alone, NotAgain}
 use Rattle.demodulator_run.proofs.Phase.{Idle, Kept}
 use Rattle.demodulator_run.proofs.Calling.{ear-now, Counted, heard-extends, called-kept}
 
 module _ (table : List Float) (p : ℕ) (ear : Ear) where
   -- the calls so far have left the log l, and the ear agrees with all that will be heard
-  pub record On (h : Heard) (cs : List Call) (l : List Mark) : Type 0 where
+  pub record On (h : Heard) (cs : List Single) (l : List Mark) : Type 0 where
     pub kept : Kept ear p l (h .control)
     pub counted : Counted table p h
     pub hears : ear ≡ earOf table p (heardFrom table p h cs .samples)
 
   -- what is heard at the next call
-  pub heard-now : (h : Heard) (c : Call) (cs : List Call) → ear ≡ earOf table p (heardFrom table p h (c ∷ cs) .samples)
-      → ear (length (called table p h c .heard .samples)) ≡ eight p (ago table p (called table p h c .heard .samples))
+  pub heard-now : (h : Heard) (c : Single) (cs : List Single) → ear ≡ earOf table p (heardFrom table p h (c ∷ cs) .samples)
+      → ear (length (single table p h c .heard .samples)) ≡ eight p (ago table p (single table p h c .heard .samples))
   unfolding heardFrom
   heard-now h c cs e =
-      let next : Heard = called table p h c .heard in
+      let next : Heard = single table p h c .heard in
       let (m, f) = heard-extends table p next cs in
       ap (λ (w : Ear). w (length (next .samples))) (e ∙ ap (earOf table p) f) ∙ ear-now table p (next .samples) m
 
-  module _ (big : 0 < p) (alone : Alone ear) (again : NotAgain ear p) where
-    pub on-next : (h : Heard) (c : Call) (cs : List Call) (l : List Mark) → On h (c ∷ cs) l → On (called table p h c .heard) cs (l ++ calledMarks table p h c)
+  module _ (big : SymbolSize p) (alone : Alone ear) (again : NotAgain ear p) where
+    pub on-next : (h : Heard) (c : Single) (cs : List Single) (l : List Mark) → On h (c ∷ cs) l → On (single table p h c .heard) cs (l ++ calledMarks table p h c)
     on-next h c cs l O =
         let K = called-kept table p ear big alone again l h (O .kept) (O .counted) c (heard-now h c cs (O .hears)) in
         record { kept = K .0; counted = K .1; hears = unfold heardFrom in O .hears }
 
-    pub on-all : (h : Heard) (cs : List Call) (l : List Mark) → On h cs l → On (heardFrom table p h cs) [] (l ++ logFrom table p h cs)
+    pub on-all : (h : Heard) (cs : List Single) (l : List Mark) → On h cs l → On (heardFrom table p h cs) [] (l ++ logFrom table p h cs)
     unfolding heardFrom logFrom
     on-all h [] l O = subst (On h []) (sym (append-nil l)) O
     on-all h (c ∷ cs) l O =
-        subst (On (heardFrom table p (called table p h c .heard) cs) []) (append-assoc l (calledMarks table p h c) (logFrom table p (called table p h c .heard) cs))
-        (on-all (called table p h c .heard) cs (l ++ calledMarks table p h c) (on-next h c cs l O))
+        subst (On (heardFrom table p (single table p h c .heard) cs) []) (append-assoc l (calledMarks table p h c) (logFrom table p (single table p h c .heard) cs))
+        (on-all (single table p h c .heard) cs (l ++ calledMarks table p h c) (on-next h c cs l O))
 
     -- before any one of the calls
-    pub on-split : (h : Heard) (before : List Call) (call : Call) (after : List Call) (l : List Mark) → On h (before ++ (call ∷ after)) l → (m : List Mark) × On (heardFrom table p h before) (call ∷ after) m
+    pub on-split : (h : Heard) (before : List Single) (call : Single) (after : List Single) (l : List Mark) → On h (before ++ (call ∷ after)) l → (m : List Mark) × On (heardFrom table p h before) (call ∷ after) m
     unfolding heardFrom
     on-split h [] call after l O = (l, O)
-    on-split h (c ∷ before) call after l O = on-split (called table p h c .heard) before call after (l ++ calledMarks table p h c) (on-next h c (before ++ (call ∷ after)) l O)
+    on-split h (c ∷ before) call after l O = on-split (single table p h c .heard) before call after (l ++ calledMarks table p h c) (on-next h c (before ++ (call ∷ after)) l O)
 
 nothing-yet : (ear : Ear) (p : ℕ) → Idle ear p [] 0
 nothing-yet ear p = record {
@@ -58,11 +58,11 @@ nothing-yet ear p = record {
   fates = λ b k t. elim t [ inl i ↦ absurd (List·Memᴰ·not-nil i) | inr i ↦ absurd (List·Memᴰ·not-nil (i .1)) ];
 }
 
-module _ (table : List Float) (p : ℕ) (cs : List Call) where
+module _ (table : List Float) (p : ℕ) (cs : List Single) where
   pub on-start : On table p (earOf table p (heardAll table p cs .samples)) start cs []
   on-start = record { kept = nothing-yet (earOf table p (heardAll table p cs .samples)) p; counted = refl; hears = refl }
 
-  module _ (big : 0 < p) (alone : Alone (earOf table p (heardAll table p cs .samples))) (again : NotAgain (earOf table p (heardAll table p cs .samples)) p) where
+  module _ (big : SymbolSize p) (alone : Alone (earOf table p (heardAll table p cs .samples))) (again : NotAgain (earOf table p (heardAll table p cs .samples)) p) where
     on-end : On table p (earOf table p (heardAll table p cs .samples)) (heardAll table p cs) [] (logAll table p cs)
     on-end = on-all table p (earOf table p (heardAll table p cs .samples)) big alone again start cs [] on-start
 

@@ -25,7 +25,7 @@ use Rattle.demodulator.specs.Record.{freshControl}
 use Rattle.demodulator_laws.proofs.SearchFits.{Outgrown}
 use Rattle.demodulator_laws.proofs.SampleFits.{controlOf, sampled-fits, replied-fits}
 use Rattle.demodulator_run.specs.Filter.{ago}
-use Rattle.demodulator_run.specs.Rules.{Call, sample, reply, query, Heard, After, start, settled, accepted, given, answered, called, heardFrom, heardAll}
+use Rattle.demodulator_run.specs.Rules.{Single, sample, reply, query, Heard, After, start, settled, accepted, given, answered, single, heardFrom, heardAll}
 use Rattle.demodulator_run.specs.Run.{Callable, Sampled}
 use Rattle.demodulator_run.proofs.InRange.{Small, small-more, Bounded, in-range}
 use Rattle.demodulator_run.proofs.Count.{sampled-count, replied-count}
@@ -92,15 +92,15 @@ module _ (table : List Float) (p : ℕ) where
           count = replied-count p v r (h .control) ∙ s .count;
         })
 
-    pub called-fit : (c : Call) → Callable c → Next (called table p h c)
-    unfolding called Callable
+    pub called-fit : (c : Single) → Callable c → Next (single table p h c)
+    unfolding single Callable
     called-fit (sample x room) f = given-fit x room (size16 x f)
     called-fit (reply r) f = answered-fit r
     called-fit query f = s
 
   -- ---- what a list of calls comes to
   pub record Reachable (h : Heard) : Type 0 where
-    pub calls : List Call
+    pub calls : List Single
     pub sampled : Sampled calls
     pub here : heardAll table p calls ≡ h
 
@@ -108,17 +108,17 @@ module _ (table : List Float) (p : ℕ) where
   unfolding Sampled heardFrom
   reachable-start = record { calls = []; sampled = tt; here = refl }
 
-  heard-more : (h : Heard) (cs : List Call) (c : Call) → heardFrom table p h (cs ++ (c ∷ [])) ≡ called table p (heardFrom table p h cs) c .heard
+  heard-more : (h : Heard) (cs : List Single) (c : Single) → heardFrom table p h (cs ++ (c ∷ [])) ≡ single table p (heardFrom table p h cs) c .heard
   unfolding heardFrom
   heard-more h [] c = refl
-  heard-more h (d ∷ cs) c = heard-more (called table p h d .heard) cs c
+  heard-more h (d ∷ cs) c = heard-more (single table p h d .heard) cs c
 
-  sampled-more : (cs : List Call) (c : Call) → Sampled cs → Callable c → Sampled (cs ++ (c ∷ []))
+  sampled-more : (cs : List Single) (c : Single) → Sampled cs → Callable c → Sampled (cs ++ (c ∷ []))
   unfolding Sampled
   sampled-more [] c s g = (g, tt)
   sampled-more (d ∷ cs) c s g = (s .0, sampled-more cs c (s .1) g)
 
-  pub reachable-next : (h : Heard) (c : Call) → Reachable h → Callable c → Reachable (called table p h c .heard)
+  pub reachable-next : (h : Heard) (c : Single) → Reachable h → Callable c → Reachable (single table p h c .heard)
   reachable-next h c r g = record {
     calls = r .calls ++ (c ∷ []);
     sampled = sampled-more (r .calls) c (r .sampled) g;

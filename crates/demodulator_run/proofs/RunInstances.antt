@@ -8,14 +8,20 @@ use native.Mathlib.Omega.{arith}
 use lib.Dec.{T, lit<, lit≤}
 use lib.IntN.{pos, negsuc}
 use lib.ListN.{getD, replicate, getD-replicate}
+use lib.Ieee.{Float}
 use Rattle.numbers.specs.Sum.{nought}
+use Rattle.machine.specs.Runs.{run, answers, Each}
 use Rattle.shaping.specs.Taps.{taps}
 use Rattle.decode.specs.Correlator.{inRange}
 use Rattle.search.specs.declared.Reply.the-variants.{Accepted}
+use Rattle.demodulator.specs.Record.{fresh}
 use Rattle.demodulator.specs.Calls.{refusal, nothing, carrier}
+use Rattle.demodulator.specs.Feed.{goesOn, fedFrom, fed}
 use Rattle.demodulator_run.specs.Filter.{filtered}
-use Rattle.demodulator_run.specs.Rules.{Call, sample, reply, query, After, start, given, answered, called, saidFrom, heardAll}
-use Rattle.demodulator_run.specs.Run.{Callable, Sampled, recordAfter, answersTo}
+use Rattle.demodulator_run.specs.Rules.{sample, reply, query, After, start, given, answered, single}
+use Rattle.demodulator_run.specs.Run.{Callable}
+use Rattle.demodulator_run.specs.Stretch.{Sixteen}
+use Rattle.demodulator_run.specs.Calls.{Call, one, stretch, toldOne, heardAfter, toldTo, rules, receiver, Given}
 use Rattle.demodulator_run.specs.Represents.{Represents}
 use Rattle.demodulator_run.proofs.Ring.{Recent, push, by-age}
 use Rattle.demodulator_run.proofs.Causal.{filtered-old}
@@ -50,33 +56,56 @@ old-meets = filtered-old taps 10 taps-size (pos 1 ∷ []) (pos 2) 1 (lit≤ tt)
 in-range-meets : T (inRange (filtered taps 10 (negsuc 32767 ∷ []) 1))
 in-range-meets = in-range taps 10 taps-bounded (negsuc 32767 ∷ []) (small-more [] (negsuc 32767) small-none (lit≤ tt)) 1
 
--- ---- calls of each kind: a query, a reply that nobody asked for, the least sample without its room, and a sample that is accepted
+-- ---- calls of each kind: a query, a reply that nobody asked for, the least sample and a stretch without their room, a sample that is accepted, and a stretch of none
+abbrev cramped : List Float
+cramped = replicate 191 nought
+
 abbrev mixed : List Call
-mixed = query ∷ reply Accepted ∷ sample (negsuc 32767) (replicate 191 nought) ∷ sample (pos 32767) room ∷ []
+mixed =
+    one query
+    ∷ one (reply Accepted)
+    ∷ one (sample (negsuc 32767) cramped)
+    ∷ stretch (pos 1 ∷ negsuc 0 ∷ []) cramped
+    ∷ one (sample (pos 32767) room)
+    ∷ stretch [] cramped
+    ∷ []
 
-mixed-sampled : Sampled mixed
-unfolding Sampled Callable
-mixed-sampled = (tt, (tt, (record { sfits = lit≤ tt }, (record { sfits = lit≤ tt }, tt))))
+mixed-given : Each Given mixed
+unfolding Each Given Callable Sixteen
+mixed-given = (tt, (tt, (record { sfits = lit≤ tt }, ((record { sfits = lit≤ tt }, (record { sfits = lit≤ tt }, tt)), (record { sfits = lit≤ tt }, (tt, tt))))))
 
-mixed-represents : Represents (recordAfter mixed) (heardAll taps 10 mixed)
-mixed-represents = receiver-run mixed mixed-sampled .0
+mixed-represents : Represents (run receiver fresh mixed) (run (rules taps 10) start mixed)
+mixed-represents = receiver-run mixed mixed-given .0
 
 -- the record's answers, from the rules' alone
-mixed-answers : answersTo mixed
-    ≡ record { answer = carrier false; room = [] }
-    ∷ record { answer = refusal 3; room = [] }
-    ∷ record { answer = refusal 4; room = replicate 191 nought }
-    ∷ record { answer = nothing; room = room }
+mixed-answers : answers receiver fresh mixed
+    ≡ record { answer = carrier false; fed = 0; room = [] }
+    ∷ record { answer = refusal 3; fed = 0; room = [] }
+    ∷ record { answer = refusal 4; fed = 0; room = cramped }
+    ∷ record { answer = refusal 4; fed = 0; room = cramped }
+    ∷ record { answer = nothing; fed = 0; room = room }
+    ∷ record { answer = nothing; fed = 0; room = cramped }
     ∷ []
-unfolding saidFrom called given answered
+unfolding answers toldTo heardAfter fed fedFrom goesOn single given answered
 mixed-answers =
-    receiver-run mixed mixed-sampled .1
-    ∙ ap (λ (a : After). record { answer = carrier false; room = [] } ∷ record { answer = refusal 3; room = [] } ∷ record { answer = refusal 4; room = replicate 191 nought } ∷ a .said ∷ []) first
+    receiver-run mixed mixed-given .1
+    ∙ ap (λ (a : After).
+    record { answer = carrier false; fed = 0; room = [] }
+    ∷ record { answer = refusal 3; fed = 0; room = [] }
+    ∷ record { answer = refusal 4; fed = 0; room = cramped }
+    ∷ record { answer = refusal 4; fed = 0; room = cramped }
+    ∷ toldOne (a .said)
+    ∷ record { answer = nothing; fed = 0; room = cramped }
+    ∷ []) first
 
-mixed-fit : FitForAll (recordAfter mixed)
-mixed-fit = fit-throughout mixed mixed-sampled
+mixed-fit : FitForAll (run receiver fresh mixed)
+mixed-fit = fit-throughout mixed mixed-given
 
--- a refused sample is not heard
-mixed-unheard : called taps 10 start (sample (pos 32767) []) .heard ≡ start
-unfolding called given
-mixed-unheard = refused-nothing taps 10 start (sample (pos 32767) []) 4 refl .0
+-- a refused sample is not heard, nor a refused stretch
+mixed-unheard : heardAfter taps 10 start (one (sample (pos 32767) [])) ≡ start
+unfolding toldTo single given
+mixed-unheard = refused-nothing taps 10 start (one (sample (pos 32767) [])) 4 refl .0
+
+stretch-unheard : heardAfter taps 10 start (stretch (pos 32767 ∷ []) []) ≡ start
+unfolding toldTo fed fedFrom goesOn single given
+stretch-unheard = refused-nothing taps 10 start (stretch (pos 32767 ∷ []) []) 4 refl .0

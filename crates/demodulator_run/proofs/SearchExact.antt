@@ -15,7 +15,7 @@ use Rattle.search.specs.declared.Candidate.{Candidate}
 use Rattle.search.specs.declared.Candidate.the-variants.{Nothing, Held}
 use Rattle.search.specs.declared.Wait.the-variants.{Free}
 use Rattle.search.specs.declared.Timer.{Timer}
-use Rattle.search.specs.Search.{rank}
+use Rattle.search.specs.Search.{older, rank}
 use Rattle.demodulator_run.specs.Marks.{Mark, First, Anew, Failed, FellDue, searchedMarks}
 use Rattle.demodulator_run.specs.Demands.{Ear, at, Matches, Unmatched, Alone, In}
 use Rattle.demodulator_run.specs.Exact.{BySearch}
@@ -112,7 +112,7 @@ module _ (ear : Ear) (p : ℕ) (alone : Alone ear) (n : ℕ) where
       taken-in : (m : List Mark) → In (Anew n k j) m → (i : Kind) → Matches ear i n → lt diff (at ear i n .diff) ≡ false → In (Anew n k i) m
       taken-in m h i q b = subst (λ (x : Kind). In (Anew n k x) m) (sym (only i q)) h
 
-      struck-exact : (u : Timer) (o' : Place) → Placed o' j k → (b : Bool) → lt diff (at ear j n .diff) ≡ b → Exactly Tells (struck p (λ i. at ear i n) u o n age diff gain shift o' b j k .marks)
+      struck-exact : (u : Timer) (o' : Place) → Placed o' j k → (b : Bool) → lt diff (at ear j n .diff) ≡ b → Exactly Tells (struck p (λ i. at ear i n) u o n age diff gain shift (older age) o' b j k .marks)
       struck-exact u Before r true e =
           exactly (Failed n k ∷ []) (λ y i. tells-failed (missed (λ q. omega (arith, r, ap rank q))) (λ i r' q. moved true e i q) y (List·Memᴰ·eq-of-singleton i))
           (λ i q f. absurd (above-below e i q f)) (λ l s. List·Memᴰ·head refl)

@@ -15,15 +15,15 @@ use Rattle.decode.specs.Correlator.{matches}
 use Rattle.search.specs.declared.Candidate.the-variants.{Nothing, Held}
 use Rattle.search.specs.declared.Wait.the-variants.{Free}
 use Rattle.search.specs.declared.Timer.{Timer}
-use Rattle.search.specs.Search.{rank}
+use Rattle.search.specs.Search.{rank, older}
 use Rattle.demodulator_run.specs.Marks.{Mark, Anew, Failed}
-use Rattle.demodulator_run.specs.Demands.{Ear, at, Matches, Above, Alone, NotAgain}
+use Rattle.demodulator_run.specs.Demands.{SymbolSize, Ear, at, Matches, Above, Alone, NotAgain}
 use Rattle.demodulator_run.proofs.Listing.{Place, Before, Level, After, place, Placed, placed, same-self, same→≡, no→⊥, heard, NoneHeard, OneHeard}
 use Rattle.demodulator_run.proofs.Pass.{Step, controlled, searchStep, passBy, search-pass, pass-quiet, pass-first, pass-lost, pass-hit, struck}
 use Rattle.demodulator_run.proofs.Log.{more}
 use Rattle.demodulator_run.proofs.Phase.{Idle, Holding, Awaiting, Kept}
 use Rattle.demodulator_run.proofs.Begin.{begun}
-use Rattle.demodulator_run.proofs.Hold.{ages, renewed, switched}
+use Rattle.demodulator_run.proofs.Hold.{young, ages, renewed, switched}
 use Rattle.demodulator_run.proofs.Fail.{fails-alone, fails-corner, fails-aged, fails-replaced}
 
 -- a step's control, with its marks added to the log
@@ -46,7 +46,7 @@ module _ (ear : Ear) (p : ℕ) (alone : Alone ear) (l : List Mark) where
       ])
 
   -- ---- while one is held
-  module _ (big : 0 < p) (again : NotAgain ear p) (n : ℕ) (k : Kind) (age : ℕ) (diff gain shift : Float) (H : Holding ear p l n k age diff gain shift) where
+  module _ (big : SymbolSize p) (again : NotAgain ear p) (n : ℕ) (k : Kind) (age : ℕ) (diff gain shift : Float) (H : Holding ear p l n k age diff gain shift) where
     module _ (t : Timer) (j : Kind) (one : OneHeard (ear (n + 1)) (λ j k. alone j k (n + 1)) j) where
       hit : Matches ear j (n + 1)
       hit = subst T (sym (one j)) (same-self j)
@@ -62,7 +62,7 @@ module _ (ear : Ear) (p : ℕ) (alone : Alone ear) (l : List Mark) where
       missed other = not-T (matches (Frame k) (ear (n + 1))) (λ m. other (sym (only k m)))
 
       struck-kept : (o : Place) → Placed o j k → (b : Bool) → lt diff (at ear j (n + 1) .diff) ≡ b
-          → KeptBy ear p l (struck p (λ i. at ear i (n + 1)) t false (n + 1) age diff gain shift o b j k)
+          → KeptBy ear p l (struck p (λ i. at ear i (n + 1)) t false (n + 1) age diff gain shift (age + 1) o b j k)
       struck-kept Before r true e = (refl, fails-corner ear p big again l n k age diff gain shift H (missed (λ q. omega (arith, r, ap rank q))) j hit only r (holds (compared true e)))
       struck-kept Before r false e = (refl, switched ear p again l n k age diff gain shift H j r hit)
       struck-kept Level r true e = (
@@ -82,6 +82,10 @@ module _ (ear : Ear) (p : ℕ) (alone : Alone ear) (l : List Mark) where
             (fails-replaced ear p big again l n k age diff gain shift H (missed (λ q. omega (arith, r, ap rank q))) j hit only r (no→⊥ (compared false e))),
       )
 
+    -- an age of p at most has room for one more
+    grows : older age ≡ age + 1
+    grows = let few = young ear p again l n k age diff gain shift H in omega arith
+
     pub search-held : (t : Timer) → KeptBy ear p l (searchStep p (ear (n + 1)) (controlled (Held k age diff gain shift) Free t false (n + 1)))
     search-held t =
         let (u, e) = search-pass p (ear (n + 1)) (controlled (Held k age diff gain shift) Free t false (n + 1)) in
@@ -90,5 +94,5 @@ module _ (ear : Ear) (p : ℕ) (alone : Alone ear) (l : List Mark) where
           | inl q ↦ subst (KeptBy ear p l) (sym (ap run (fun-ext q) ∙ pass-lost p (λ i. at ear i (n + 1)) u false (n + 1) age diff gain shift k))
               (refl, fails-alone ear p big again l n k age diff gain shift H (fails (q k)) (λ i m. no→⊥ (q i) m))
           | inr q ↦ subst (KeptBy ear p l) (sym (ap run (fun-ext (q .1)) ∙ pass-hit p (λ i. at ear i (n + 1)) u false (n + 1) age diff gain shift (q .0) k _ refl))
-              (struck-kept u (q .0) (q .1) (place (q .0) k) (placed (q .0) k) _ refl)
+              (rw grows (struck-kept u (q .0) (q .1) (place (q .0) k) (placed (q .0) k) _ refl))
         ])

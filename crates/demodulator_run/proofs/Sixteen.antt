@@ -14,7 +14,7 @@ use Rattle.shaping.proofs.Receiver.{bounded, size16}
 use Rattle.decode.specs.Correlator.{inRange}
 use Rattle.search.proofs.Passing.{by-test}
 use Rattle.demodulator_run.specs.Filter.{filtered}
-use Rattle.demodulator_run.specs.Rules.{Call, sample, reply, query, Heard, After, start, given, answered, called, heardFrom, heardAll}
+use Rattle.demodulator_run.specs.Rules.{Single, sample, reply, query, Heard, After, start, given, answered, single, heardFrom, heardAll}
 use Rattle.demodulator_run.specs.Run.{Callable, Sampled}
 use Rattle.demodulator_run.specs.Stretch.{Sixteen}
 use Rattle.demodulator_run.proofs.Calling.{settled-samples}
@@ -41,8 +41,8 @@ module _ (table : List Float) (p : ℕ) where
   abbrev SmallAfter : After → Type 0
   SmallAfter a = Small (a .heard .samples)
 
-  pub small-called : (h : Heard) (c : Call) → Callable c → Small (h .samples) → SmallAfter (called table p h c)
-  unfolding called given answered Callable
+  pub small-called : (h : Heard) (c : Single) → Callable c → Small (h .samples) → SmallAfter (single table p h c)
+  unfolding single given answered Callable
   small-called h (sample x room) f s =
       by-test SmallAfter (h .control .owed) _ _ (λ _. s)
       (λ _. by-test SmallAfter (ltb (length room) 192) _ _ (λ _. s)
@@ -51,16 +51,16 @@ module _ (table : List Float) (p : ℕ) where
   small-called h (reply r) f s = by-test SmallAfter (not (h .control .owed)) _ _ (λ _. s) (λ _. s)
   small-called h query f s = s
 
-  small-run : (cs : List Call) (h : Heard) → Sampled cs → Small (h .samples) → Small (heardFrom table p h cs .samples)
+  small-run : (cs : List Single) (h : Heard) → Sampled cs → Small (h .samples) → Small (heardFrom table p h cs .samples)
   unfolding heardFrom Sampled
   small-run [] h f s = s
-  small-run (c ∷ cs) h f s = small-run cs (called table p h c .heard) (f .1) (small-called h c (f .0) s)
+  small-run (c ∷ cs) h f s = small-run cs (single table p h c .heard) (f .1) (small-called h c (f .0) s)
 
 -- ---- at 48,000
 pub taps-bounded : Bounded taps
 taps-bounded x h = bounded x (λ i l. h i (rw taps-number l))
 
-pub filtered-range : (cs : List Call) → Sampled cs → (k : ℕ) → T (inRange (filtered taps 10 (heardAll taps 10 cs .samples) k))
+pub filtered-range : (cs : List Single) → Sampled cs → (k : ℕ) → T (inRange (filtered taps 10 (heardAll taps 10 cs .samples) k))
 filtered-range cs f = in-range taps 10 taps-bounded (heardAll taps 10 cs .samples) (small-run taps 10 cs start f small-none)
 
 -- "for i = 0 to 80"

@@ -14,13 +14,13 @@ use Rattle.search.specs.declared.Wait.{Wait}
 use Rattle.search.specs.declared.Wait.the-variants.{Free, Due}
 use Rattle.search.specs.declared.Control.{Control}
 use Rattle.demodulator_run.specs.Marks.{Mark}
-use Rattle.demodulator_run.specs.Demands.{Ear, NotAgain, Apart, Started, Shown, DueSpan, DueFrom, DueCause, DueOnce, AgeAtMost}
+use Rattle.demodulator_run.specs.Demands.{SymbolSize, Ear, NotAgain, Apart, Started, Shown, DueSpan, DueFrom, DueCause, DueOnce, AgeAtMost}
 use Rattle.demodulator_run.proofs.Log.{due-shown, shown-due}
 use Rattle.demodulator_run.proofs.Account.{SomeMatch, Episode, Closed, due-low, due-top, due-high}
 use Rattle.demodulator_run.proofs.Phase.{Holding, Awaiting, Phase, Kept, kept-spaced, kept-told, run-short}
 use Rattle.demodulator_run.proofs.Hold.{recent, young}
 
-module _ (ear : Ear) (p : ℕ) (big : 0 < p) (l : List Mark) where
+module _ (ear : Ear) (p : ℕ) (big : SymbolSize p) (l : List Mark) where
   -- ---- at most one frame in the span
   pub once-of : (c : Control) → Kept ear p l c → DueOnce p l
   once-of c I n d e i j u v w x =
@@ -145,7 +145,7 @@ module _ (ear : Ear) (p : ℕ) (big : 0 < p) (l : List Mark) where
           ]) c I
 
 -- ---- the demanded ones follow from the sharper ones too
-pub span-wider : (p fed : ℕ) (l : List Mark) → 0 < p → DueSpan p (185 * p) fed l → DueSpan p (188 * p) fed l
+pub span-wider : (p fed : ℕ) (l : List Mark) → SymbolSize p → DueSpan p (185 * p) fed l → DueSpan p (188 * p) fed l
 span-wider p fed l big S n i o = let (d, f, u, v) = S n i (omega arith) in (d, f, u, omega arith)
 
 pub age-wider : (p : ℕ) (held : Candidate) → AgeAtMost p held → AgeAtMost (p + 1) held

@@ -17,7 +17,7 @@ use Rattle.demodulator.specs.Spans.{eight}
 use Rattle.demodulator.specs.Record.{back, stored, withControl}
 use Rattle.demodulator.specs.Calls.{Paper, frame, carrier, Left, refused, finished, taken, demodulated, answered, timerHeld, detected}
 use Rattle.demodulator_run.specs.Filter.{ago}
-use Rattle.demodulator_run.specs.Rules.{Call, sample, reply, query, Heard, After, settled, accepted, given, called}
+use Rattle.demodulator_run.specs.Rules.{Single, sample, reply, query, Heard, After, settled, accepted, given, single}
 use Rattle.demodulator_run.specs.Rules.{answered as repliedTo, refused as turnedDown}
 use Rattle.demodulator_run.specs.Run.{left, saidBy}
 use Rattle.demodulator_run.specs.Represents.{Remembers, Represents}
@@ -94,8 +94,8 @@ module _ (m : SoftDemodulator) (h : Heard) (r : Represents m h) (fit : FitForAll
   unfolding detected
   query-says = rw (fit .for-query, r .control)
 
-  pub call-agrees : (c : Call) → Agrees (left m c) (called taps 10 h c)
-  unfolding left called
+  pub call-agrees : (c : Single) → Agrees (left m c) (single taps 10 h c)
+  unfolding left single
   call-agrees (sample x room) = sample-agrees x room
   call-agrees (reply a) = reply-agrees a
   call-agrees query = record { rings = r .rings; control = r .control; says = ap (λ (a : Paper). record { answer = a; room = [] }) query-says }

@@ -21,7 +21,7 @@ use Rattle.search.specs.declared.Control.{Control}
 use Rattle.search.specs.declared.Reply.{Reply}
 use Rattle.search.specs.declared.Reply.the-variants.{Accepted, Rejected}
 use Rattle.search.specs.Turn.{offered, cleared}
-use Rattle.demodulator_run.specs.Rules.{Call, sample, reply, Heard}
+use Rattle.demodulator_run.specs.Rules.{Single, sample, reply, Heard}
 use Rattle.demodulator_run.specs.Marks.{Mark, First, Anew, Failed, FellDue, searchedMarks, dueMarks, waitedMarks, sampledMarks, repliedMarks}
 use Rattle.demodulator_run.specs.Demands.{Ear, Alone, In}
 use Rattle.demodulator_run.specs.Exact.{lastSample, Searches, BySearch, ByRules}
@@ -30,7 +30,7 @@ use Rattle.demodulator_run.proofs.Phase.{Phase}
 use Rattle.demodulator_run.proofs.SearchExact.{Exactly, search-exact}
 
 -- ---- the two sources of a mark
-module _ (ear : Ear) (h : Heard) (call : Call) where
+module _ (ear : Ear) (h : Heard) (call : Single) where
   abbrev pub DueHere : Mark → Type 0
   DueHere (First n k) = ⊥
   DueHere (Anew n j k) = ⊥
@@ -75,14 +75,14 @@ module _ (ear : Ear) (h : Heard) (call : Call) where
 pub free-due : {w : Waiting} → Free ≡ Due w → ⊥
 free-due e = let z : _≡_ {A = ℕ} 0 1 = cc in omega arith
 
-due-one : (left : ℕ) → Due (record { left = left }) ≡ lastSample → left ≡ 1
+pub due-one : (left : ℕ) → Due (record { left = left }) ≡ lastSample → left ≡ 1
 due-one left e = ap leftOf e
   where
     leftOf : Wait → ℕ
     leftOf Free = 0
     leftOf (Due w) = w .left
 
-not-offered : (k : Kind) → offered k ≡ false → k ≡ Bert
+pub not-offered : (k : Kind) → offered k ≡ false → k ≡ Bert
 not-offered Lsf e = absurd (true≢false e)
 not-offered Bert e = refl
 not-offered Stream e = absurd (true≢false e)

@@ -19,14 +19,14 @@ use Rattle.search.specs.declared.Timer.{Timer}
 use Rattle.search.specs.declared.Control.{Control}
 use Rattle.search.specs.declared.Reply.{Reply}
 use Rattle.search.specs.declared.Reply.the-variants.{Accepted, Rejected}
-use Rattle.search.specs.Search.{rank, searched}
+use Rattle.search.specs.Search.{older, rank, searched}
 use Rattle.search.specs.Turn.{Outcome, quiet, offer, counted, waited, sampled, replied}
 use Rattle.demodulator.specs.Spans.{eight}
 use Rattle.demodulator_laws.proofs.SampleFits.{controlOf}
 use Rattle.demodulator_run.specs.Filter.{ago}
-use Rattle.demodulator_run.specs.Rules.{Call, sample, reply, query, Heard, After as Came, start, refused, settled, accepted, given, answered, called, heardAll}
+use Rattle.demodulator_run.specs.Rules.{Single, sample, reply, query, Heard, After as Came, start, refused, settled, accepted, given, answered, single, heardAll}
 use Rattle.demodulator_run.specs.Marks.{Anew, Failed, logAll}
-use Rattle.demodulator_run.specs.Demands.{Ear, earOf, Unmatched, Alone, NotAgain, In, SwitchEarlier, EarlierThan, SwitchHeld}
+use Rattle.demodulator_run.specs.Demands.{SymbolSize, Ear, earOf, Unmatched, Alone, NotAgain, In, SwitchEarlier, EarlierThan, SwitchHeld}
 use Rattle.demodulator_run.specs.Exact.{MarkedAt}
 use Rattle.demodulator_run.proofs.Listing.{Place, Before, Level, After, place, Placed, placed, heard}
 use Rattle.demodulator_run.proofs.Pass.{Step, controlled, searchStep, passBy, search-pass, pass-lost, pass-hit, struck}
@@ -47,7 +47,7 @@ module _ (p : ℕ) (v : ℕ → Float) (alone : OneAtMost v) where
     abbrev Turns : Step → Type 0
     Turns s = s .control .wait ≡ Free → EarlierThan (Held k age diff gain shift) (s .control .candidate)
 
-    struck-turns : (u : Timer) (j : Kind) (x : Place) → Placed x j k → (b : Bool) → Turns (struck p (λ i. correlation (Frame i) v) u o n age diff gain shift x b j k)
+    struck-turns : (u : Timer) (j : Kind) (x : Place) → Placed x j k → (b : Bool) → Turns (struck p (λ i. correlation (Frame i) v) u o n age diff gain shift (older age) x b j k)
     struck-turns u j Before r true e = absurd (free-due (sym e))
     struck-turns u j Before r false e = λ other. r
     struck-turns u j Level r true e = same-kind (Held k age diff gain shift)
@@ -96,8 +96,8 @@ module _ (table : List Float) (p : ℕ) (h : Heard) where
   turned-settled xs room (quiet c) s = s
   turned-settled xs room (offer kind gain shift c) s = s
 
-  called-turns : (call : Call) → Turned (called table p h call)
-  unfolding called given answered
+  called-turns : (call : Single) → Turned (single table p h call)
+  unfolding single given answered
   called-turns (sample x room) =
       let xs : List ℤ = h .samples ++ (x ∷ []) in
       turned-if (h .control .owed) _ _ (turned-not 2 room)
@@ -108,7 +108,7 @@ module _ (table : List Float) (p : ℕ) (h : Heard) where
   called-turns query = λ alone e f. same-kind (h .control .candidate)
 
 -- ---- a run
-module _ (table : List Float) (p : ℕ) (big : 0 < p) (cs : List Call) (alone : Alone (earOf table p (heardAll table p cs .samples))) (again : NotAgain (earOf table p (heardAll table p cs .samples)) p) where
+module _ (table : List Float) (p : ℕ) (big : SymbolSize p) (cs : List Single) (alone : Alone (earOf table p (heardAll table p cs .samples))) (again : NotAgain (earOf table p (heardAll table p cs .samples)) p) where
   abbrev ear : Ear
   ear = earOf table p (heardAll table p cs .samples)
 
@@ -138,9 +138,9 @@ module _ (table : List Float) (p : ℕ) (big : 0 < p) (cs : List Call) (alone : 
       go After r = r
 
   -- at any one of the calls
-  pub switch-held : (before : List Call) (call : Call) (after : List Call) → cs ≡ before ++ (call ∷ after) → SwitchHeld (heardAll table p before .control) (called table p (heardAll table p before) call .heard .control)
+  pub switch-held : (before : List Single) (call : Single) (after : List Single) → cs ≡ before ++ (call ∷ after) → SwitchHeld (heardAll table p before .control) (single table p (heardAll table p before) call .heard .control)
   switch-held before call after e =
-      let O = on-split table p ear big alone again start before call after [] (subst (λ (l : List Call). On table p ear start l []) e (on-start table p cs)) .1 in
-      let next : List ℤ = called table p (heardAll table p before) call .heard .samples in
+      let O = on-split table p ear big alone again start before call after [] (subst (λ (l : List Single). On table p ear start l []) e (on-start table p cs)) .1 in
+      let next : List ℤ = single table p (heardAll table p before) call .heard .samples in
       let now = heard-now table p ear (heardAll table p before) call after (O .hears) in
       called-turns table p (heardAll table p before) call (subst OneAtMost now (λ j k. alone j k (length next)))

@@ -19,7 +19,7 @@ use Rattle.search.specs.declared.Reply.the-variants.{Accepted, Rejected}
 use Rattle.search.specs.Turn.{quiet, offer, pickOutcome, offered, cleared, owing, due, waited, sampled, replied}
 use Rattle.demodulator_laws.proofs.SampleFits.{controlOf}
 use Rattle.demodulator_run.specs.Marks.{Mark, FellDue, dueMarks, waitedMarks, sampledMarks, repliedMarks, searchedMarks}
-use Rattle.demodulator_run.specs.Demands.{Ear, Alone, NotAgain}
+use Rattle.demodulator_run.specs.Demands.{SymbolSize, Ear, Alone, NotAgain}
 use Rattle.demodulator_run.proofs.Pass.{Step, controlled, searchStep}
 use Rattle.demodulator_run.proofs.Log.{more}
 use Rattle.demodulator_run.proofs.Account.{Episode}
@@ -31,7 +31,7 @@ use Rattle.demodulator_run.proofs.Searching.{KeptBy, search-idle, searc
 abbrev atRest : Timer → ℕ → Control
 atRest t n = controlled Nothing Free t false (n + 1)
 
-module _ (ear : Ear) (p : ℕ) (big : 0 < p) (alone : Alone ear) (again : NotAgain ear p) (l : List Mark) where
+module _ (ear : Ear) (p : ℕ) (big : SymbolSize p) (alone : Alone ear) (again : NotAgain ear p) (l : List Mark) where
   -- the frame falls due; an offer ends the sample, and else the search runs at once
   kept-due : (n : ℕ) (t : Timer) (k : Kind) (age : ℕ) (diff gain shift : Float) → Awaiting ear p l n 1 k age diff gain shift
       → KeptBy ear p l (record {

@@ -14,7 +14,7 @@ use Rattle.search.specs.Search.{ageOf}
 use Rattle.search.specs.Fit.{controlFit}
 use Rattle.demodulator.specs.declared.SoftDemodulator.{SoftDemodulator}
 use Rattle.demodulator.specs.Record.{fresh}
-use Rattle.demodulator_run.specs.Rules.{Call, Heard, start, called, heardFrom, saidFrom}
+use Rattle.demodulator_run.specs.Rules.{Single, Heard, start, single, heardFrom, saidFrom}
 use Rattle.demodulator_run.specs.Run.{left, saidBy, recordFrom, answersFrom, Callable, Sampled}
 use Rattle.demodulator_run.specs.Represents.{Represents}
 use Rattle.demodulator_run.specs.Demands.{AgeAtMost}
@@ -48,8 +48,8 @@ module _ (m : SoftDemodulator) (h : Heard) (s : Stands m h) where
       fit-for-all m (r .rings .window-cursor) (r .rings .ring-cursor) (subst (λ (c : Control). T (controlFit 10 c)) (sym (r .control)) (s .fit .fit))
       (λ j l. subst (λ (x : Float). T (inRange x)) (sym (r .rings .ring j l)) (in-range taps 10 taps-bounded (h .samples) (s .small) _))
 
-  next : (c : Call) → Callable c → Stands (left m c .demodulator) (called taps 10 h c .heard)
-  next c g =
+  pub stands-next : (c : Single) → Callable c → Stands (left m c .demodulator) (single taps 10 h c .heard)
+  stands-next c g =
       let a = call-agrees m h (s .represents) stands-fit c in
       let f = called-fit taps 10 (lit≤ tt) taps-bounded h (s .small) (s .fit) (young h (s .reachable)) c g in
       record {
@@ -59,18 +59,18 @@ module _ (m : SoftDemodulator) (h : Heard) (s : Stands m h) where
         reachable = reachable-next taps 10 h c (s .reachable) g;
       }
 
-  next-says : (c : Call) → saidBy (left m c) ≡ called taps 10 h c .said
+  next-says : (c : Single) → saidBy (left m c) ≡ single taps 10 h c .said
   next-says c = call-agrees m h (s .represents) stands-fit c .says
 
-pub stands-after : (cs : List Call) (m : SoftDemodulator) (h : Heard) → Sampled cs → Stands m h → Stands (recordFrom m cs) (heardFrom taps 10 h cs)
+pub stands-after : (cs : List Single) (m : SoftDemodulator) (h : Heard) → Sampled cs → Stands m h → Stands (recordFrom m cs) (heardFrom taps 10 h cs)
 unfolding Sampled recordFrom heardFrom
 stands-after [] m h f s = s
-stands-after (c ∷ cs) m h f s = stands-after cs (left m c .demodulator) (called taps 10 h c .heard) (f .1) (next m h s c (f .0))
+stands-after (c ∷ cs) m h f s = stands-after cs (left m c .demodulator) (single taps 10 h c .heard) (f .1) (stands-next m h s c (f .0))
 
-pub says-after : (cs : List Call) (m : SoftDemodulator) (h : Heard) → Sampled cs → Stands m h → answersFrom m cs ≡ saidFrom taps 10 h cs
+pub says-after : (cs : List Single) (m : SoftDemodulator) (h : Heard) → Sampled cs → Stands m h → answersFrom m cs ≡ saidFrom taps 10 h cs
 unfolding Sampled answersFrom saidFrom
 says-after [] m h f s = refl
-says-after (c ∷ cs) m h f s = rw (next-says m h s c, says-after cs (left m c .demodulator) (called taps 10 h c .heard) (f .1) (next m h s c (f .0)))
+says-after (c ∷ cs) m h f s = rw (next-says m h s c, says-after cs (left m c .demodulator) (single taps 10 h c .heard) (f .1) (stands-next m h s c (f .0)))
 
 -- ---- the start
 pub stands-start : Stands fresh start

@@ -22,9 +22,9 @@ use Rattle.search.specs.Turn.{Outcome, offer, offered, cleared, due, waited, sa
 use Rattle.demodulator.specs.Spans.{eight, symbolAt}
 use Rattle.demodulator.specs.Calls.{frame}
 use Rattle.demodulator_run.specs.Filter.{filtered, ago}
-use Rattle.demodulator_run.specs.Rules.{Call, sample, Heard, After, start, settled, accepted, given, called, heardFrom, heardAll}
+use Rattle.demodulator_run.specs.Rules.{Single, sample, Heard, After, start, settled, accepted, given, single, heardFrom, heardAll}
 use Rattle.demodulator_run.specs.Marks.{isRefusal, logAll}
-use Rattle.demodulator_run.specs.Demands.{Ear, earOf, Alone, NotAgain, In, Corner, Shown, dueMark, DueBy, LiesAt}
+use Rattle.demodulator_run.specs.Demands.{SymbolSize, Ear, earOf, Alone, NotAgain, In, Corner, Shown, dueMark, DueBy, LiesAt}
 use Rattle.demodulator_run.specs.Exact.{lastSample, MarkedAt, OfferedAt}
 use Rattle.demodulator_run.proofs.Pass.{controlled}
 use Rattle.demodulator_run.proofs.Run.{On, on-split, on-start}
@@ -84,11 +84,11 @@ module _ (table : List Float) (p : ℕ) (h : Heard) (value : ℤ) (room : List F
       (h .control .candidate) (h .control .wait) e f)) refl
 
   called-window : h .control .candidate ≡ Held (x .kind) age diff (x .gain) (x .shift) → h .control .wait ≡ lastSample → offered (x .kind) ≡ true
-      → isRefusal (called table p h (sample value room) .said .answer) ≡ false → Gives (called table p h (sample value room))
-  unfolding called
+      → isRefusal (single table p h (sample value room) .said .answer) ≡ false → Gives (single table p h (sample value room))
+  unfolding single
   called-window = given-window
 
-module _ (table : List Float) (p : ℕ) (big : 0 < p) (cs : List Call) (alone : Alone (earOf table p (heardAll table p cs .samples))) (again : NotAgain (earOf table p (heardAll table p cs .samples)) p) where
+module _ (table : List Float) (p : ℕ) (big : SymbolSize p) (cs : List Single) (alone : Alone (earOf table p (heardAll table p cs .samples))) (again : NotAgain (earOf table p (heardAll table p cs .samples)) p) where
   pub due-offered : (d : ℕ) (x : Shown) → offered (x .kind) ≡ true → In (dueMark d x) (logAll table p cs) → OfferedAt table p d x cs
   due-offered d x offers i = go (log-exact table p big cs alone again (dueMark d x) .0 i)
     where
@@ -98,11 +98,11 @@ module _ (table : List Float) (p : ℕ) (big : 0 < p) (cs : List Call) (alone : 
           let value : ℤ = M .rules .0 in
           let room : List Float = M .rules .1 in
           let call : M .call ≡ sample value room = M .rules .2 in
-          let split : cs ≡ M .before ++ (sample value room ∷ M .after) = M .split ∙ ap (λ (c : Call). M .before ++ (c ∷ M .after)) call in
+          let split : cs ≡ M .before ++ (sample value room ∷ M .after) = M .split ∙ ap (λ (c : Single). M .before ++ (c ∷ M .after)) call in
           let (m, O) = on-split table p (earOf table p (heardAll table p cs .samples)) big alone again start (M .before) (sample value room) (M .after) []
-          (subst (λ (l : List Call). On table p (earOf table p (heardAll table p cs .samples)) start l []) split (on-start table p cs)) in
+          (subst (λ (l : List Single). On table p (earOf table p (heardAll table p cs .samples)) start l []) split (on-start table p cs)) in
           let number : d ≡ h .control .sample + 1 = M .rules .3 in
-          let passes : isRefusal (called table p h (sample value room) .said .answer) ≡ false = subst (λ (c : Call). isRefusal (called table p h c .said .answer) ≡ false) call (M .accepted) in
+          let passes : isRefusal (single table p h (sample value room) .said .answer) ≡ false = subst (λ (c : Single). isRefusal (single table p h c .said .answer) ≡ false) call (M .accepted) in
           record {
             before = M .before;
             value = value;
@@ -110,7 +110,7 @@ module _ (table : List Float) (p : ℕ) (big : 0 < p) (cs : List Call) (alone : 
             after = M .after;
             split = split;
             number = let c = O .counted in omega (arith, length-append (h .samples) (value ∷ []));
-            said = subst (λ (n : ℕ). called table p h (sample value room) .said ≡ record {
+            said = subst (λ (n : ℕ). single table p h (sample value room) .said ≡ record {
               answer = frame (x .kind) n;
               room = written (symbolAt p (x .gain) (x .shift) (ago table p (h .samples ++ (value ∷ [])))) 192 room;
             }) (sym number) (called-window table p h value room x (M .rules .5 .0) (M .rules .5 .1) (M .rules .5 .2) (M .rules .4) offers passes);

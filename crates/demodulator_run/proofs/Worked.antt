@@ -23,7 +23,7 @@ use Rattle.search.specs.Search.{carried, heldAfter, missed, tried, passed, sear
 use Rattle.search.specs.Turn.{cleared, waited, sampled}
 use Rattle.demodulator.specs.Calls.{refusal, nothing, done, carrier}
 use Rattle.demodulator_run.specs.Filter.{sampleNo, filtered}
-use Rattle.demodulator_run.specs.Rules.{sample, reply, query, Heard, start, settled, given, answered, called}
+use Rattle.demodulator_run.specs.Rules.{sample, reply, query, Heard, start, settled, given, answered, single}
 
 -- ---- P1: "sample 1, then 40 zeros: F(41) = tap 40, 0.35943073"
 abbrev impulse : List ℤ
@@ -38,53 +38,53 @@ p1-tap = p1 ∙ sym middle-tap
 
 -- ---- refusals
 -- "reply given while none is owed"
-refuses-3 : called taps 10 start (reply Accepted) .said .answer ≡ refusal 3
-unfolding called answered
+refuses-3 : single taps 10 start (reply Accepted) .said .answer ≡ refusal 3
+unfolding single answered
 refuses-3 = refl
 
 -- "room for symbols below 192"
-refuses-4 : called taps 10 start (sample (pos 1) (replicate 191 nought)) .said .answer ≡ refusal 4
-unfolding called given
+refuses-4 : single taps 10 start (sample (pos 1) (replicate 191 nought)) .said .answer ≡ refusal 4
+unfolding single given
 refuses-4 = refl
 
 -- "sample given while a reply is owed": the smallest number of two that apply
 owed : Heard
 owed = record { samples = []; control = record { candidate = Nothing; wait = Free; dcd = Until 5; owed = true; sample = 0 } }
 
-refuses-2 : called taps 10 owed (sample (pos 1) []) .said .answer ≡ refusal 2
-unfolding called given owed
+refuses-2 : single taps 10 owed (sample (pos 1) []) .said .answer ≡ refusal 2
+unfolding single given owed
 refuses-2 = refl
 
 -- "sample given at count 2^63"
 last : Heard
 last = record { samples = []; control = record { candidate = Nothing; wait = Free; dcd = Off; owed = false; sample = 2 ^ 63 } }
 
-refuses-5 : called taps 10 last (sample (pos 1) (replicate 192 nought)) .said .answer ≡ refusal 5
-unfolding called given last
+refuses-5 : single taps 10 last (sample (pos 1) (replicate 192 nought)) .said .answer ≡ refusal 5
+unfolding single given last
 refuses-5 = refl
 
 -- ---- "Carrier detect is yes exactly while the timer is held", while a reply is owed too
-carrier-no : called taps 10 start query .said .answer ≡ carrier false
-unfolding called
+carrier-no : single taps 10 start query .said .answer ≡ carrier false
+unfolding single
 carrier-no = refl
 
-carrier-yes : called taps 10 owed query .said .answer ≡ carrier true
-unfolding called owed
+carrier-yes : single taps 10 owed query .said .answer ≡ carrier true
+unfolding single owed
 carrier-yes = refl
 
-accepts : called taps 10 owed (reply Accepted) .said .answer ≡ done
-unfolding called answered owed
+accepts : single taps 10 owed (reply Accepted) .said .answer ≡ done
+unfolding single answered owed
 accepts = refl
 
 -- ---- the first sample finds nothing, is counted, and writes no room
 abbrev pub room : List Float
 room = replicate 192 nought
 
-pub first : called taps 10 start (sample (pos 32767) room) ≡ record {
+pub first : single taps 10 start (sample (pos 32767) room) ≡ record {
   said = record { answer = nothing; room = room };
   heard = record { samples = pos 32767 ∷ []; control = record { candidate = Nothing; wait = Free; dcd = Off; owed = false; sample = 1 } };
 }
-unfolding called given settled sampled waited cleared searched passed tried carried missed heldAfter matches correlation diffOf summed sumTo distanceOf symbolOf shiftOf gainOf highest lowest heard larger smaller sizeOf add sub mul div lt eq neg ofInt ofBits filtered sampleNo dot taps signsOf anyBelow
+unfolding single given settled sampled waited cleared searched passed tried carried missed heldAfter matches correlation diffOf summed sumTo distanceOf symbolOf shiftOf gainOf highest lowest heard larger smaller sizeOf add sub mul div lt eq neg ofInt ofBits filtered sampleNo dot taps signsOf anyBelow
 first = refl
 
 -- ---- "clear the carrier timer if the count is above its end"

@@ -22,6 +22,10 @@ use Rattle.demodulator.specs.Spans.{eight, symbolAt}
 use Rattle.demodulator_run.specs.Filter.{filtered, ago}
 use Rattle.demodulator_run.specs.Marks.{Mark, First, Anew, Failed, FellDue}
 
+-- p, the samples in a symbol: a few, so that an age of p has room in its byte
+abbrev pub SymbolSize : ℕ → Type 0
+SymbolSize p = (0 < p) × (p ≤ 254)
+
 -- ---- what is heard
 abbrev pub Ear : Type 0
 Ear = ℕ → ℕ → Float

@@ -21,7 +21,7 @@ use Rattle.search.specs.Turn.{counted, freed, owing}
 use Rattle.demodulator.specs.Spans.{symbolAt}
 use Rattle.demodulator.specs.Calls.{frame}
 use Rattle.demodulator_run.specs.Filter.{ago}
-use Rattle.demodulator_run.specs.Rules.{Call, sample, reply, query, Heard, called, heardFrom, heardAll}
+use Rattle.demodulator_run.specs.Rules.{Single, sample, reply, query, Heard, single, heardFrom, heardAll}
 use Rattle.demodulator_run.specs.Marks.{Mark, First, Anew, Failed, FellDue, isRefusal}
 use Rattle.demodulator_run.specs.Demands.{Ear, at, Matches, Unmatched, Shown}
 
@@ -35,7 +35,7 @@ lastSample = Due (record { left = 1 })
 
 -- ---- the search runs in the call, and the control before it is c
 -- A sample: no wait is held, or "A due BERT frame is not offered; the search runs at once". A reply: "Rejected: the search runs for that same sample."
-abbrev pub Searches : Heard → Call → Control → Type 0
+abbrev pub Searches : Heard → Single → Control → Type 0
 Searches h (sample x room) c =
     ((h .control .wait ≡ Free) × (c ≡ counted (h .control)))
     ⊎ ((h .control .wait ≡ lastSample) × ((diff : Float) × HeldOf Bert diff (h .control .candidate)) × (c ≡ freed (counted (h .control))))
@@ -55,7 +55,7 @@ BySearch ear c (Failed n k) =
 BySearch ear c (FellDue d k gain shift) = ⊥
 
 -- ---- what the call marks, from what came before it
-abbrev pub ByRules : Ear → Mark → Heard → Call → Type 0
+abbrev pub ByRules : Ear → Mark → Heard → Single → Type 0
 ByRules ear (First n k) h call = (c : Control) × Searches h call c × BySearch ear c (First n k)
 ByRules ear (Anew n j k) h call = (c : Control) × Searches h call c × BySearch ear c (Anew n j k)
 ByRules ear (Failed n k) h call = (c : Control) × Searches h call c × BySearch ear c (Failed n k)
@@ -65,21 +65,21 @@ ByRules ear (FellDue d k gain shift) h call =
     × ((age : ℕ) × (diff : Float) × (h .control .candidate ≡ Held k age diff gain shift))
 
 -- at one of the calls, which is accepted
-pub record MarkedAt (table : List Float) (p : ℕ) (ear : Ear) (y : Mark) (h : Heard) (cs : List Call) : Type 0 where
-  pub before : List Call
-  pub call : Call
-  pub after : List Call
+pub record MarkedAt (table : List Float) (p : ℕ) (ear : Ear) (y : Mark) (h : Heard) (cs : List Single) : Type 0 where
+  pub before : List Single
+  pub call : Single
+  pub after : List Single
   pub split : cs ≡ before ++ (call ∷ after)
-  pub accepted : isRefusal (called table p (heardFrom table p h before) call .said .answer) ≡ false
+  pub accepted : isRefusal (single table p (heardFrom table p h before) call .said .answer) ≡ false
   pub rules : ByRules ear y (heardFrom table p h before) call
 
 -- ---- "A due LSF, Stream or Packet frame is offered: the kind, the sample number d, and symbol i", at the accepted sample d
-pub record OfferedAt (table : List Float) (p : ℕ) (d : ℕ) (x : Shown) (cs : List Call) : Type 0 where
-  pub before : List Call
+pub record OfferedAt (table : List Float) (p : ℕ) (d : ℕ) (x : Shown) (cs : List Single) : Type 0 where
+  pub before : List Single
   pub value : ℤ
   pub room : List Float
-  pub after : List Call
+  pub after : List Single
   pub split : cs ≡ before ++ (sample value room ∷ after)
   pub number : length (heardAll table p before .samples ++ (value ∷ [])) ≡ d
-  pub said : called table p (heardAll table p before) (sample value room) .said
+  pub said : single table p (heardAll table p before) (sample value room) .said
       ≡ record { answer = frame (x .kind) d; room = written (symbolAt p (x .gain) (x .shift) (ago table p (heardAll table p before .samples ++ (value ∷ [])))) 192 room }

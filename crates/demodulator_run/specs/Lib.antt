@@ -9,3 +9,6 @@ pub mod Exact
 pub mod Run
 pub mod Represents
 pub mod Stretch
+pub mod Calls
+-- demand 3 at the caller's side
+pub mod CallerSees

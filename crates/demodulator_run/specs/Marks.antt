@@ -21,7 +21,7 @@ use Rattle.search.specs.Turn.{counted, freed, owing, offered}
 use Rattle.demodulator.specs.Spans.{eight}
 use Rattle.demodulator.specs.Calls.{Paper, refusal, nothing, frame, done, carrier}
 use Rattle.demodulator_run.specs.Filter.{ago}
-use Rattle.demodulator_run.specs.Rules.{Call, sample, reply, query, Heard, start, called}
+use Rattle.demodulator_run.specs.Rules.{Single, sample, reply, query, Heard, start, single}
 
 -- each with the number of its sample
 pub data Mark : Type 0 where
@@ -92,19 +92,19 @@ isRefusal (carrier held) = false
 
 module _ (table : List Float) (p : ℕ) where
   -- what the call would mark if it is accepted
-  unfoldable pub stepMarks : Heard → Call → List Mark
+  unfoldable pub stepMarks : Heard → Single → List Mark
   stepMarks h (sample x room) = sampledMarks p (eight p (ago table p (h .samples ++ (x ∷ [])))) (h .control)
   stepMarks h (reply r) = repliedMarks p (eight p (ago table p (h .samples))) r (h .control)
   stepMarks h query = []
 
   -- a refused call marks nothing
-  unfoldable pub calledMarks : Heard → Call → List Mark
-  calledMarks h c = cond (isRefusal (called table p h c .said .answer)) [] (stepMarks h c)
+  unfoldable pub calledMarks : Heard → Single → List Mark
+  calledMarks h c = cond (isRefusal (single table p h c .said .answer)) [] (stepMarks h c)
 
-  unfoldable pub logFrom : Heard → List Call → List Mark
+  unfoldable pub logFrom : Heard → List Single → List Mark
   logFrom h [] = []
-  logFrom h (c ∷ cs) = calledMarks h c ++ logFrom (called table p h c .heard) cs
+  logFrom h (c ∷ cs) = calledMarks h c ++ logFrom (single table p h c .heard) cs
 
   -- the marks of all the calls since a fresh start
-  abbrev pub logAll : List Call → List Mark
+  abbrev pub logAll : List Single → List Mark
   logAll cs = logFrom start cs

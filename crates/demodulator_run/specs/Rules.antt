@@ -16,10 +16,10 @@ use Rattle.demodulator.specs.Calls.{Paper, refusal, nothing, frame, done, carri
 use Rattle.demodulator_run.specs.Filter.{ago}
 
 -- a sample, with the room for symbols that is lent with it; a reply; a question for the carrier
-pub data Call : Type 0 where
-  sample : ℤ → List Float → Call
-  reply : Reply → Call
-  query : Call
+pub data Single : Type 0 where
+  sample : ℤ → List Float → Single
+  reply : Reply → Single
+  query : Single
 
 -- what has come of the calls so far: the accepted samples, oldest first, and the control
 pub record Heard : Type 0 where
@@ -77,23 +77,23 @@ module _ (table : List Float) (p : ℕ) where
       })
 
   -- "Carrier detect is yes exactly while the timer is held."
-  unfoldable pub called : Heard → Call → After
-  called h (sample x room) = given h x room
-  called h (reply r) = answered h r
-  called h query = record { said = record { answer = carrier (timerHeld (h .control .dcd)); room = [] }; heard = h }
+  unfoldable pub single : Heard → Single → After
+  single h (sample x room) = given h x room
+  single h (reply r) = answered h r
+  single h query = record { said = record { answer = carrier (timerHeld (h .control .dcd)); room = [] }; heard = h }
 
   -- after the calls, from where `h` stands
-  unfoldable pub heardFrom : Heard → List Call → Heard
+  unfoldable pub heardFrom : Heard → List Single → Heard
   heardFrom h [] = h
-  heardFrom h (c ∷ cs) = heardFrom (called h c .heard) cs
+  heardFrom h (c ∷ cs) = heardFrom (single h c .heard) cs
 
   -- the answers to the calls, in their order
-  unfoldable pub saidFrom : Heard → List Call → List Said
+  unfoldable pub saidFrom : Heard → List Single → List Said
   saidFrom h [] = []
-  saidFrom h (c ∷ cs) = called h c .said ∷ saidFrom (called h c .heard) cs
+  saidFrom h (c ∷ cs) = single h c .said ∷ saidFrom (single h c .heard) cs
 
-  abbrev pub heardAll : List Call → Heard
+  abbrev pub heardAll : List Single → Heard
   heardAll cs = heardFrom start cs
 
-  abbrev pub saidAll : List Call → List Said
+  abbrev pub saidAll : List Single → List Said
   saidAll cs = saidFrom start cs

@@ -10,7 +10,7 @@ use Rattle.modulator.specs.declared.SampleCount.{SampleCount}
 use Rattle.modulator.specs.declared.EndReport.the-variants.{Nothing, After}
 use Rattle.modulator.specs.declared.SoftModulator.{SoftModulator}
 use Rattle.modulator.specs.Fit.{countFit, recordFit}
-use Rattle.modulator.specs.Record.{withPending}
+use Rattle.modulator.specs.Record.{bufferOf, withPending}
 use Rattle.modulator.specs.Calls.{left, refusal, done, transmitEnd, readOutput, idle, getFrame, nothing, read, drained, updated, updatedPending, ran, nextAction, reported, idled}
 
 -- 8: "fill, capacity or latency above 16,777,216"
@@ -52,7 +52,7 @@ module _ (m : SoftModulator) where
 
     pub update-done : recordFit m ≡ true → tooLarge fill capacity latency ≡ false → fill ≤ capacity
         → updated m fill capacity latency
-        ≡ left done (withPending (updatedPending 10 fill capacity latency (m .pending)) (record { «output_latency» = latency; «samples_in_buf» = fill; «buf_capacity» = capacity }) m) []
+        ≡ left done (withPending (updatedPending 10 fill capacity latency (m .pending)) (bufferOf fill capacity latency) m) []
     unfolding updated
     update-done e t l = rw (e, t, le-ltb capacity fill l)
 

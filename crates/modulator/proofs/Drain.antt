@@ -37,7 +37,7 @@ module _ (m : SoftModulator) (place : m .progress .«next_read» ≤ m .progress
 
       pub drained-is : drained m room
           ≡ left (wrote (zeros + samples))
-          (withProgress (record { «next_len» = m .progress .«next_len»; «next_read» = m .progress .«next_read» + samples; «tx_delay_padding» = m .progress .«tx_delay_padding» - zeros }) m)
+          (withProgress (record { «next_len» = m .progress .«next_len»; «next_read» = m .progress .«next_read» + samples; «tx_delay_padding» = record { 0 = m .progress .«tx_delay_padding» .0 - zeros } }) m)
           (take zeros padded ++ (copied ++ drop (length padded - zeros) (drop zeros padded)))
       unfolding drained
       drained-is = rw (copied-is, padded-is, both-written silence zeros room room-holds (unread m) samples, samples-read, zeros-are, handed-is (length room))

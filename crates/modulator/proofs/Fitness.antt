@@ -26,13 +26,13 @@ use Rattle.modulator.specs.Fit.{pulseFit, windowFit, progressFit, buffer
 pub record ProgressFacts (s : Progress) : Type 0 where
   pub len : s .«next_len» ≤ 4000
   pub read : s .«next_read» ≤ s .«next_len»
-  pub padding : s .«tx_delay_padding» ≤ 122400
+  pub padding : s .«tx_delay_padding» .0 ≤ 122400
 
 pub record BufferFacts (b : OutputBuffer) : Type 0 where
-  pub fill : b .«samples_in_buf» ≤ 16777216
-  pub capacity : b .«buf_capacity» ≤ 16777216
-  pub latency : b .«output_latency» ≤ 16777216
-  pub room : b .«samples_in_buf» ≤ b .«buf_capacity»
+  pub fill : b .«samples_in_buf» .0 ≤ 16777216
+  pub capacity : b .«buf_capacity» .0 ≤ 16777216
+  pub latency : b .«output_latency» .0 ≤ 16777216
+  pub room : b .«samples_in_buf» .0 ≤ b .«buf_capacity» .0
 
 pub record RecordFacts (m : SoftModulator) : Type 0 where
   pub cursor : m .«filter_cursor» ≤ 80
@@ -54,12 +54,12 @@ progress-facts : (s : Progress) → T (progressFit 10 s) → ProgressFacts s
 progress-facts s t =
     let len = leb (s .«next_len») 4000 in
     let read = leb (s .«next_read») (s .«next_len») in
-    let padding = leb (s .«tx_delay_padding») 122400 in
+    let padding = leb (s .«tx_delay_padding» .0) 122400 in
     let two = and-l (len && read) padding t in
     record {
       len = leb→le (s .«next_len») 4000 (and-l len read two);
       read = leb→le (s .«next_read») (s .«next_len») (and-r len read two);
-      padding = leb→le (s .«tx_delay_padding») 122400 (and-r (len && read) padding t);
+      padding = leb→le (s .«tx_delay_padding» .0) 122400 (and-r (len && read) padding t);
     }
 
 pub count-fact : (n : ℕ) → T (countFit n) → n ≤ 16777216
@@ -67,17 +67,17 @@ count-fact n t = leb→le n 16777216 t
 
 buffer-facts : (b : OutputBuffer) → T (bufferFit b) → BufferFacts b
 buffer-facts b t =
-    let fill = countFit (b .«samples_in_buf») in
-    let capacity = countFit (b .«buf_capacity») in
-    let latency = countFit (b .«output_latency») in
-    let room = leb (b .«samples_in_buf») (b .«buf_capacity») in
+    let fill = countFit (b .«samples_in_buf» .0) in
+    let capacity = countFit (b .«buf_capacity» .0) in
+    let latency = countFit (b .«output_latency» .0) in
+    let room = leb (b .«samples_in_buf» .0) (b .«buf_capacity» .0) in
     let three = and-l (fill && capacity && latency) room t in
     let two = and-l (fill && capacity) latency three in
     record {
-      fill = count-fact (b .«samples_in_buf») (and-l fill capacity two);
-      capacity = count-fact (b .«buf_capacity») (and-r fill capacity two);
-      latency = count-fact (b .«output_latency») (and-r (fill && capacity) latency three);
-      room = leb→le (b .«samples_in_buf») (b .«buf_capacity») (and-r (fill && capacity && latency) room t);
+      fill = count-fact (b .«samples_in_buf» .0) (and-l fill capacity two);
+      capacity = count-fact (b .«buf_capacity» .0) (and-r fill capacity two);
+      latency = count-fact (b .«output_latency» .0) (and-r (fill && capacity) latency three);
+      room = leb→le (b .«samples_in_buf» .0) (b .«buf_capacity» .0) (and-r (fill && capacity && latency) room t);
     }
 
 report-fact : (end : SampleCount) → T (reportFit (After end)) → end .0 ≤ 33554432

@@ -37,12 +37,12 @@ module _ (m : SoftModulator) (frame : ModulatorFrame) (symbols : List Float) whe
     frame-none k = rw (fit, k)
 
     pub frame-preamble : (steps : DelaySteps) → frame ≡ Preamble steps
-        → provided m frame symbols ≡ left done (framed 10 preamble (paddingOf 10 (steps .0) (m .buffer .«output_latency»)) (m .pending) m) []
+        → provided m frame symbols ≡ left done (framed 10 preamble (paddingOf 10 (steps .0) (m .buffer .«output_latency» .0)) (m .pending) m) []
     unfolding provided accepted
     frame-preamble steps k = rw (fit, k)
 
     pub frame-ending : frame ≡ EndOfTransmission
-        → provided m frame symbols ≡ left done (framed 10 ending (m .progress .«tx_delay_padding») (ended (m .pending)) m) []
+        → provided m frame symbols ≡ left done (framed 10 ending (m .progress .«tx_delay_padding» .0) (ended (m .pending)) m) []
     unfolding provided accepted
     frame-ending k = rw (fit, k)
 
@@ -61,6 +61,6 @@ module _ (m : SoftModulator) (frame : ModulatorFrame) (symbols : List Float) whe
       frame-outside n h = frame-given-symbols ∙ rw (eq-eqb (length symbols) 192 n, sym (symbols-within symbols n) ∙ h)
 
       pub frame-given : length symbols ≡ 192 → allBelow (length symbols) (λ (i : ℕ). within one (getD symbols i nan)) ≡ true
-          → provided m frame symbols ≡ left done (framed 10 (given symbols) (m .progress .«tx_delay_padding») (m .pending) m) []
+          → provided m frame symbols ≡ left done (framed 10 (given symbols) (m .progress .«tx_delay_padding» .0) (m .pending) m) []
       unfolding givenFrame
       frame-given n h = frame-given-symbols ∙ rw (eq-eqb (length symbols) 192 n, sym (symbols-within symbols n) ∙ h)

@@ -20,7 +20,7 @@ module _ (p padding : ℕ) (pending : Pending) (m : SoftModulator) where
         «next_transmission» = store;
         «filter_win» = line .window;
         «filter_cursor» = line .cursor;
-        progress = record { «next_len» = p * s .count; «next_read» = 0; «tx_delay_padding» = padding };
+        progress = record { «next_len» = p * s .count; «next_read» = 0; «tx_delay_padding» = record { 0 = padding } };
         pending = pending;
         buffer = m .buffer;
       } ≡ framed p s padding pending m

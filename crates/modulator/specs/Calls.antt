@@ -9,6 +9,7 @@ use lib.ListN.{length, getD, take, drop, replicate}
 use lib.Ieee.{Float, nan}
 use Rattle.numbers.specs.Below.{allBelow}
 use Rattle.protocol.specs.Refusals.{paperNumber}
+use Rattle.modulator.specs.declared.SampleCount.{SampleCount}
 use Rattle.modulator.specs.declared.EndReport.{EndReport}
 use Rattle.modulator.specs.declared.EndReport.the-variants.{Nothing as NoReport, After}
 use Rattle.modulator.specs.declared.Pending.{Pending}
@@ -28,7 +29,7 @@ use Rattle.modulator.specs.declared.AfterRead.{AfterRead}
 use Rattle.modulator.specs.declared.AfterUpdate.{AfterUpdate}
 use Rattle.modulator.specs.declared.AfterRun.{AfterRun}
 use Rattle.modulator.specs.Frame.{preamble, given, ending, symbolFit, paddingOf}
-use Rattle.modulator.specs.Record.{fresh, framed, withProgress, withPending}
+use Rattle.modulator.specs.Record.{fresh, framed, bufferOf, withProgress, withPending}
 use Rattle.modulator.specs.Fit.{recordFit, countFit}
 
 -- ---- the paper's answers: a refusal's number, or the paper's values
@@ -84,14 +85,14 @@ unfoldable pub givenFrame : SoftModulator → List Float → Left
 givenFrame m symbols =
     cond (not (eqb (length symbols) 192)) (left (refusal 6) m [])
     (cond (not (allBelow 192 (λ (i : ℕ). symbolFit (getD symbols i nan)))) (left (refusal 7) m [])
-    (left done (framed 10 (given symbols) (m .progress .«tx_delay_padding») (m .pending) m) []))
+    (left done (framed 10 (given symbols) (m .progress .«tx_delay_padding» .0) (m .pending) m) []))
 
 -- "None only drops the wish for a frame."
 unfoldable pub accepted : SoftModulator → ModulatorFrame → List Float → Left
 accepted m NoFrame symbols = left done (withPending (dropped (m .pending)) (m .buffer) m) []
-accepted m (Preamble steps) symbols = left done (framed 10 preamble (paddingOf 10 (steps .0) (m .buffer .«output_latency»)) (m .pending) m) []
+accepted m (Preamble steps) symbols = left done (framed 10 preamble (paddingOf 10 (steps .0) (m .buffer .«output_latency» .0)) (m .pending) m) []
 accepted m GivenSymbols symbols = givenFrame m symbols
-accepted m EndOfTransmission symbols = left done (framed 10 ending (m .progress .«tx_delay_padding») (ended (m .pending)) m) []
+accepted m EndOfTransmission symbols = left done (framed 10 ending (m .progress .«tx_delay_padding» .0) (ended (m .pending)) m) []
 
 unfoldable pub provided : SoftModulator → ModulatorFrame → List Float → Left
 provided m frame symbols = cond (not (recordFit m)) (left (refusal 1) m []) (accepted m frame symbols)
@@ -99,7 +100,7 @@ provided m frame symbols = cond (not (recordFit m)) (left (refusal 1) m []) (acc
 -- ---- a read
 -- "Reading writes padding zeros first, then frame samples into the rest of the caller's room. It reports how many were written; the rest of the room is unchanged."
 abbrev pub zerosRead : SoftModulator → ℕ → ℕ
-zerosRead m room = min room (m .progress .«tx_delay_padding»)
+zerosRead m room = min room (m .progress .«tx_delay_padding» .0)
 
 abbrev pub samplesRead : SoftModulator → ℕ → ℕ
 samplesRead m room = min (room - zerosRead m room) (m .progress .«next_len» - m .progress .«next_read»)
@@ -112,7 +113,7 @@ drained m room =
     let zeros : ℕ = zerosRead m (length room) in
     let samples : ℕ = samplesRead m (length room) in
     left (wrote (zeros + samples))
-    (withProgress (record { «next_len» = m .progress .«next_len»; «next_read» = m .progress .«next_read» + samples; «tx_delay_padding» = m .progress .«tx_delay_padding» - zeros }) m)
+    (withProgress (record { «next_len» = m .progress .«next_len»; «next_read» = m .progress .«next_read» + samples; «tx_delay_padding» = record { 0 = m .progress .«tx_delay_padding» .0 - zeros } }) m)
     (handedOut m (length room) ++ drop (zeros + samples) room)
 
 unfoldable pub read : SoftModulator → List ℤ → Left
@@ -138,7 +139,7 @@ updated m fill capacity latency =
     cond (not (recordFit m)) (left (refusal 1) m [])
     (cond (not (countFit fill) || not (countFit capacity) || not (countFit latency)) (left (refusal 8) m [])
     (cond (ltb capacity fill) (left (refusal 9) m [])
-    (left done (withPending (updatedPending 10 fill capacity latency (m .pending)) (record { «output_latency» = latency; «samples_in_buf» = fill; «buf_capacity» = capacity }) m) [])))
+    (left done (withPending (updatedPending 10 fill capacity latency (m .pending)) (bufferOf fill capacity latency) m) [])))
 
 -- ---- the next action
 abbrev pub reported : Pending → Pending
@@ -172,9 +173,9 @@ pub record read-output-samples-says (m : SoftModulator) (room : List ℤ) (r : A
   pub leaves : r .modulator ≡ read m room .modulator
   pub writes : after ≡ read m room .room
 
-pub record update-output-buffer-says (m : SoftModulator) (fill capacity latency : ℕ) (r : AfterUpdate) : Type 0 where
-  pub answers : updatedPaper (r .answer) ≡ updated m fill capacity latency .answer
-  pub leaves : r .modulator ≡ updated m fill capacity latency .modulator
+pub record update-output-buffer-says (m : SoftModulator) (fill capacity latency : SampleCount) (r : AfterUpdate) : Type 0 where
+  pub answers : updatedPaper (r .answer) ≡ updated m (fill .0) (capacity .0) (latency .0) .answer
+  pub leaves : r .modulator ≡ updated m (fill .0) (capacity .0) (latency .0) .modulator
 
 pub record run-says (m : SoftModulator) (r : AfterRun) : Type 0 where
   pub answers : actionPaper (r .answer) ≡ ran m .answer

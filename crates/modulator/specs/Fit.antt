@@ -24,14 +24,14 @@ windowFit m = allBelow 81 (λ (i : ℕ). pulseFit (getD (m .«filter_win») i na
 
 -- "length above 4,000; read place above length; padding above 122,400"
 abbrev pub progressFit : ℕ → Progress → Bool
-progressFit p s = leb (s .«next_len») (400 * p) && leb (s .«next_read») (s .«next_len») && leb (s .«tx_delay_padding») (255 * (48 * p))
+progressFit p s = leb (s .«next_len») (400 * p) && leb (s .«next_read») (s .«next_len») && leb (s .«tx_delay_padding» .0) (255 * (48 * p))
 
 -- "fill, capacity or latency above 16,777,216; capacity below fill"
 abbrev pub countFit : ℕ → Bool
 countFit n = leb n 16777216
 
 abbrev pub bufferFit : OutputBuffer → Bool
-bufferFit b = countFit (b .«samples_in_buf») && countFit (b .«buf_capacity») && countFit (b .«output_latency») && leb (b .«samples_in_buf») (b .«buf_capacity»)
+bufferFit b = countFit (b .«samples_in_buf» .0) && countFit (b .«buf_capacity» .0) && countFit (b .«output_latency» .0) && leb (b .«samples_in_buf» .0) (b .«buf_capacity» .0)
 
 -- "a reported end above 33,554,432"
 abbrev pub reportFit : EndReport → Bool

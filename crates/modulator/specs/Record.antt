@@ -13,15 +13,19 @@ use Rattle.modulator.specs.declared.SoftModulator.{SoftModulator}
 use Rattle.modulator.specs.Pulse.{Line, after, pulses, sampleAt}
 use Rattle.modulator.specs.Frame.{Symbols}
 
+-- "An update stores fill, capacity and latency."
+abbrev pub bufferOf : ℕ → ℕ → ℕ → OutputBuffer
+bufferOf fill capacity latency = record { «output_latency» = record { 0 = latency }; «samples_in_buf» = record { 0 = fill }; «buf_capacity» = record { 0 = capacity } }
+
 -- "idle yes (once from a fresh start)"
 unfoldable pub fresh : SoftModulator
 fresh = record {
   «next_transmission» = replicate 4000 (pos 0);
   «filter_win» = replicate 81 (ofBits binary32 0);
   «filter_cursor» = 0;
-  progress = record { «next_len» = 0; «next_read» = 0; «tx_delay_padding» = 0 };
+  progress = record { «next_len» = 0; «next_read» = 0; «tx_delay_padding» = record { 0 = 0 } };
   pending = record { «update_idle» = true; «calculate_tx_end» = false; «report_tx_end» = Nothing; «try_get_frame» = false };
-  buffer = record { «output_latency» = 0; «samples_in_buf» = 0; «buf_capacity» = 0 };
+  buffer = bufferOf 0 0 0;
 }
 
 abbrev pub lineOf : SoftModulator → Line
@@ -56,7 +60,7 @@ framed p s padding pending m =
       «next_transmission» = written (sampleAt e (lineOf m)) n (m .«next_transmission»);
       «filter_win» = after e n (lineOf m) .window;
       «filter_cursor» = after e n (lineOf m) .cursor;
-      progress = record { «next_len» = n; «next_read» = 0; «tx_delay_padding» = padding };
+      progress = record { «next_len» = n; «next_read» = 0; «tx_delay_padding» = record { 0 = padding } };
       pending = pending;
       buffer = m .buffer;
     }

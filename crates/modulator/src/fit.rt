@@ -4,6 +4,7 @@ ghost use Rattle.modulator.specs.Fit.{progressFit, countFit, bufferFit, 
 use super::EndReport;
 use super::OutputBuffer;
 use super::Progress;
+use super::SampleCount;
 use super::SoftModulator;
 use super::pulse::FULL_SYMBOL;
 use super::within::all_within;
@@ -13,14 +14,14 @@ fn progress_fit(progress: Progress) -> bool
 {
     (progress.next_len <= 4000)
         & (progress.next_read <= progress.next_len)
-        & (progress.tx_delay_padding <= 122400)
+        & (progress.tx_delay_padding.0 <= 122400)
 }
 
 // A fill, a capacity or a latency that is taken.
-pub(crate) fn count_fit(n: usize) -> bool
-    ensures { λ r. ⌜ r ≡ countFit n ⌝ }
+pub(crate) fn count_fit(n: SampleCount) -> bool
+    ensures { λ r. ⌜ r ≡ countFit (n .0) ⌝ }
 {
-    n <= 16777216
+    n.0 <= 16777216
 }
 
 fn buffer_fit(buffer: OutputBuffer) -> bool
@@ -29,7 +30,7 @@ fn buffer_fit(buffer: OutputBuffer) -> bool
     count_fit(buffer.samples_in_buf)
         & count_fit(buffer.buf_capacity)
         & count_fit(buffer.output_latency)
-        & (buffer.samples_in_buf <= buffer.buf_capacity)
+        & (buffer.samples_in_buf.0 <= buffer.buf_capacity.0)
 }
 
 fn report_fit(report: EndReport) -> bool

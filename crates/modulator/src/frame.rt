@@ -1,6 +1,6 @@
 // Frames go in: each kind's symbols, the checks on symbols that are given, and the samples that they become.
 ghost use mathlib.Core.Path.{_≡_};
-ghost use Prim.Native.Nat.{_*_, _≤_, _<_};
+ghost use Prim.Native.Nat.{_≤_, _<_};
 ghost use lib.ListN.{length};
 ghost use Rattle.numbers.specs.Firsts.{firsts};
 ghost use Rattle.modulator.specs.Frame.{listing, preamble, given, ending, paddingOf};
@@ -22,17 +22,6 @@ use super::pulse::push_symbols;
 use super::within::all_within;
 use protocol::Refusal;
 
-// What a step of ten milliseconds is at 48 kHz.
-const SAMPLES_PER_STEP: usize = 480;
-
-impl DelaySteps {
-    fn in_samples(self) -> SampleCount
-        ensures { λ r. ⌜ r .0 ≡ 480 * self .0 ⌝ }
-    {
-        SampleCount(SAMPLES_PER_STEP * (self.0 as usize))
-    }
-}
-
 // The end of transmission, and the zeros that empty the window after it.
 fn ending_symbols() -> [f32; 272]
     ensures { λ r. ⌜ r ≡ firsts (ending .symbol) 272 ⌝ }
@@ -48,9 +37,14 @@ fn ending_symbols() -> [f32; 272]
 }
 
 // The frame takes the place of what is unread of the last one.
-fn framed(m: SoftModulator, symbols: &[f32], padding: usize, pending: Pending) -> SoftModulator
+fn framed(
+    m: SoftModulator,
+    symbols: &[f32],
+    padding: SampleCount,
+    pending: Pending,
+) -> SoftModulator
     requires { ⌜ (m .«filter_cursor» < 81) × (length (now symbols) ≤ 400) ⌝ }
-    ensures { λ r. ⌜ r ≡ framed 10 (listing (now (symbols .entry))) padding pending m ⌝ }
+    ensures { λ r. ⌜ r ≡ framed 10 (listing (now (symbols .entry))) (padding .0) pending m ⌝ }
 {
     let mut store = m.next_transmission;
     let mut window = m.filter_win;
@@ -75,18 +69,19 @@ fn framed(m: SoftModulator, symbols: &[f32], padding: usize, pending: Pending) -
 
 fn preamble(m: SoftModulator, tx_delay: DelaySteps) -> SoftModulator
     requires { ⌜ m .«filter_cursor» < 81 ⌝ }
-    ensures { λ r. ⌜ r ≡ framed 10 preamble (paddingOf 10 («tx_delay» .0) (m .buffer .«output_latency»)) (m .pending) m ⌝ }
+    ensures { λ r. ⌜ r ≡ framed 10 preamble (paddingOf 10 («tx_delay» .0) (m .buffer .«output_latency» .0)) (m .pending) m ⌝ }
 {
     let pending = m.pending;
+    let latency = m.buffer.output_latency;
     let delay = tx_delay.in_samples();
-    let padding = numbers::saturating_sub(delay.0, m.buffer.output_latency);
+    let padding = delay.saturating_sub(latency);
     let symbols = encode::generate_preamble();
     framed(m, &symbols, padding, pending)
 }
 
 fn given(m: SoftModulator, symbols: &[f32]) -> SoftModulator
     requires { ⌜ (m .«filter_cursor» < 81) × (length (now symbols) ≡ 192) ⌝ }
-    ensures { λ r. ⌜ r ≡ framed 10 (given (now (symbols .entry))) (m .progress .«tx_delay_padding») (m .pending) m ⌝ }
+    ensures { λ r. ⌜ r ≡ framed 10 (given (now (symbols .entry))) (m .progress .«tx_delay_padding» .0) (m .pending) m ⌝ }
 {
     let pending = m.pending;
     let padding = m.progress.tx_delay_padding;
@@ -95,7 +90,7 @@ fn given(m: SoftModulator, symbols: &[f32]) -> SoftModulator
 
 fn end_of_transmission(m: SoftModulator) -> SoftModulator
     requires { ⌜ m .«filter_cursor» < 81 ⌝ }
-    ensures { λ r. ⌜ r ≡ framed 10 ending (m .progress .«tx_delay_padding») (ended (m .pending)) m ⌝ }
+    ensures { λ r. ⌜ r ≡ framed 10 ending (m .progress .«tx_delay_padding» .0) (ended (m .pending)) m ⌝ }
 {
     let mut pending = m.pending;
     pending.calculate_tx_end = true;
@@ -122,7 +117,7 @@ impl SoftModulator {
             progress: Progress {
                 next_len: 0,
                 next_read: 0,
-                tx_delay_padding: 0,
+                tx_delay_padding: SampleCount(0),
             },
             pending: Pending {
                 update_idle: true,
@@ -131,9 +126,9 @@ impl SoftModulator {
                 try_get_frame: false,
             },
             buffer: OutputBuffer {
-                output_latency: 0,
-                samples_in_buf: 0,
-                buf_capacity: 0,
+                output_latency: SampleCount(0),
+                samples_in_buf: SampleCount(0),
+                buf_capacity: SampleCount(0),
             },
         }
     }

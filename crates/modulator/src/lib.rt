@@ -1,6 +1,8 @@
 // The sender: SoftModulator of the Rust's modem.rs as a record by value. Frames go in, and samples for the sound card come out, with the actions that keep the two in step.
 use protocol::Refusal;
 
+mod action;
+mod counts;
 mod fit;
 mod frame;
 mod output;
@@ -23,7 +25,7 @@ pub enum EndReport {
 pub struct Progress {
     pub next_len: usize,
     pub next_read: usize,
-    pub tx_delay_padding: usize,
+    pub tx_delay_padding: SampleCount,
 }
 
 // What is still to be told: the idle state, an end to be worked out, an end to be reported, the wish for a frame.
@@ -36,9 +38,9 @@ pub struct Pending {
 
 // The sound card's buffer, as the last update gave it.
 pub struct OutputBuffer {
-    pub output_latency: usize,
-    pub samples_in_buf: usize,
-    pub buf_capacity: usize,
+    pub output_latency: SampleCount,
+    pub samples_in_buf: SampleCount,
+    pub buf_capacity: SampleCount,
 }
 
 pub struct SoftModulator {

@@ -1,15 +1,13 @@
-// What the sender hands to the sound card, and what it asks of its caller: reading samples, updates of the card's buffer, and the next action.
+// What the sender hands to the sound card, and what the card tells of its buffer: reads and updates.
 ghost use mathlib.Core.Path.{_≡_};
 ghost use Prim.Native.Nat.{ℕ, _+_, _-_, _≤_, min};
 ghost use lib.IntN.{pos};
 ghost use lib.ListN.{length, getD};
 ghost use Rattle.numbers.specs.Firsts.{written};
-ghost use Rattle.modulator.specs.Calls.{updatedPending, reported, read-output-samples-says, update-output-buffer-says, run-says};
+ghost use Rattle.modulator.specs.Calls.{updatedPending, read-output-samples-says, update-output-buffer-says};
 use super::AfterRead;
-use super::AfterRun;
 use super::AfterUpdate;
 use super::EndReport;
-use super::ModulatorAction;
 use super::OutputBuffer;
 use super::Pending;
 use super::Progress;
@@ -29,11 +27,11 @@ fn fewer(a: usize, b: usize) -> usize
 }
 
 // Zeros for as much of the padding as the room holds.
-fn write_padding(padding: usize, room: &mut [i16]) -> usize
-    ensures count { λ r. ⌜ r ≡ min (length (now (room .entry))) padding ⌝ }
+fn write_padding(padding: SampleCount, room: &mut [i16]) -> usize
+    ensures count { λ r. ⌜ r ≡ min (length (now (room .entry))) (padding .0) ⌝ }
     ensures zeros { λ r. ⌜ now (room .exit) ≡ written (λ (i : ℕ). pos 0) r (now (room .entry)) ⌝ }
 {
-    let end = fewer(room.len(), padding);
+    let end = fewer(room.len(), padding.0);
     let mut i: usize = 0;
     while i < end {
         room[i] = 0;
@@ -60,14 +58,19 @@ fn copy_frame(store: &[i16; 4000], read: usize, len: usize, room: &mut [i16]) ->
 }
 
 // What is pending once the card's counts are known: the end that is owed is worked out, and the wish for a frame is raised or stays.
-fn updated_pending(pending: Pending, fill: usize, capacity: usize, latency: usize) -> Pending
-    requires { ⌜ (fill ≤ 16777216) × (latency ≤ 16777216) × (fill ≤ capacity) ⌝ }
-    ensures { λ r. ⌜ r ≡ updatedPending 10 fill capacity latency pending ⌝ }
+fn updated_pending(
+    pending: Pending,
+    fill: SampleCount,
+    capacity: SampleCount,
+    latency: SampleCount,
+) -> Pending
+    requires { ⌜ (fill .0 ≤ 16777216) × (latency .0 ≤ 16777216) ⌝ }
+    ensures { λ r. ⌜ r ≡ updatedPending 10 (fill .0) (capacity .0) (latency .0) pending ⌝ }
 {
     let report = pending.report_tx_end;
-    let room = capacity - fill;
-    let end = fill + latency;
-    let wish = (2000 <= room) | pending.try_get_frame;
+    let room = capacity.saturating_sub(fill);
+    let end = fill.0 + latency.0;
+    let wish = (2000 <= room.0) | pending.try_get_frame;
     if pending.calculate_tx_end {
         return Pending {
             update_idle: pending.update_idle,
@@ -84,19 +87,6 @@ fn updated_pending(pending: Pending, fill: usize, capacity: usize, latency: usiz
     }
 }
 
-// What is pending once the end is reported: no end.
-fn reported(pending: Pending) -> Pending
-    ensures { λ r. ⌜ r ≡ reported pending ⌝ }
-{
-    let report = EndReport::Nothing;
-    Pending {
-        update_idle: pending.update_idle,
-        calculate_tx_end: pending.calculate_tx_end,
-        report_tx_end: report,
-        try_get_frame: pending.try_get_frame,
-    }
-}
-
 impl SoftModulator {
     // Padding first, and then the frame into the rest of the room: the answer is how many places were written.
     pub fn read_output_samples(mut self, out: &mut [i16]) -> AfterRead
@@ -109,7 +99,8 @@ impl SoftModulator {
             };
         }
         let progress = self.progress;
-        let written = write_padding(progress.tx_delay_padding, out);
+        let padding = progress.tx_delay_padding;
+        let written = write_padding(padding, out);
         let copied = copy_frame(
             &self.next_transmission,
             progress.next_read,
@@ -117,7 +108,7 @@ impl SoftModulator {
             &mut out[written..],
         );
         let next_read = progress.next_read + copied;
-        let tx_delay_padding = progress.tx_delay_padding - written;
+        let tx_delay_padding = padding.saturating_sub(SampleCount(written));
         let left = Progress {
             next_len: progress.next_len,
             next_read,
@@ -134,9 +125,9 @@ impl SoftModulator {
     // What lies in the card's buffer, what it holds, and how many samples pass from there to the wire.
     pub fn update_output_buffer(
         mut self,
-        samples_to_play: usize,
-        capacity: usize,
-        output_latency: usize,
+        samples_to_play: SampleCount,
+        capacity: SampleCount,
+        output_latency: SampleCount,
     ) -> AfterUpdate
         ensures { λ r. ⌜ update-output-buffer-says self «samples_to_play» capacity «output_latency» r ⌝ }
     {
@@ -152,7 +143,7 @@ impl SoftModulator {
                 modulator: self,
             };
         }
-        if capacity < samples_to_play {
+        if capacity.0 < samples_to_play.0 {
             return AfterUpdate {
                 answer: Updated::Refused(Refusal::CapacityBelowFill),
                 modulator: self,
@@ -170,57 +161,6 @@ impl SoftModulator {
         AfterUpdate {
             answer: Updated::Done,
             modulator: self,
-        }
-    }
-
-    // The next thing for the caller to do. What is told once is not pending any more.
-    pub fn run(mut self) -> AfterRun
-        ensures { λ r. ⌜ run-says self r ⌝ }
-    {
-        if !record_fit(self) {
-            return AfterRun {
-                answer: ModulatorAction::Refused(Refusal::RecordUnfit),
-                modulator: self,
-            };
-        }
-        let mut pending = self.pending;
-        let report = pending.report_tx_end;
-        match report {
-            EndReport::After(end) => {
-                let told = reported(pending);
-                self.pending = told;
-                AfterRun {
-                    answer: ModulatorAction::TransmissionWillEnd(end),
-                    modulator: self,
-                }
-            }
-            EndReport::Nothing => {
-                let progress = self.progress;
-                if progress.next_read < progress.next_len {
-                    return AfterRun {
-                        answer: ModulatorAction::ReadOutput,
-                        modulator: self,
-                    };
-                }
-                if pending.update_idle {
-                    pending.update_idle = false;
-                    self.pending = pending;
-                    return AfterRun {
-                        answer: ModulatorAction::SetIdle(true),
-                        modulator: self,
-                    };
-                }
-                if pending.try_get_frame {
-                    return AfterRun {
-                        answer: ModulatorAction::GetNextFrame,
-                        modulator: self,
-                    };
-                }
-                AfterRun {
-                    answer: ModulatorAction::Nothing,
-                    modulator: self,
-                }
-            }
         }
     }
 }

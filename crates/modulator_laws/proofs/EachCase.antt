@@ -10,7 +10,7 @@ use Rattle.modulator.specs.declared.EndReport.{EndReport}
 use Rattle.modulator.specs.declared.EndReport.the-variants.{Nothing, After}
 use Rattle.modulator.specs.declared.SoftModulator.{SoftModulator}
 use Rattle.modulator.specs.Fit.{recordFit}
-use Rattle.modulator.specs.Record.{withPending}
+use Rattle.modulator.specs.Record.{bufferOf, withPending}
 use Rattle.modulator.specs.Calls.{Left, left, refusal, done, transmitEnd, readOutput, idle, getFrame, nothing, updated, updatedPending, ran, nextAction, reported, idled}
 use Rattle.modulator.proofs.Cases.{tooLarge}
 use Rattle.modulator_laws.proofs.Picked.{picked}
@@ -18,7 +18,7 @@ use Rattle.modulator_laws.proofs.Picked.{picked}
 module _ (m : SoftModulator) (P : Left → Type 0) where
   pub each-update : (fill capacity latency : ℕ) → P (left (refusal 1) m []) → P (left (refusal 8) m []) → P (left (refusal 9) m [])
       → (tooLarge fill capacity latency ≡ false → fill ≤ capacity
-      → P (left done (withPending (updatedPending 10 fill capacity latency (m .pending)) (record { «output_latency» = latency; «samples_in_buf» = fill; «buf_capacity» = capacity }) m) []))
+      → P (left done (withPending (updatedPending 10 fill capacity latency (m .pending)) (bufferOf fill capacity latency) m) []))
       → P (updated m fill capacity latency)
   unfolding updated
   each-update fill capacity latency unfit large below taken =

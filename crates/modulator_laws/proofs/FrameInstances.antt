@@ -81,7 +81,7 @@ frame-unfit-meets = frame-unfit astray NoFrame [] astray-unfit
 frame-none-meets : provided fresh NoFrame [] ≡ left done (withPending (dropped (fresh .pending)) (fresh .buffer) fresh) []
 frame-none-meets = frame-none fresh NoFrame [] fresh-fit refl
 
-frame-preamble-meets : provided fresh (Preamble (record { 0 = 1 })) [] ≡ left done (framed 10 preamble (paddingOf 10 1 (fresh .buffer .«output_latency»)) (fresh .pending) fresh) []
+frame-preamble-meets : provided fresh (Preamble (record { 0 = 1 })) [] ≡ left done (framed 10 preamble (paddingOf 10 1 (fresh .buffer .«output_latency» .0)) (fresh .pending) fresh) []
 frame-preamble-meets = frame-preamble fresh (Preamble (record { 0 = 1 })) [] fresh-fit (record { 0 = 1 }) refl
 
 frame-count-meets : provided fresh GivenSymbols [] ≡ left (refusal 6) fresh []
@@ -95,11 +95,11 @@ frame-outside-meets : provided fresh GivenSymbols (even (ofBits binary32 0x4000_
 unfolding even allBelow ofBits le neg
 frame-outside-meets = frame-outside fresh GivenSymbols (even (ofBits binary32 0x4000_0000)) fresh-fit refl refl refl
 
-frame-given-meets : provided fresh GivenSymbols (even one) ≡ left done (framed 10 (given (even one)) (fresh .progress .«tx_delay_padding») (fresh .pending) fresh) []
+frame-given-meets : provided fresh GivenSymbols (even one) ≡ left done (framed 10 (given (even one)) (fresh .progress .«tx_delay_padding» .0) (fresh .pending) fresh) []
 unfolding even allBelow ofBits le neg
 frame-given-meets = frame-given fresh GivenSymbols (even one) fresh-fit refl refl refl
 
-frame-ending-meets : provided fresh EndOfTransmission [] ≡ left done (framed 10 ending (fresh .progress .«tx_delay_padding») (ended (fresh .pending)) fresh) []
+frame-ending-meets : provided fresh EndOfTransmission [] ≡ left done (framed 10 ending (fresh .progress .«tx_delay_padding» .0) (ended (fresh .pending)) fresh) []
 frame-ending-meets = frame-ending fresh EndOfTransmission [] fresh-fit refl
 
 framed-listed-meets : (x : Float) (padding : ℕ)

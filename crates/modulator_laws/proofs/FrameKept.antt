@@ -53,15 +53,15 @@ module _ (m : SoftModulator) (symbols : List Float) (fit : recordFit m ≡ true)
   abbrev Kept : Left → Type 0
   Kept l = recordFit (l .modulator) ≡ true
 
-  padding-short : m .progress .«tx_delay_padding» ≤ 122400
+  padding-short : m .progress .«tx_delay_padding» .0 ≤ 122400
   padding-short = record-facts m fit .progress .padding
 
   given-fit : Kept (givenFrame m symbols)
   unfolding givenFrame
   given-fit =
       let tested : Bool = allBelow 192 (λ (i : ℕ). symbolFit (getD symbols i nan)) in
-      let taken : tested ≡ true → Kept (left done (framed 10 (given symbols) (m .progress .«tx_delay_padding») (m .pending) m) []) =
-      λ e. framed-fit m fit (given symbols) (m .progress .«tx_delay_padding») (m .pending) (lit≤ tt) (given-small symbols (subst T (sym e) tt)) padding-short (groups m fit .report)
+      let taken : tested ≡ true → Kept (left done (framed 10 (given symbols) (m .progress .«tx_delay_padding» .0) (m .pending) m) []) =
+      λ e. framed-fit m fit (given symbols) (m .progress .«tx_delay_padding» .0) (m .pending) (lit≤ tt) (given-small symbols (subst T (sym e) tt)) padding-short (groups m fit .report)
       in
       picked Kept (not (eqb (length symbols) 192)) _ _ (λ _. fit) λ _. picked Kept (not tested) _ _ (λ _. fit) λ e. taken (not-false tested e)
 
@@ -69,10 +69,10 @@ module _ (m : SoftModulator) (symbols : List Float) (fit : recordFit m ≡ true)
   unfolding accepted recordFit windowFit
   accepted-fit NoFrame h = fit
   accepted-fit (Preamble steps) h =
-      framed-fit m fit preamble (paddingOf 10 (steps .0) (m .buffer .«output_latency»)) (m .pending) (lit≤ tt) preamble-small (omega (arith, h steps refl)) (groups m fit .report)
+      framed-fit m fit preamble (paddingOf 10 (steps .0) (m .buffer .«output_latency» .0)) (m .pending) (lit≤ tt) preamble-small (omega (arith, h steps refl)) (groups m fit .report)
   accepted-fit GivenSymbols h = given-fit
   accepted-fit EndOfTransmission h =
-      framed-fit m fit ending (m .progress .«tx_delay_padding») (ended (m .pending)) (lit≤ tt) ending-small padding-short (groups m fit .report)
+      framed-fit m fit ending (m .progress .«tx_delay_padding» .0) (ended (m .pending)) (lit≤ tt) ending-small padding-short (groups m fit .report)
 
   pub frame-fit : (frame : ModulatorFrame) → Byte frame → Kept (provided m frame symbols)
   unfolding provided

@@ -24,7 +24,7 @@ sending = record {
   «next_transmission» = pos 11 ∷ pos 12 ∷ pos 13 ∷ replicate 3997 (pos 0);
   «filter_win» = fresh .«filter_win»;
   «filter_cursor» = 0;
-  progress = record { «next_len» = 3; «next_read» = 0; «tx_delay_padding» = 2 };
+  progress = record { «next_len» = 3; «next_read» = 0; «tx_delay_padding» = record { 0 = 2 } };
   pending = fresh .pending;
   buffer = fresh .buffer;
 }

@@ -21,11 +21,11 @@ use Rattle.modulator_laws.proofs.EachCase.{each-update, each-action}
 
 -- ---- groups that are fit
 progress-fit : (s : Progress) → ProgressFacts s → T (progressFit 10 s)
-progress-fit s f = rw (le-leb (s .«next_len») 4000 (f .len), le-leb (s .«next_read») (s .«next_len») (f .read), le-leb (s .«tx_delay_padding») 122400 (f .padding)) tt
+progress-fit s f = rw (le-leb (s .«next_len») 4000 (f .len), le-leb (s .«next_read») (s .«next_len») (f .read), le-leb (s .«tx_delay_padding» .0) 122400 (f .padding)) tt
 
 buffer-fit : (b : OutputBuffer) → BufferFacts b → T (bufferFit b)
 buffer-fit b f =
-    rw (le-leb (b .«samples_in_buf») 16777216 (f .fill), le-leb (b .«buf_capacity») 16777216 (f .capacity), le-leb (b .«output_latency») 16777216 (f .latency), le-leb (b .«samples_in_buf») (b .«buf_capacity») (f .room)) tt
+    rw (le-leb (b .«samples_in_buf» .0) 16777216 (f .fill), le-leb (b .«buf_capacity» .0) 16777216 (f .capacity), le-leb (b .«output_latency» .0) 16777216 (f .latency), le-leb (b .«samples_in_buf» .0) (b .«buf_capacity» .0) (f .room)) tt
 
 -- ---- a fit record with one of them changed
 module _ (m : SoftModulator) (e : recordFit m ≡ true) where

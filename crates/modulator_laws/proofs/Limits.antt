@@ -11,7 +11,7 @@ use Rattle.modulator.specs.declared.Progress.{Progress}
 use Rattle.modulator.specs.declared.OutputBuffer.{OutputBuffer}
 use Rattle.modulator.specs.declared.SoftModulator.{SoftModulator}
 use Rattle.modulator.specs.Fit.{pulseFit, windowFit, recordFit}
-use Rattle.modulator.specs.Record.{fresh}
+use Rattle.modulator.specs.Record.{fresh, bufferOf}
 
 -- a record by the parts that have limits
 abbrev made : ℕ → List Float → Progress → OutputBuffer → ℕ → SoftModulator
@@ -25,10 +25,7 @@ made cursor window progress buffer end = record {
 }
 
 abbrev progressed : ℕ → ℕ → ℕ → Progress
-progressed length place padding = record { «next_len» = length; «next_read» = place; «tx_delay_padding» = padding }
-
-abbrev buffered : ℕ → ℕ → ℕ → OutputBuffer
-buffered fill capacity latency = record { «output_latency» = latency; «samples_in_buf» = fill; «buf_capacity» = capacity }
+progressed length place padding = record { «next_len» = length; «next_read» = place; «tx_delay_padding» = record { 0 = padding } }
 
 -- 35,461 in every place, -35,461 in the last
 abbrev loudest : List Float
@@ -38,7 +35,7 @@ abbrev most : Progress
 most = progressed 4000 4000 122400
 
 abbrev fullest : OutputBuffer
-fullest = buffered 16777216 16777216 16777216
+fullest = bufferOf 16777216 16777216 16777216
 
 abbrev fits : SoftModulator → Bool → Type 0
 fits m answer = recordFit m ≡ answer
@@ -81,19 +78,19 @@ unfolding recordFit windowFit pulseFit allBelow ofBits le
 padding-past = refl
 
 -- "fill, capacity or latency above 16,777,216; capacity below fill"
-fill-past : fits (made 80 loudest most (buffered 16777217 16777217 16777216) 33554432) false
+fill-past : fits (made 80 loudest most (bufferOf 16777217 16777217 16777216) 33554432) false
 unfolding recordFit windowFit pulseFit allBelow ofBits le
 fill-past = refl
 
-capacity-past : fits (made 80 loudest most (buffered 16777216 16777217 16777216) 33554432) false
+capacity-past : fits (made 80 loudest most (bufferOf 16777216 16777217 16777216) 33554432) false
 unfolding recordFit windowFit pulseFit allBelow ofBits le
 capacity-past = refl
 
-latency-past : fits (made 80 loudest most (buffered 16777216 16777216 16777217) 33554432) false
+latency-past : fits (made 80 loudest most (bufferOf 16777216 16777216 16777217) 33554432) false
 unfolding recordFit windowFit pulseFit allBelow ofBits le
 latency-past = refl
 
-capacity-below : fits (made 80 loudest most (buffered 16777216 16777215 16777216) 33554432) false
+capacity-below : fits (made 80 loudest most (bufferOf 16777216 16777215 16777216) 33554432) false
 unfolding recordFit windowFit pulseFit allBelow ofBits le
 capacity-below = refl
 

@@ -1,10 +1,10 @@
 -- Each promise of `modulator` leaves one answer, one record and, where room is lent, one room. Assumes nothing.
 use mathlib.Core.Path.{_≡_}
 use mathlib.Core.List.{List}
-use Prim.Native.Nat.{ℕ}
 use lib.IntN.{ℤ}
 use lib.Ieee.{Float}
 use Rattle.numbers.proofs.Answer.{same-answer}
+use Rattle.modulator.specs.declared.SampleCount.{SampleCount}
 use Rattle.modulator.specs.declared.SoftModulator.{SoftModulator}
 use Rattle.modulator.specs.declared.ModulatorFrame.{ModulatorFrame}
 use Rattle.modulator.specs.declared.Provided.{Provided}
@@ -39,7 +39,7 @@ read-output-samples-only-answer m room r s a b p q =
     let records = same-answer (p .leaves) (q .leaves) in
     (joined {R = AfterRead} (λ (answer : Read) (left : SoftModulator). record { answer = answer; modulator = left }) answers records, same-answer (p .writes) (q .writes))
 
-pub update-output-buffer-only-answer : (m : SoftModulator) (fill capacity latency : ℕ) (r s : AfterUpdate)
+pub update-output-buffer-only-answer : (m : SoftModulator) (fill capacity latency : SampleCount) (r s : AfterUpdate)
     → update-output-buffer-says m fill capacity latency r → update-output-buffer-says m fill capacity latency s → r ≡ s
 update-output-buffer-only-answer m fill capacity latency r s p q =
     let answers = updated-once (r .answer) (s .answer) (same-answer (p .answers) (q .answers)) in

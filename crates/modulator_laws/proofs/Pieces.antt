@@ -25,7 +25,7 @@ module _ (m : SoftModulator) (a b : List ℤ) where
   next = drained m a .modulator
 
   abbrev p : ℕ
-  p = m .progress .«tx_delay_padding»
+  p = m .progress .«tx_delay_padding» .0
 
   abbrev place : ℕ
   place = m .progress .«next_read»

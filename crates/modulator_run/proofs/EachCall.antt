@@ -16,11 +16,12 @@ use Rattle.modulator.specs.declared.SampleCount.{SampleCount}
 use Rattle.modulator.specs.declared.ModulatorFrame.{ModulatorFrame}
 use Rattle.modulator.specs.declared.ModulatorFrame.the-variants.{Nothing as NoFrame, Preamble, Symbols as GivenSymbols, EndOfTransmission}
 use Rattle.modulator.specs.Frame.{preamble, given, ending, symbolFit, paddingOf}
+use Rattle.modulator.specs.Record.{bufferOf}
 use Rattle.modulator.specs.Fit.{countFit}
 use Rattle.modulator.specs.Calls.{refusal, done, transmitEnd, readOutput, idle, getFrame, nothing, dropped, ended, updatedPending, reported, idled}
 use Rattle.modulator_laws.proofs.Picked.{picked}
 use Rattle.modulator_run.specs.Rules.{Call, provide, read, update, ask, Sent, After, after, withPending, framed, provided, drained, updated, asked, called}
-use Rattle.modulator_run.specs.Reports.{stores}
+use Rattle.modulator_run.specs.Kinds.{stores}
 
 -- a call that is refused, by a number other than 1
 pub data Refusing : Call → ℕ → Type 0 where
@@ -35,14 +36,14 @@ module _ (table : List Float) (p : ℕ) (s : Sent) (P : Call → After → Type 
     pub refused : (c : Call) (number : ℕ) → Refusing c number → P c (after (refusal number) [] s)
     pub no-frame : (symbols : List Float) → P (provide NoFrame symbols) (after done [] (withPending (dropped (s .pending)) (s .buffer) s))
     pub delayed : (steps : DelaySteps) (symbols : List Float)
-        → P (provide (Preamble steps) symbols) (after done [] (framed table p preamble (paddingOf p (steps .0) (s .buffer .«output_latency»)) (s .pending) s))
+        → P (provide (Preamble steps) symbols) (after done [] (framed table p preamble (paddingOf p (steps .0) (s .buffer .«output_latency» .0)) (s .pending) s))
     pub symbols-given : (symbols : List Float) → allBelow 192 (λ (i : ℕ). symbolFit (getD symbols i nan)) ≡ true
-        → P (provide GivenSymbols symbols) (after done [] (framed table p (given symbols) (s .progress .«tx_delay_padding») (s .pending) s))
-    pub last-frame : (symbols : List Float) → P (provide EndOfTransmission symbols) (after done [] (framed table p ending (s .progress .«tx_delay_padding») (ended (s .pending)) s))
+        → P (provide GivenSymbols symbols) (after done [] (framed table p (given symbols) (s .progress .«tx_delay_padding» .0) (s .pending) s))
+    pub last-frame : (symbols : List Float) → P (provide EndOfTransmission symbols) (after done [] (framed table p ending (s .progress .«tx_delay_padding» .0) (ended (s .pending)) s))
     pub reads : (room : List ℤ) → P (read room) (drained table p room s)
     pub stored : (fill capacity latency : ℕ) → stores (update fill capacity latency) ≡ true
         → P (update fill capacity latency)
-        (after done [] (withPending (updatedPending p fill capacity latency (s .pending)) (record { «output_latency» = latency; «samples_in_buf» = fill; «buf_capacity» = capacity }) s))
+        (after done [] (withPending (updatedPending p fill capacity latency (s .pending)) (bufferOf fill capacity latency) s))
     pub told : (end : SampleCount) → s .pending .«report_tx_end» ≡ Reported end → P ask (after (transmitEnd (end .0)) [] (withPending (reported (s .pending)) (s .buffer) s))
     pub unread : s .pending .«report_tx_end» ≡ NoReport → ltb (s .progress .«next_read») (s .progress .«next_len») ≡ true → P ask (after readOutput [] s)
     pub idles : s .pending .«report_tx_end» ≡ NoReport → ltb (s .progress .«next_read») (s .progress .«next_len») ≡ false → s .pending .«update_idle» ≡ true

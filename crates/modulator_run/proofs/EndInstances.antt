@@ -21,7 +21,8 @@ use Rattle.modulator.specs.Calls.{read as readInto}
 use Rattle.modulator_run.specs.Stream.{sentAt}
 use Rattle.modulator_run.specs.Rules.{Call, provide, update, ask, called, sentFrom, sentAll}
 use Rattle.modulator_run.specs.Run.{left, saidBy, recordAfter, answersFrom, Delay, Given, AllGiven}
-use Rattle.modulator_run.specs.Reports.{stores, none, Owed, NewReport, Free, FreeBefore}
+use Rattle.modulator_run.specs.Kinds.{stores, ends, none}
+use Rattle.modulator_run.specs.Reports.{Owed, NewReport, Free, FreeBefore}
 use Rattle.modulator_run.specs.EndFrame.{EndFrame}
 use Rattle.modulator_run.specs.Pieces.{reads, SameAs, SameLeft}
 use Rattle.modulator_run.proofs.LastCall.{no-parts}
@@ -40,7 +41,7 @@ made-up = record {
   «next_transmission» = replicate 4000 (pos 9);
   «filter_win» = replicate 81 (ofBits binary32 0x470a_8500);
   «filter_cursor» = 40;
-  progress = record { «next_len» = 4000; «next_read» = 17; «tx_delay_padding» = 122400 };
+  progress = record { «next_len» = 4000; «next_read» = 17; «tx_delay_padding» = record { 0 = 122400 } };
   pending = fresh .pending;
   buffer = fresh .buffer;
 }
@@ -64,8 +65,8 @@ abbrev end : Call
 end = provide EndOfTransmission []
 
 owed-twice : Owed (end ∷ end ∷ [])
-unfolding none
-owed-twice = record { before = end ∷ []; symbols = []; since = []; parts = refl; pending = tt }
+unfolding ends none
+owed-twice = record { before = end ∷ []; call = end; since = []; parts = refl; started = tt; unstopped = tt }
 
 owed-is : owed (sentAll taps 10 (end ∷ end ∷ [])) ≡ true
 owed-is = owed-exactly taps 10 (end ∷ end ∷ []) .1 owed-twice
@@ -79,8 +80,8 @@ earlier = end ∷ end ∷ update 100 3000 50 ∷ []
 
 -- an end provided after the first report, whether or not that one was told
 owed-again : (cs : List Call) → Owed (cs ++ end ∷ [])
-unfolding none
-owed-again cs = record { before = cs; symbols = []; since = []; parts = refl; pending = tt }
+unfolding ends none
+owed-again cs = record { before = cs; call = end; since = []; parts = refl; started = tt; unstopped = tt }
 
 second-told : called taps 10 (sentAll taps 10 (end ∷ end ∷ update 100 3000 50 ∷ ask ∷ end ∷ update 7 2500 3 ∷ [])) ask .said .answer ≡ transmitEnd 10
 unfolding stores none

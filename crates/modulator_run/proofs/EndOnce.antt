@@ -11,7 +11,8 @@ use Rattle.shaping.specs.Taps.{taps}
 use Rattle.modulator.specs.Calls.{transmitEnd}
 use Rattle.modulator_run.specs.Rules.{Call, update, ask, Said, called, sentAll}
 use Rattle.modulator_run.specs.Run.{left, recordAfter, AllGiven}
-use Rattle.modulator_run.specs.Reports.{stores, asks, none, Owed, Reporting, Untold, NewReport}
+use Rattle.modulator_run.specs.Kinds.{stores, asks, none}
+use Rattle.modulator_run.specs.Reports.{Owed, Reporting, Untold, NewReport}
 use Rattle.modulator_run.proofs.SenderRun.{next-call}
 use Rattle.modulator_run.proofs.Told.{told-exactly}
 

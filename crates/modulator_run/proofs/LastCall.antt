@@ -11,7 +11,7 @@ use lib.Ieee.Fits.{and-i, and-l, and-r}
 use Rattle.modulator.specs.declared.SoftModulator.{SoftModulator}
 use Rattle.modulator_run.specs.Rules.{Call, Sent, Said, called, sentFrom, saidFrom}
 use Rattle.modulator_run.specs.Run.{left, saidBy, recordFrom, answersFrom}
-use Rattle.modulator_run.specs.Reports.{none}
+use Rattle.modulator_run.specs.Kinds.{none}
 
 -- ---- one more call
 -- what holds of the empty list, and of a list with one more call at its end, holds of all

@@ -13,11 +13,15 @@ pub mod SenderRun
 pub mod EachCall
 -- no call is refused with 1
 pub mod NeverUnfit
+-- a refused call changes nothing
+pub mod Refused
 -- how large a sample is
 pub mod Phases
 pub mod Within
 -- a list by its last call
 pub mod LastCall
+-- what one kind of call starts and another stops
+pub mod Lasting
 -- when an end is owed
 pub mod Owed
 -- when it is told
@@ -26,6 +30,9 @@ pub mod Told
 pub mod EndOnce
 -- idle, once
 pub mod IdleOnce
+-- the wish for a frame, and the padding
+pub mod Wish
+pub mod Padding
 -- the end of transmission
 pub mod Flush
 pub mod EndFrame
@@ -37,3 +44,4 @@ pub mod Worked
 -- instances that meet what the laws ask
 pub mod RunInstances
 pub mod EndInstances
+pub mod WishInstances

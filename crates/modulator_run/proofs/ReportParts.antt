@@ -6,16 +6,18 @@ use mathlib.Core.List.{List, [], _∷_, _++_, append-assoc}
 use Prim.Native.Nat.{ℕ}
 use lib.Dec.{T}
 use Rattle.modulator_run.specs.Rules.{Call, provide, read, update, ask}
-use Rattle.modulator_run.specs.Reports.{stores, asks, Owed, Reporting, Untold}
+use Rattle.modulator_run.specs.Kinds.{stores, asks}
+use Rattle.modulator_run.specs.Reports.{Owed, Reporting, Untold}
 use Rattle.modulator_run.proofs.LastCall.{none-more, no-parts, last-parts}
 
 owed-behind : (xs ys : List Call) → Owed ys → Owed (xs ++ ys)
 owed-behind xs ys o = record {
   before = xs ++ o .before;
-  symbols = o .symbols;
+  call = o .call;
   since = o .since;
   parts = ap (λ (ds : List Call). xs ++ ds) (o .parts) ∙ sym (append-assoc xs (o .before) _);
-  pending = o .pending;
+  started = o .started;
+  unstopped = o .unstopped;
 }
 
 pub reporting-more : (cs : List Call) (c : Call) → Reporting cs → Reporting (cs ++ c ∷ [])

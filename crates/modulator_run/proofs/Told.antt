@@ -13,12 +13,14 @@ use Rattle.modulator.specs.declared.EndReport.the-variants.{Nothing as NoReport
 use Rattle.modulator.specs.declared.SampleCount.{SampleCount}
 use Rattle.modulator.specs.Calls.{transmitEnd, endReport}
 use Rattle.modulator_run.specs.Rules.{Call, provide, read, update, ask, Sent, After, start, framed, drained, asked, called, sentFrom, sentAll}
-use Rattle.modulator_run.specs.Reports.{stores, asks, none, Owed, Reporting, Untold}
+use Rattle.modulator_run.specs.Kinds.{stores, asks, ends, none}
+use Rattle.modulator_run.specs.Reports.{Owed, Reporting, Untold}
 use Rattle.modulator_laws.proofs.Picked.{picked}
 use Rattle.modulator_run.proofs.EachCall.{Refusing, miscounted, outside, large, below, each-call}
 use Rattle.modulator_run.proofs.LastCall.{by-last, sent-behind, sent-last, none-fewer}
 use Rattle.modulator_run.proofs.ReportParts.{reporting-more, reporting-here, reporting-none, untold-more}
-use Rattle.modulator_run.proofs.Owed.{owedNext, owed, owed-next, owed-after, owed-by, owed-exactly}
+use Rattle.modulator_run.proofs.Lasting.{lasted}
+use Rattle.modulator_run.proofs.Owed.{owed, owed-next, owed-from, owed-exactly}
 
 abbrev report : Sent → EndReport
 report s = s .pending .«report_tx_end»
@@ -118,8 +120,8 @@ module _ (fill capacity latency : ℕ) where
   unfolding reportNext
   made-by n o r t e same = rw (is-true (stores (update fill capacity latency)) t, e, same)
 
-  freed-by : (o : Bool) → T (stores (update fill capacity latency)) → owedNext (update fill capacity latency) o ≡ false
-  unfolding owedNext
+  freed-by : (o : Bool) → T (stores (update fill capacity latency)) → lasted ends stores (update fill capacity latency) o ≡ false
+  unfolding ends
   freed-by o t = rw (is-true (stores (update fill capacity latency)) t)
 
 module _ (table : List Float) (p : ℕ) where
@@ -131,7 +133,7 @@ module _ (table : List Float) (p : ℕ) where
       (λ cs c before t newest.
       let fewer = none-fewer asks cs c t in
       let there : Sent = sentFrom table p s cs in
-      let none-owed : T (stores c) → owed there ≡ false = λ taken. never-owed (owed there) λ o. newest (reporting-here cs c taken (owed-by table p s free cs o)) in
+      let none-owed : T (stores c) → owed there ≡ false = λ taken. never-owed (owed there) λ o. newest (reporting-here cs c taken (owed-from table p s free cs .0 o)) in
       ap report (sent-last table p s cs c)
       ∙ report-next table p there c
       ∙ ap (reportNext c (owed there)) (before (fewer .0) (λ old. newest (reporting-more cs c old)))
@@ -143,7 +145,7 @@ module _ (table : List Float) (p : ℕ) where
       let r = u .report in
       let c : Call = update (r .fill) (r .capacity) (r .latency) in
       let there : Sent = sentAll table p (r .before) in
-      let made : report (called table p there c .sent) ≡ Reported (record { 0 = n }) = report-next table p there c ∙ made-by (r .fill) (r .capacity) (r .latency) n (owed there) (report there) (r .taken) (owed-after table p start refl (r .before) (r .owed)) (u .samples) in
+      let made : report (called table p there c .sent) ≡ Reported (record { 0 = n }) = report-next table p there c ∙ made-by (r .fill) (r .capacity) (r .latency) n (owed there) (report there) (r .taken) (owed-exactly table p (r .before) .1 (r .owed)) (u .samples) in
       let free : owed (called table p there c .sent) ≡ false = owed-next table p there c ∙ freed-by (r .fill) (r .capacity) (r .latency) (owed there) (r .taken) in
       ap (λ (ds : List Call). report (sentAll table p ds)) (r .parts)
       ∙ ap report (sent-behind table p start (r .before) (c ∷ r .since))

@@ -41,7 +41,7 @@ out-in-pieces f z z′ r s s′ one =
 module _ (table : List Float) (p : ℕ) where
   -- ---- one read
   abbrev padding : Sent → ℕ
-  padding s = s .progress .«tx_delay_padding»
+  padding s = s .progress .«tx_delay_padding» .0
 
   abbrev unread : Sent → ℕ
   unread s = s .progress .«next_len» - s .progress .«next_read»

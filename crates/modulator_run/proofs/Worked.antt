@@ -62,18 +62,18 @@ delayed-given : (latency : ℕ) → AllGiven (delayed latency)
 unfolding AllGiven Given Delay
 delayed-given latency = (tt, (lit< tt, tt))
 
-delayed-500 : sentAll taps 10 (delayed 500) .progress .«tx_delay_padding» ≡ 0
+delayed-500 : sentAll taps 10 (delayed 500) .progress .«tx_delay_padding» .0 ≡ 0
 unfolding sentFrom called updated provided framed
 delayed-500 = refl
 
-delayed-400 : sentAll taps 10 (delayed 400) .progress .«tx_delay_padding» ≡ 80
+delayed-400 : sentAll taps 10 (delayed 400) .progress .«tx_delay_padding» .0 ≡ 80
 unfolding sentFrom called updated provided framed
 delayed-400 = refl
 
 abbrev paddingIn : Progress → ℕ
-paddingIn s = s .«tx_delay_padding»
+paddingIn s = s .«tx_delay_padding» .0
 
-pub p12-run : (recordAfter (delayed 500) .progress .«tx_delay_padding» ≡ 0) × (recordAfter (delayed 400) .progress .«tx_delay_padding» ≡ 80)
+pub p12-run : (recordAfter (delayed 500) .progress .«tx_delay_padding» .0 ≡ 0) × (recordAfter (delayed 400) .progress .«tx_delay_padding» .0 ≡ 80)
 p12-run = (
   ap paddingIn (sender-run (delayed 500) (delayed-given 500) .0 .progress) ∙ delayed-500,
   ap paddingIn (sender-run (delayed 400) (delayed-given 400) .0 .progress) ∙ delayed-400,

@@ -6,8 +6,13 @@ pub mod Run
 pub mod Represents
 -- the bound of every sample
 pub mod Loudness
+-- calls by their kind
+pub mod Kinds
 -- what is told once
 pub mod Reports
+-- the wish for a frame, and the padding
+pub mod Wish
+pub mod Padding
 -- the end of transmission
 pub mod EndFrame
 -- reads in pieces

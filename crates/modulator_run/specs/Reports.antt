@@ -1,43 +1,18 @@
 -- When an end is owed, when it is reported, and when idle is told, the end by the calls alone, idle by the calls and what the rules then hold: "If a transmit end is owed, it is reported as fill + latency"; "transmit end (once)"; "idle yes (once from a
 -- fresh start)". Assumes nothing.
 use mathlib.Core.Path.{_≡_}
-use mathlib.Core.Bool.{Bool, true, false, not, _&&_}
-use mathlib.Core.List.{List, [], _∷_, _++_}
+use mathlib.Core.List.{List, _∷_, _++_}
 use Prim.Native.Nat.{ℕ, _+_, _≤_}
-use lib.Dec.{T, leb}
+use lib.Dec.{T}
 use lib.Ieee.{Float}
 use Rattle.modulator.specs.declared.EndReport.the-variants.{Nothing as NoReport}
-use Rattle.modulator.specs.declared.ModulatorFrame.the-variants.{EndOfTransmission}
-use Rattle.modulator.specs.Fit.{countFit}
-use Rattle.modulator_run.specs.Rules.{Call, provide, read, update, ask, Sent, sentAll}
-
--- ---- kinds of calls
--- an update that is not refused
-unfoldable pub stores : Call → Bool
-stores (provide frame symbols) = false
-stores (read room) = false
-stores (update fill capacity latency) = countFit fill && countFit capacity && countFit latency && leb fill capacity
-stores ask = false
-
-unfoldable pub asks : Call → Bool
-asks (provide frame symbols) = false
-asks (read room) = false
-asks (update fill capacity latency) = false
-asks ask = true
-
--- no call of the list is of a kind
-unfoldable pub none : (Call → Bool) → List Call → Bool
-none kind [] = true
-none kind (c ∷ cs) = not (kind c) && none kind cs
+use Rattle.modulator_run.specs.Rules.{Call, update, ask, Sent, sentAll}
+use Rattle.modulator_run.specs.Kinds.{stores, asks, ends, none, Lasting}
 
 -- ---- the end
 -- an end of transmission was provided, and no update was taken since
-pub record Owed (cs : List Call) : Type 0 where
-  pub before : List Call
-  pub symbols : List Float
-  pub since : List Call
-  pub parts : cs ≡ before ++ provide EndOfTransmission symbols ∷ since
-  pub pending : T (none stores since)
+abbrev pub Owed : List Call → Type 0
+Owed cs = Lasting ends stores cs
 
 -- Among these calls stands an update that finds an end owed by one of them.
 pub record Reporting (cs : List Call) : Type 0 where

@@ -17,6 +17,7 @@ use Rattle.modulator.specs.declared.OutputBuffer.{OutputBuffer}
 use Rattle.modulator.specs.declared.ModulatorFrame.{ModulatorFrame}
 use Rattle.modulator.specs.declared.ModulatorFrame.the-variants.{Nothing as NoFrame, Preamble, Symbols as GivenSymbols, EndOfTransmission}
 use Rattle.modulator.specs.Frame.{Symbols, preamble, given, ending, symbolFit, paddingOf}
+use Rattle.modulator.specs.Record.{bufferOf}
 use Rattle.modulator.specs.Fit.{countFit}
 use Rattle.modulator.specs.Calls.{Paper, refusal, done, wrote, transmitEnd, readOutput, idle, getFrame, nothing, dropped, ended, updatedPending, reported, idled}
 use Rattle.modulator_run.specs.Stream.{sentAt}
@@ -53,9 +54,9 @@ abbrev pub start : Sent
 start = record {
   symbols = [];
   before = 0;
-  progress = record { «next_len» = 0; «next_read» = 0; «tx_delay_padding» = 0 };
+  progress = record { «next_len» = 0; «next_read» = 0; «tx_delay_padding» = record { 0 = 0 } };
   pending = record { «update_idle» = true; «calculate_tx_end» = false; «report_tx_end» = NoReport; «try_get_frame» = false };
-  buffer = record { «output_latency» = 0; «samples_in_buf» = 0; «buf_capacity» = 0 };
+  buffer = bufferOf 0 0 0;
 }
 
 abbrev pub after : Paper → List ℤ → Sent → After
@@ -70,7 +71,7 @@ module _ (table : List Float) (p : ℕ) where
   framed frame padding pending s = record {
     symbols = s .symbols ++ firsts (frame .symbol) (frame .count);
     before = p * length (s .symbols);
-    progress = record { «next_len» = p * frame .count; «next_read» = 0; «tx_delay_padding» = padding };
+    progress = record { «next_len» = p * frame .count; «next_read» = 0; «tx_delay_padding» = record { 0 = padding } };
     pending = pending;
     buffer = s .buffer;
   }
@@ -78,16 +79,16 @@ module _ (table : List Float) (p : ℕ) where
   -- "None only drops the wish for a frame." Of padding: "Only a preamble sets it." 6: "symbols not exactly 192"; 7: "a symbol not a number or outside -1 to 1"
   unfoldable pub provided : ModulatorFrame → List Float → Sent → After
   provided NoFrame symbols s = after done [] (withPending (dropped (s .pending)) (s .buffer) s)
-  provided (Preamble steps) symbols s = after done [] (framed preamble (paddingOf p (steps .0) (s .buffer .«output_latency»)) (s .pending) s)
+  provided (Preamble steps) symbols s = after done [] (framed preamble (paddingOf p (steps .0) (s .buffer .«output_latency» .0)) (s .pending) s)
   provided GivenSymbols symbols s =
       cond (not (eqb (length symbols) 192)) (after (refusal 6) [] s)
       (cond (not (allBelow 192 (λ (i : ℕ). symbolFit (getD symbols i nan)))) (after (refusal 7) [] s)
-      (after done [] (framed (given symbols) (s .progress .«tx_delay_padding») (s .pending) s)))
-  provided EndOfTransmission symbols s = after done [] (framed ending (s .progress .«tx_delay_padding») (ended (s .pending)) s)
+      (after done [] (framed (given symbols) (s .progress .«tx_delay_padding» .0) (s .pending) s)))
+  provided EndOfTransmission symbols s = after done [] (framed ending (s .progress .«tx_delay_padding» .0) (ended (s .pending)) s)
 
   -- "Reading writes padding zeros first, then frame samples into the rest of the caller's room."
   abbrev pub zerosRead : Sent → ℕ → ℕ
-  zerosRead s room = min room (s .progress .«tx_delay_padding»)
+  zerosRead s room = min room (s .progress .«tx_delay_padding» .0)
 
   abbrev pub samplesRead : Sent → ℕ → ℕ
   samplesRead s room = min (room - zerosRead s room) (s .progress .«next_len» - s .progress .«next_read»)
@@ -109,7 +110,7 @@ module _ (table : List Float) (p : ℕ) where
         sent = record {
           symbols = s .symbols;
           before = s .before;
-          progress = record { «next_len» = s .progress .«next_len»; «next_read» = s .progress .«next_read» + samples; «tx_delay_padding» = s .progress .«tx_delay_padding» - zeros };
+          progress = record { «next_len» = s .progress .«next_len»; «next_read» = s .progress .«next_read» + samples; «tx_delay_padding» = record { 0 = s .progress .«tx_delay_padding» .0 - zeros } };
           pending = s .pending;
           buffer = s .buffer;
         };
@@ -120,7 +121,7 @@ module _ (table : List Float) (p : ℕ) where
   updated fill capacity latency s =
       cond (not (countFit fill) || not (countFit capacity) || not (countFit latency)) (after (refusal 8) [] s)
       (cond (ltb capacity fill) (after (refusal 9) [] s)
-      (after done [] (withPending (updatedPending p fill capacity latency (s .pending)) (record { «output_latency» = latency; «samples_in_buf» = fill; «buf_capacity» = capacity }) s)))
+      (after done [] (withPending (updatedPending p fill capacity latency (s .pending)) (bufferOf fill capacity latency) s)))
 
   -- "Next action, first that applies: transmit end (once), read output if unread samples are left, idle yes (once from a fresh start), get a frame if wished, nothing."
   unfoldable pub asked : EndReport → Sent → After

@@ -3,7 +3,6 @@
 use house::Trouble;
 use libc::STDIN_FILENO;
 use libc::STDOUT_FILENO;
-use receiving::Receipt;
 use receiving::Receiving;
 
 // Whether to go on, and with what.
@@ -12,20 +11,12 @@ struct Turn {
     receiving: Receiving,
 }
 
-fn is_taken(answer: Receipt) -> bool {
-    match answer {
-        Receipt::Taken => true,
-        Receipt::NoRoom => false,
-        Receipt::Refused(_) => false,
-    }
-}
-
-// The lines of one read's samples.
+// The lines of one read's samples. There is room for a line of each, so bytes are left over only where the next sample would be refused.
 fn hear_some(receiving: Receiving, bytes: &[u8]) -> Turn {
     let mut lines = [0u8; 24832];
     let after = receiving.hear(bytes, &mut lines);
-    let answer = after.answer;
     let written = after.written;
+    let taken = after.taken;
     let next = after.receiving;
     if !io::write_all(STDOUT_FILENO, &lines[..written]) {
         telling::say(Trouble::Writing);
@@ -34,7 +25,7 @@ fn hear_some(receiving: Receiving, bytes: &[u8]) -> Turn {
             receiving: next,
         };
     }
-    let more = is_taken(answer);
+    let more = taken == bytes.len();
     if !more {
         telling::say(Trouble::Refused);
     }

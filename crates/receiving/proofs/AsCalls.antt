@@ -9,13 +9,13 @@ use Rattle.shaping.specs.Taps.{taps}
 use Rattle.search.specs.declared.Reply.{Reply}
 use Rattle.search.proofs.Passing.{by-test}
 use Rattle.demodulator.specs.Calls.{Paper, refusal, nothing, frame, done, carrier}
-use Rattle.demodulator_run.specs.Rules.{Call, sample, reply, Heard, After, start, answered, called, heardFrom, saidFrom, saidAll}
+use Rattle.demodulator_run.specs.Rules.{Single, sample, reply, Heard, After, start, answered, single, heardFrom, saidFrom, saidAll}
 use Rattle.receiving.specs.Pairs.{samplesOf}
 use Rattle.receiving.specs.Answers.{verdict, lineFor, linesIn, repliesTo, replied, stateAfter, stateFrom, writtenFrom, callsFrom, silence}
 use Rattle.receiving.specs.Receivers.{rulesSaid, rulesNext, rulesFrom, rulesLines, rulesCalls, receivedText}
 
 -- ---- behind a sample
-heard-replied : (a : Paper) (window : List Float) (h : Heard) (cs : List Call) → heardFrom taps 10 h (repliesTo a window ++ cs) ≡ heardFrom taps 10 (replied Heard rulesSaid rulesNext h a window) cs
+heard-replied : (a : Paper) (window : List Float) (h : Heard) (cs : List Single) → heardFrom taps 10 h (repliesTo a window ++ cs) ≡ heardFrom taps 10 (replied Heard rulesSaid rulesNext h a window) cs
 unfolding repliesTo replied heardFrom
 heard-replied (frame kind d) window h cs = refl
 heard-replied (refusal number) window h cs = refl
@@ -24,11 +24,11 @@ heard-replied done window h cs = refl
 heard-replied (carrier there) window h cs = refl
 
 -- a reply is answered with no window
-no-line : (h : Heard) (r : Reply) → lineFor (called taps 10 h (reply r) .said .answer) (called taps 10 h (reply r) .said .room) ≡ []
-unfolding called answered lineFor
+no-line : (h : Heard) (r : Reply) → lineFor (single taps 10 h (reply r) .said .answer) (single taps 10 h (reply r) .said .room) ≡ []
+unfolding single answered lineFor
 no-line h r = by-test (λ (a : After). lineFor (a .said .answer) (a .said .room) ≡ []) (not (h .control .owed)) _ _ (λ _. refl) (λ _. refl)
 
-lines-replied : (a : Paper) (window : List Float) (h : Heard) (cs : List Call) → linesIn (saidFrom taps 10 h (repliesTo a window ++ cs)) ≡ linesIn (saidFrom taps 10 (replied Heard rulesSaid rulesNext h a window) cs)
+lines-replied : (a : Paper) (window : List Float) (h : Heard) (cs : List Single) → linesIn (saidFrom taps 10 h (repliesTo a window ++ cs)) ≡ linesIn (saidFrom taps 10 (replied Heard rulesSaid rulesNext h a window) cs)
 unfolding repliesTo replied saidFrom linesIn
 lines-replied (frame kind d) window h cs = ap (λ (l : List ℕ). l ++ linesIn (saidFrom taps 10 (rulesNext h (reply (verdict kind window))) cs)) (no-line h (verdict kind window))
 lines-replied (refusal number) window h cs = refl

@@ -1,109 +1,103 @@
 -- Small instances of what the laws ask. Assumes nothing.
 use mathlib.Core.Path.{_≡_, refl}
-use mathlib.Core.List.{List, [], _∷_, _++_, flatten}
-use Prim.Native.Nat.{ℕ, _≤_, _^_}
+use mathlib.Core.Logic.{inl, inr}
+use mathlib.Core.List.{List, [], _∷_, _++_}
+use Prim.Native.Nat.{ℕ, _^_, _≤_}
 use lib.Dec.{lit<, lit≤}
 use lib.IntN.{pos, negsuc}
-use lib.ListN.{length, take, replicate}
-use Rattle.demodulator.specs.declared.SoftDemodulator.{SoftDemodulator}
-use Rattle.demodulator.specs.Record.{freshControl}
-use Rattle.demodulator.specs.Fit.{recordFit, fitForSample}
-use Rattle.demodulator.specs.Calls.{refusal, nothing, refused}
-use Rattle.demodulator.proofs.Demodulating.{sample-unfit}
+use lib.ListN.{length, take}
+use Rattle.demodulator.specs.Calls.{nothing}
+use Rattle.demodulator_run.specs.Rules.{start}
 use Rattle.house.specs.Samples.{numberOf, sampleOf}
 use Rattle.receiving.specs.declared.Odd.the-variants.{Held}
-use Rattle.receiving.specs.declared.Receipt.the-variants.{NoRoom}
-use Rattle.receiving.specs.declared.AfterBytes.{AfterBytes}
 use Rattle.receiving.specs.Pairs.{samplesOf, oddOf}
-use Rattle.receiving.specs.Answers.{refusedFirst, silence}
-use Rattle.receiving.specs.Receivers.{linesFrom, refusedFrom, receivedText}
-use Rattle.receiving.specs.Hearing.{told, heard, freshReceiving, hear-says}
-use Rattle.receiving.specs.Input.{Bytes, Short, receivingAfter, textOf}
-use Rattle.receiving.proofs.Stretching.{Stuck, stuck-lines, refused-at}
-use Rattle.receiving.proofs.Calls.{too-many-says, cramped-says}
-use Rattle.receiving.proofs.ReceiveRun.{Receives, receive-run, sizes-alike, output-prefix, failed-write, next-taken}
+use Rattle.receiving.specs.Receivers.{rulesFrom, receivedText}
+use Rattle.receiving.specs.Hear.{looked}
+use Rattle.receiving.specs.Caller.{Bytes, Read, Short, freshCaller, input, given, hearing, callerAfter, textOf, takenBy}
+use Rattle.receiving.proofs.NextCall.{Hears, ruled, hear-run, next-taken}
+use Rattle.receiving.proofs.ReceiveRun.{Receives, ReceivesWhole, receive-run, receive-whole, all-taken, sizes-alike, output-prefix, failed-write}
 
--- five bytes, which are two samples and an odd one, in reads that cut both samples
-cut : List (List ℕ)
-cut = (0x34 ∷ []) ∷ (0x12 ∷ 0xfe ∷ []) ∷ [] ∷ (0xff ∷ 0x07 ∷ []) ∷ []
+-- ---- five bytes, which are two samples and an odd one
+abbrev read : List ℕ → ℕ → Read
+read bytes places = record { bytes = bytes; places = places }
 
--- and in one read
-whole : List (List ℕ)
-whole = (0x34 ∷ 0x12 ∷ 0xfe ∷ 0xff ∷ 0x07 ∷ []) ∷ []
+-- in reads that cut both samples
+cut : List Read
+cut = read (0x34 ∷ []) 24832 ∷ read (0x12 ∷ 0xfe ∷ []) 24832 ∷ read [] 24832 ∷ read (0xff ∷ 0x07 ∷ []) 24832 ∷ []
 
-low-first : samplesOf (flatten cut) ≡ pos 0x1234 ∷ negsuc 1 ∷ []
-unfolding cut flatten samplesOf sampleOf numberOf
+-- in one read
+whole : List Read
+whole = read (0x34 ∷ 0x12 ∷ 0xfe ∷ 0xff ∷ 0x07 ∷ []) 24832 ∷ []
+
+-- with no room for a line, or for one
+cramped : List Read
+cramped = read (0x34 ∷ 0x12 ∷ 0xfe ∷ []) 96 ∷ read [] 97 ∷ read (0xff ∷ 0x07 ∷ []) 0 ∷ read [] 97 ∷ []
+
+low-first : samplesOf (input cut) ≡ pos 0x1234 ∷ negsuc 1 ∷ []
+unfolding cut input samplesOf sampleOf numberOf
 low-first = refl
 
-last-odd : oddOf (flatten cut) ≡ Held 0x07
-unfolding cut flatten oddOf
+last-odd : oddOf (input cut) ≡ Held 0x07
+unfolding cut input oddOf
 last-odd = refl
 
 cut-short : Short cut
 unfolding cut Short
-cut-short = (lit≤ tt, (lit≤ tt, (lit≤ tt, (lit≤ tt, tt))))
+cut-short = (lit≤ tt, lit≤ tt, (lit≤ tt, lit≤ tt, (lit≤ tt, lit≤ tt, (lit≤ tt, lit≤ tt, tt))))
 
 whole-short : Short whole
 unfolding whole Short
-whole-short = (lit≤ tt, tt)
+whole-short = (lit≤ tt, lit≤ tt, tt)
 
-cut-bytes : Bytes (flatten cut)
-unfolding cut flatten Bytes
+cut-bytes : Bytes (input cut)
+unfolding cut input Bytes
 cut-bytes = (lit< tt, (lit< tt, (lit< tt, (lit< tt, (lit< tt, tt)))))
 
-cut-received : Receives 24832 cut
-cut-received = receive-run 24832 (lit≤ tt) cut cut-short cut-bytes
+cramped-bytes : Bytes (input cramped)
+unfolding cramped input Bytes
+cramped-bytes = (lit< tt, (lit< tt, (lit< tt, (lit< tt, (lit< tt, tt)))))
 
-same-bytes : flatten cut ≡ flatten whole
-unfolding cut whole flatten
+cramped-received : Receives cramped
+cramped-received = receive-run cramped cramped-bytes
+
+cut-received : ReceivesWhole cut
+cut-received = receive-whole cut cut-short cut-bytes
+
+two-samples : length (samplesOf (input cut)) ≤ 2 ^ 63
+unfolding cut input samplesOf
+two-samples = lit≤ tt
+
+cut-all-taken : (callerAfter freshCaller cut .untaken ≡ []) × (callerAfter freshCaller cut .receiving .odd ≡ oddOf (input cut))
+cut-all-taken = all-taken cut cut-short cut-bytes two-samples
+
+same-bytes : input cut ≡ input whole
+unfolding cut whole input
 same-bytes = refl
 
-cut-or-whole : textOf 24832 freshReceiving cut ≡ textOf 24832 freshReceiving whole
-cut-or-whole = sizes-alike 24832 (lit≤ tt) cut whole cut-short whole-short cut-bytes same-bytes
+cut-or-whole : textOf freshCaller cut ≡ textOf freshCaller whole
+cut-or-whole = sizes-alike cut whole (inl cut-short) (inr (all-taken whole whole-short (rw same-bytes at cut-bytes) (rw same-bytes at two-samples) .0)) cut-bytes same-bytes
 
 -- whatever comes after it
-cut-begins : (back : List (List ℕ)) → (rest : List ℕ) × (receivedText (flatten (cut ++ back)) ≡ textOf 24832 freshReceiving cut ++ rest)
-cut-begins back = output-prefix 24832 (lit≤ tt) cut back cut-short cut-bytes
+cut-begins : (back : List Read) → (rest : List ℕ) × (receivedText (input (cut ++ back)) ≡ textOf freshCaller cut ++ rest)
+cut-begins back = output-prefix cut back cut-bytes
 
-cut-failed : (back : List (List ℕ)) → (rest : List ℕ) × (receivedText (flatten (cut ++ back)) ≡ take 1 (textOf 24832 freshReceiving cut) ++ rest)
-cut-failed back = failed-write 24832 (lit≤ tt) cut back cut-short cut-bytes 1
+cut-failed : (back : List Read) → (rest : List ℕ) × (receivedText (input (cut ++ back)) ≡ take 1 (textOf freshCaller cut) ++ rest)
+cut-failed back = failed-write cut back cut-bytes 1
 
 -- and the next read of it is taken
-six-bytes : Bytes (flatten cut ++ (0x00 ∷ []))
-unfolding cut flatten Bytes
+one-more : Read
+one-more = read (0x00 ∷ []) 24832
+
+six-bytes : Bytes (input cut ++ one-more .bytes)
+unfolding cut one-more input Bytes
 six-bytes = (lit< tt, (lit< tt, (lit< tt, (lit< tt, (lit< tt, (lit< tt, tt))))))
 
-three-samples : length (samplesOf (flatten cut ++ (0x00 ∷ []))) ≤ 2 ^ 63
-unfolding cut flatten samplesOf
+three-samples : length (samplesOf (input cut ++ one-more .bytes)) ≤ 2 ^ 63
+unfolding cut one-more input samplesOf
 three-samples = lit≤ tt
 
-cut-goes-on : heard (receivingAfter 24832 freshReceiving cut) (0x00 ∷ []) 24832 .answer ≡ told nothing
-cut-goes-on = next-taken 24832 (lit≤ tt) cut (0x00 ∷ []) cut-short (lit≤ tt) six-bytes three-samples
+cut-goes-on : hearing (callerAfter freshCaller cut) one-more .answer ≡ nothing
+cut-goes-on = next-taken cut one-more six-bytes three-samples .0
 
--- ---- refusals
--- a cursor past its window: each sample is refused with 1, nothing is written, and the answer is 1
-unfit : SoftDemodulator
-unfit = record { «filter_win» = []; «filter_cursor» = 81; «rx_win» = []; «rx_cursor» = 0; control = freshControl }
-
-unfit-stuck : Stuck 1 unfit
-unfolding unfit fitForSample recordFit
-unfit-stuck y = sample-unfit unfit y silence refl
-
-unfit-silent : linesFrom unfit (pos 1 ∷ pos 2 ∷ []) ≡ []
-unfit-silent = stuck-lines 1 unfit unfit-stuck (pos 1 ∷ pos 2 ∷ [])
-
-unfit-told : refusedFrom unfit (pos 1 ∷ pos 2 ∷ []) ≡ refusal 1
-unfolding refusedFirst
-unfit-told = refused-at unfit (pos 1) (pos 2 ∷ []) (refused 1 unfit silence) (unfit-stuck (pos 1))
-
--- a byte too many, and no room at all
-turned-away : AfterBytes
-turned-away = record { answer = NoRoom; written = 0; receiving = freshReceiving }
-
-one-too-many : hear-says freshReceiving (replicate 513 0) [] turned-away []
-unfolding turned-away
-one-too-many = too-many-says freshReceiving (replicate 513 0) [] (lit< tt)
-
-no-room : hear-says freshReceiving [] [] turned-away []
-unfolding turned-away
-no-room = cramped-says freshReceiving [] [] (lit≤ tt) (lit< tt)
+cut-by-rules : let c = callerAfter freshCaller cut in Hears (hearing c one-more) (ruled (rulesFrom start (samplesOf (takenBy freshCaller cut))) (c .receiving .odd) (looked (given c one-more) (one-more .places)) (one-more .places))
+cut-by-rules = hear-run cut one-more six-bytes

@@ -3,10 +3,10 @@ use mathlib.Core.Path.{_≡_, refl, sym, ap, _∙_}
 use mathlib.Core.List.{List, [], _∷_, _++_, append-assoc}
 use Prim.Native.Nat.{ℕ}
 use lib.IntN.{ℤ}
-use Rattle.demodulator_run.specs.Rules.{Call, Said}
+use Rattle.demodulator_run.specs.Rules.{Single, Said}
 use Rattle.receiving.specs.Answers.{lineFor, heardBy, stateAfter, stateFrom, writtenFrom}
 
-module _ (S : Type 0) (said : S → Call → Said) (next : S → Call → S) where
+module _ (S : Type 0) (said : S → Single → Said) (next : S → Single → S) where
   abbrev state : S → List ℤ → S
   state = stateFrom S said next
 

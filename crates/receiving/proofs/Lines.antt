@@ -11,9 +11,10 @@ use lib.Ieee.{Float}
 use Rattle.protocol.specs.declared.Kind.{Kind}
 use Rattle.numbers.specs.Firsts.{firsts}
 use Rattle.numbers.proofs.Firsts.{length-firsts, firsts-at}
+use Rattle.demodulator.specs.Calls.{Paper, refusal, nothing, frame, done, carrier}
 use Rattle.house.specs.Line.{lineOf}
 use Rattle.house.specs.Accept.{accepted, symbolAt}
-use Rattle.receiving.specs.Answers.{acceptedLine}
+use Rattle.receiving.specs.Answers.{acceptedLine, lineFor}
 
 -- ---- a line
 pub length-line : (window : List Float) → length (lineOf window) ≡ 97
@@ -27,6 +28,14 @@ accepted-at-most kind window = by-verdict (accepted kind (symbolAt window))
     by-verdict : (t : Bool) → length (cond t (lineOf window) []) ≤ 97
     by-verdict true = omega (arith, length-line window)
     by-verdict false = lit≤ tt
+
+pub line-short : (a : Paper) (window : List Float) → length (lineFor a window) ≤ 97
+unfolding lineFor
+line-short (frame kind d) window = accepted-at-most kind window
+line-short (refusal number) window = lit≤ tt
+line-short nothing window = lit≤ tt
+line-short done window = lit≤ tt
+line-short (carrier there) window = lit≤ tt
 
 -- ---- a list by its places
 pub whole : (l : List ℕ) (n : ℕ) → length l ≡ n → firsts (λ (i : ℕ). getD l i 0) n ≡ l

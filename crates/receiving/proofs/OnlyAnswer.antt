@@ -4,34 +4,33 @@ use mathlib.Core.List.{List}
 use Prim.Native.Nat.{ℕ}
 use Rattle.numbers.proofs.Answer.{same-answer}
 use Rattle.protocol.proofs.Numbers.{numbered, numbered-back}
-use Rattle.demodulator.specs.Calls.{refusal, nothing, frame, done, carrier}
+use Rattle.demodulator.specs.Calls.{Paper, refusal, nothing, frame, done, carrier}
 use Rattle.demodulator.proofs.OnlyAnswer.{once}
 use Rattle.receiving.specs.declared.Receiving.{Receiving}
 use Rattle.receiving.specs.declared.Receipt.{Receipt}
-use Rattle.receiving.specs.declared.Receipt.the-variants.{NoRoom, Refused, Taken}
+use Rattle.receiving.specs.declared.Receipt.the-variants.{Refused, Admitted}
 use Rattle.receiving.specs.declared.AfterBytes.{AfterBytes}
-use Rattle.receiving.specs.Hearing.{Told, noRoom, told, receiptTold, new-says, hear-says}
+use Rattle.receiving.specs.Hear.{receiptPaper, new-says, hear-says}
 
-receipt : Told → Receipt
-receipt noRoom = NoRoom
-receipt (told (refusal number)) = Refused (numbered number)
-receipt (told nothing) = Taken
-receipt (told (frame kind d)) = Taken
-receipt (told done) = Taken
-receipt (told (carrier there)) = Taken
+receipt : Paper → Receipt
+receipt (refusal number) = Refused (numbered number)
+receipt nothing = Admitted
+receipt (frame kind d) = Admitted
+receipt done = Admitted
+receipt (carrier there) = Admitted
 
-receipt-back : (r : Receipt) → receipt (receiptTold r) ≡ r
+receipt-back : (r : Receipt) → receipt (receiptPaper r) ≡ r
 unfolding receipt
-receipt-back NoRoom = refl
 receipt-back (Refused why) = ap Refused (numbered-back why)
-receipt-back Taken = refl
+receipt-back Admitted = refl
 
 pub new-only-answer : (r s : Receiving) → new-says r → new-says s → r ≡ s
 new-only-answer r s = same-answer
 
 pub hear-only-answer : (receiving : Receiving) (bytes lines : List ℕ) (r s : AfterBytes) (after other : List ℕ) → hear-says receiving bytes lines r after → hear-says receiving bytes lines s other → (r ≡ s) × (after ≡ other)
 hear-only-answer receiving bytes lines r s after other p q =
-    let answers = once receiptTold receipt receipt-back (r .answer) (s .answer) (same-answer (p .answers) (q .answers)) in
+    let answers = once receiptPaper receipt receipt-back (r .answer) (s .answer) (same-answer (p .answers) (q .answers)) in
+    let takes : r .taken ≡ s .taken = same-answer (p .takes) (q .takes) in
     let counts : r .written ≡ s .written = same-answer (p .counts) (q .counts) in
     let leaves : r .receiving ≡ s .receiving = same-answer (p .leaves) (q .leaves) in
-    (λ i. record { answer = answers i; written = counts i; receiving = leaves i }, same-answer (p .writes) (q .writes))
+    (λ i. record { answer = answers i; taken = takes i; written = counts i; receiving = leaves i }, same-answer (p .writes) (q .writes))

@@ -1,10 +1,10 @@
--- By the rules, receive owes no reply between samples, so each sample is taken until the count is at its end. Assumes nothing.
+-- By the rules, receive owes no reply between samples, so each sample goes in until the count is at its end. Assumes nothing.
 use mathlib.Core.Path.{_≡_, refl, sym, ap, _∙_}
 use mathlib.Core.Bool.{Bool, true, false, not, true≢false}
 use mathlib.Core.List.{List, [], _∷_, _++_}
-use Prim.Native.Nat.{ℕ, _+_, _^_, _≤_, _<_}
+use Prim.Native.Nat.{ℕ, _+_, _-_, _*_, _^_, _≤_, _<_}
 use native.Mathlib.Omega.{arith}
-use borrow.Author.Tests.{ne-eqb}
+use borrow.Author.Tests.{ne-eqb, le-ltb}
 use lib.Dec.{ltb, eqb}
 use lib.IntN.{ℤ}
 use lib.ListN.{length}
@@ -30,12 +30,13 @@ use Rattle.demodulator.specs.Spans.{eight}
 use Rattle.demodulator.specs.Calls.{nothing}
 use Rattle.demodulator_laws.proofs.SampleFits.{controlOf}
 use Rattle.demodulator_run.specs.Filter.{ago}
-use Rattle.demodulator_run.specs.Rules.{sample, reply, Heard, After, start, settled, given, answered, called}
+use Rattle.demodulator_run.specs.Rules.{sample, reply, Heard, After, start, settled, given, answered, single}
 use Rattle.demodulator_run.specs.Marks.{isRefusal}
 use Rattle.demodulator_run.proofs.Count.{sampled-count, replied-count}
-use Rattle.receiving.specs.Answers.{verdict, replied, stateAfter, stateFrom, toldFrom, silence}
-use Rattle.receiving.specs.Receivers.{rulesSaid, rulesNext, rulesFrom, rulesRefused}
-use Rattle.receiving.proofs.Hearing.{refused-none}
+use Rattle.receiving.specs.Answers.{verdict, lineFor, replied, stateAfter, stateFrom, goIn, toldTo, silence}
+use Rattle.receiving.specs.Receivers.{rulesSaid, rulesNext, rulesFrom, rulesIn, rulesTold}
+use Rattle.receiving.proofs.Lines.{line-short}
+use Rattle.receiving.proofs.GoIn.{no-refusal}
 
 -- ---- what is owed, through a search and a sample
 module _ (p : ℕ) (v : ℕ → Float) where
@@ -85,7 +86,7 @@ pub record Between (h : Heard) (n : ℕ) : Type 0 where
   pub count : h .control .sample ≡ n
 
 between-replied : (h : Heard) (r : Reply) (n : ℕ) → h .control .owed ≡ true → h .control .sample ≡ n → Between (rulesNext h (reply r)) n
-unfolding called answered
+unfolding single answered
 between-replied h r n e s =
     by-test (λ (a : After). Between (a .heard) n) (not (h .control .owed)) _ _
     (λ t. absurd (true≢false (sym t ∙ ap not e)))
@@ -105,8 +106,8 @@ roomy : ltb (length silence) 192 ≡ false
 unfolding silence
 roomy = refl
 
-onward : (h : Heard) (x : ℤ) (n : ℕ) → Between h n → n < 2 ^ 63 → Onward (n + 1) (called taps 10 h (sample x silence))
-unfolding called given
+onward : (h : Heard) (x : ℤ) (n : ℕ) → Between h n → n < 2 ^ 63 → Onward (n + 1) (single taps 10 h (sample x silence))
+unfolding single given
 onward h x n b l =
     let xs : List ℤ = h .samples ++ (x ∷ []) in
     let v : ℕ → Float = eight 10 (ago taps 10 xs) in
@@ -117,19 +118,27 @@ onward h x n b l =
 
 -- ---- a list of samples
 pub record Untroubled (h : Heard) (n : ℕ) (xs : List ℤ) : Type 0 where
-  pub told : rulesRefused h xs ≡ nothing
+  pub told : rulesTold h xs ≡ nothing
+  pub all-in : (places : ℕ) → 97 * length xs ≤ places → rulesIn h xs places ≡ length xs
   pub between : Between (rulesFrom h xs) (n + length xs)
 
 pub untroubled : (xs : List ℤ) (h : Heard) (n : ℕ) → Between h n → n + length xs ≤ 2 ^ 63 → Untroubled h n xs
-unfolding toldFrom stateFrom
+unfolding goIn toldTo stateFrom
 untroubled [] h n b l =
     let same : n + 0 ≡ n = omega arith in
-    record { told = refl; between = rw same b }
+    record { told = refl; all-in = λ _ _. refl; between = rw same b }
 untroubled (x ∷ xs) h n b l =
     let here = onward h x n b (omega arith) in
+    let a = rulesSaid h (sample x silence) in
     let rest = untroubled xs (stateAfter Heard rulesSaid rulesNext h x) (n + 1) (here .1) (omega arith) in
     let same : n + length (x ∷ xs) ≡ n + 1 + length xs = omega arith in
-    record { told = refused-none _ _ (here .0) ∙ rest .told; between = rw same (rest .between) }
+    record {
+      told = no-refusal (a .answer) (λ k e. true≢false (sym (ap isRefusal e) ∙ here .0));
+      all-in = λ places enough.
+          let later = rest .all-in (places - length (lineFor (a .answer) (a .room))) (omega (arith, line-short (a .answer) (a .room))) in
+          rw (le-ltb places 97 (omega arith), here .0, later) (omega arith);
+      between = rw same (rest .between);
+    }
 
 pub between-start : Between start 0
 between-start = record { owed = refl; count = refl }

@@ -53,17 +53,17 @@ module _ (m : SoftDemodulator) (xs : List ℤ) (room : List ℕ) (r : AfterStret
   settledBy = replied SoftDemodulator recordSaid recordNext
 
   in-words : (written : ℕ) (next : SoftDemodulator) (after : List ℕ) → written ≡ length (lineFor paper window) → next ≡ settledBy (r .demodulator) paper window → after ≡ inFront (lineFor paper window) room
-      → Stretches m xs room (record { answer = r .answer; taken = r .taken; written = written; demodulator = next }) after
+      → Stretches m xs room (record { answer = r .answer; fed = r .fed; written = written; demodulator = next }) after
   in-words written next after c l w = record {
     answers = says .answers;
-    takes = says .takes;
+    feeds = says .counts;
     counts = c ∙ rw (says .answers, says .writes);
     leaves = l ∙ rw (says .answers, says .leaves, says .writes);
     writes = w ∙ rw (says .answers, says .writes);
   }
 
   abbrev plain : Stretch
-  plain = record { answer = r .answer; taken = r .taken; written = 0; demodulator = r .demodulator }
+  plain = record { answer = r .answer; fed = r .fed; written = 0; demodulator = r .demodulator }
 
   pub stretch-refused : (why : Refusal) → r .answer ≡ Refused why → Stretches m xs room plain room
   unfolding lineFor replied
@@ -74,6 +74,6 @@ module _ (m : SoftDemodulator) (xs : List ℤ) (room : List ℕ) (r : AfterStret
   stretch-quiet e = in-words 0 (r .demodulator) room (rw e refl) (rw e refl) (rw e refl)
 
   pub stretch-offered : (o : Offer) → r .answer ≡ Offered o → (s : Settled) (after : List ℕ) → Settles (r .demodulator) (o .kind) window room s after
-      → Stretches m xs room (record { answer = r .answer; taken = r .taken; written = s .written; demodulator = s .demodulator }) after
+      → Stretches m xs room (record { answer = r .answer; fed = r .fed; written = s .written; demodulator = s .demodulator }) after
   unfolding lineFor replied left
   stretch-offered o e s after settles = in-words (s .written) (s .demodulator) after (rw e (settles .counts)) (rw e (settles .leaves)) (rw e (settles .writes))

@@ -1,16 +1,18 @@
 -- Document 01, 'The two programs': receive over a list of samples, each offer answered before the next sample. Over any receiver: `said` is what a call is answered with, `next` what it leaves.
 -- Assumes nothing.
-use mathlib.Core.Bool.{cond}
+use mathlib.Core.Bool.{Bool, cond, _||_}
 use mathlib.Core.List.{List, [], _∷_, _++_}
-use Prim.Native.Nat.{ℕ}
+use Prim.Native.Nat.{ℕ, _+_, _-_}
+use lib.Dec.{ltb}
 use lib.IntN.{ℤ}
-use lib.ListN.{replicate}
+use lib.ListN.{length, replicate}
 use lib.Ieee.{Float, binary32, ofBits}
 use Rattle.protocol.specs.declared.Kind.{Kind}
 use Rattle.search.specs.declared.Reply.{Reply}
 use Rattle.search.specs.declared.Reply.the-variants.{Accepted, Rejected}
 use Rattle.demodulator.specs.Calls.{Paper, refusal, nothing, frame, done, carrier}
-use Rattle.demodulator_run.specs.Rules.{Call, sample, reply, Said}
+use Rattle.demodulator_run.specs.Rules.{Single, sample, reply, Said}
+use Rattle.demodulator_run.specs.Marks.{isRefusal}
 use Rattle.house.specs.Line.{lineOf}
 use Rattle.house.specs.Accept.{accepted, symbolAt}
 
@@ -37,27 +39,27 @@ linesIn [] = []
 linesIn (s ∷ later) = lineFor (s .answer) (s .room) ++ linesIn later
 
 -- the reply that an answer asks for: an offer's
-unfoldable pub repliesTo : Paper → List Float → List Call
+unfoldable pub repliesTo : Paper → List Float → List Single
 repliesTo (frame kind d) window = reply (verdict kind window) ∷ []
 repliesTo (refusal number) window = []
 repliesTo nothing window = []
 repliesTo done window = []
 repliesTo (carrier there) window = []
 
--- of two answers, the earlier if it is a refusal
-unfoldable pub refusedFirst : Paper → Paper → Paper
-refusedFirst (refusal number) later = refusal number
-refusedFirst nothing later = later
-refusedFirst (frame kind d) later = later
-refusedFirst done later = later
-refusedFirst (carrier there) later = later
+-- the refusal that an answer is, or nothing
+unfoldable pub refusalIn : Paper → Paper
+refusalIn (refusal number) = refusal number
+refusalIn nothing = nothing
+refusalIn (frame kind d) = nothing
+refusalIn done = nothing
+refusalIn (carrier there) = nothing
 
 -- ---- a list of samples
 -- the room that is lent with each of them
 unfoldable pub silence : List Float
 silence = replicate 192 (ofBits binary32 0)
 
-module _ (S : Type 0) (said : S → Call → Said) (next : S → Call → S) where
+module _ (S : Type 0) (said : S → Single → Said) (next : S → Single → S) where
   abbrev pub heardBy : S → ℤ → Said
   heardBy s x = said s (sample x silence)
 
@@ -82,12 +84,21 @@ module _ (S : Type 0) (said : S → Call → Said) (next : S → Call → S) whe
   writtenFrom s [] = []
   writtenFrom s (x ∷ xs) = lineFor (heardBy s x .answer) (heardBy s x .room) ++ writtenFrom (stateAfter s x) xs
 
-  -- the first refusal, or that there is none
-  unfoldable pub toldFrom : S → List ℤ → Paper
-  toldFrom s [] = nothing
-  toldFrom s (x ∷ xs) = refusedFirst (heardBy s x .answer) (toldFrom (stateAfter s x) xs)
-
   -- the calls that all of this is
-  unfoldable pub callsFrom : S → List ℤ → List Call
+  unfoldable pub callsFrom : S → List ℤ → List Single
   callsFrom s [] = []
   callsFrom s (x ∷ xs) = sample x silence ∷ (repliesTo (heardBy s x .answer) (heardBy s x .room) ++ callsFrom (stateAfter s x) xs)
+
+  -- ---- a call with samples and room for so many bytes of lines
+  -- as many samples go in as find room for a line, 97 bytes, and would not be refused
+  unfoldable pub goIn : S → List ℤ → ℕ → ℕ
+  goIn s [] places = 0
+  goIn s (x ∷ xs) places =
+      cond (ltb places 97 || isRefusal (heardBy s x .answer)) 0
+      (goIn (stateAfter s x) xs (places - length (lineFor (heardBy s x .answer) (heardBy s x .room))) + 1)
+
+  -- "Every refusal returns its number only, with record and buffers as they were": as in `feed`, only the first sample can be refused,
+  -- and a call that gives none with 1, where the receiver is unfit with no filtered value tested
+  unfoldable pub toldTo : (S → Bool) → S → List ℤ → Paper
+  toldTo fit s [] = cond (fit s) nothing (refusal 1)
+  toldTo fit s (x ∷ xs) = refusalIn (heardBy s x .answer)

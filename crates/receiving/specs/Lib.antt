@@ -2,6 +2,6 @@
 pub mod Pairs
 pub mod Answers
 pub mod Receivers
-pub mod Hearing
+pub mod Hear
 pub mod Parts
-pub mod Input
+pub mod Caller

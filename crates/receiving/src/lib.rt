@@ -1,12 +1,14 @@
 // What the program receive does between its reads and its writes: bytes become samples, offers are answered, and accepted windows become lines.
 use demodulator::SoftDemodulator;
 use protocol::Refusal;
-ghost use Rattle.receiving.specs.Hearing.{new-says, hear-says};
+ghost use mathlib.Core.Path.{_≡_};
+ghost use Rattle.receiving.specs.Hear.{new-says, hear-says};
+ghost use Rattle.receiving.specs.Parts.{isAdmitted, looksAt};
 
 mod pairs;
 mod windows;
 
-// The last byte of the reads so far, if it still waits for the second of its sample.
+// The last byte that was taken, if it still waits for the second of its sample.
 pub enum Odd {
     Nothing,
     Held(u8),
@@ -17,25 +19,44 @@ pub struct Receiving {
     pub odd: Odd,
 }
 
-// What bytes are answered with: more of them, or less room, than a call takes; a sample's refusal; or all were taken.
+// What bytes are answered with: the refusal of the first sample, or of the record where there is none.
 pub enum Receipt {
-    NoRoom,
     Refused(Refusal),
-    Taken,
+    Admitted,
 }
 
-// The first `written` places of the lent room are the lines.
+// The first `taken` of the bytes count as given, and the caller gives the others again. The first `written` places of the lent room are the lines.
 pub struct AfterBytes {
     pub answer: Receipt,
+    pub taken: usize,
     pub written: usize,
     pub receiving: Receiving,
 }
 
-// The most bytes that a call takes. With a byte that waits they are 256 samples.
+// The most bytes that a call looks at. With a byte that waits they are 256 samples.
 const MOST_BYTES: usize = 512;
 
-// A line for each of 256 samples: no call can want for room, however near to each other frames lie.
-const LEAST_ROOM: usize = 24832;
+fn is_admitted(answer: Receipt) -> bool
+    ensures { λ r. ⌜ r ≡ isAdmitted answer ⌝ }
+{
+    match answer {
+        Receipt::Refused(_) => false,
+        Receipt::Admitted => true,
+    }
+}
+
+// How many bytes a call looks at. Without room for a line no sample can go in.
+fn look_at(bytes: usize, places: usize) -> usize
+    ensures { λ r. ⌜ r ≡ looksAt bytes places ⌝ }
+{
+    if places < windows::LINE {
+        0
+    } else if bytes < MOST_BYTES {
+        bytes
+    } else {
+        MOST_BYTES
+    }
+}
 
 impl Receiving {
     pub fn new() -> Self
@@ -47,39 +68,40 @@ impl Receiving {
         }
     }
 
-    // The next bytes of the input. The lines of the windows that are accepted go to the front of `lines`.
+    // The next bytes of the input. The lines of the windows that are accepted go to the front of `lines`, and samples go in while there is room for a line.
     pub fn hear(self, bytes: &[u8], lines: &mut [u8]) -> AfterBytes
         ensures { λ r. ⌜ hear-says self (now (bytes .entry)) (now (lines .entry)) r (now (lines .exit)) ⌝ }
     {
-        if bytes.len() > MOST_BYTES {
-            return AfterBytes {
-                answer: Receipt::NoRoom,
-                written: 0,
-                receiving: self,
-            };
-        }
-        if lines.len() < LEAST_ROOM {
-            return AfterBytes {
-                answer: Receipt::NoRoom,
-                written: 0,
-                receiving: self,
-            };
-        }
+        let looked = look_at(bytes.len(), lines.len());
         let odd = self.odd;
-        let paired = pairs::pair_up(odd, bytes);
+        let paired = pairs::pair_up(odd, &bytes[..looked]);
         let samples = paired.samples;
         let count = paired.count;
-        let left_over = paired.odd;
         let demodulator = self.demodulator;
         let heard = windows::hear_samples(demodulator, &samples[..count], lines);
         let answer = heard.answer;
         let next = heard.demodulator;
+        if is_admitted(answer) && heard.fed == count {
+            let left_over = paired.odd;
+            return AfterBytes {
+                answer,
+                taken: looked,
+                written: heard.written,
+                receiving: Receiving {
+                    demodulator: next,
+                    odd: left_over,
+                },
+            };
+        }
+        let part = pairs::part_of(odd, heard.fed);
+        let held = part.odd;
         AfterBytes {
             answer,
+            taken: part.taken,
             written: heard.written,
             receiving: Receiving {
                 demodulator: next,
-                odd: left_over,
+                odd: held,
             },
         }
     }

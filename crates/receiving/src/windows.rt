@@ -1,23 +1,23 @@
 // Samples in, lines out: each offer is answered by the accept rule before the next sample.
 use crate::Receipt;
+use demodulator::Carrier;
 use demodulator::Heard;
 use demodulator::Reply;
 use demodulator::SoftDemodulator;
 use protocol::Kind;
 ghost use mathlib.Core.Path.{_≡_};
-ghost use mathlib.Core.List.{_++_};
-ghost use Prim.Native.Nat.{_*_, _≤_};
+ghost use mathlib.Core.List.{[], _++_};
+ghost use Prim.Native.Nat.{_≤_};
 ghost use lib.ListN.{length, drop};
 ghost use Rattle.house.specs.Line.{lineOf};
 ghost use Rattle.house.specs.Accept.{accepted, symbolAt};
-ghost use Rattle.demodulator.specs.Calls.{heardPaper, nothing};
-ghost use Rattle.demodulator_run.specs.Marks.{isRefusal};
-ghost use Rattle.receiving.specs.Answers.{refusedFirst};
-ghost use Rattle.receiving.specs.Hearing.{told, receiptTold};
-ghost use Rattle.receiving.specs.Parts.{Settles, Stretches, HearsAll};
+ghost use Rattle.demodulator.specs.Calls.{heardPaper};
+ghost use Rattle.receiving.specs.Receivers.{recordTold};
+ghost use Rattle.receiving.specs.Hear.{receiptPaper};
+ghost use Rattle.receiving.specs.Parts.{isOffer, refusedAfter, Roomy, Settles, Stretches, HearsAll};
 
 // A line and its line feed.
-const LINE: usize = 97;
+pub(crate) const LINE: usize = 97;
 
 // What comes of an offer: how many places were written, and the record after the reply.
 pub(crate) struct Settled {
@@ -28,34 +28,52 @@ pub(crate) struct Settled {
 // What comes of a stretch of samples, the last of which may bring an offer.
 pub(crate) struct Stretch {
     pub answer: Heard,
-    pub taken: usize,
+    pub fed: usize,
     pub written: usize,
     pub demodulator: SoftDemodulator,
 }
 
+// `fed` counts the samples that went in.
 pub(crate) struct AfterSamples {
     pub answer: Receipt,
+    pub fed: usize,
     pub written: usize,
     pub demodulator: SoftDemodulator,
 }
 
-fn is_refused(answer: Heard) -> bool
-    ensures { λ r. ⌜ r ≡ isRefusal (heardPaper answer) ⌝ }
+fn is_offered(answer: Heard) -> bool
+    ensures { λ r. ⌜ r ≡ isOffer (heardPaper answer) ⌝ }
 {
     match answer {
-        Heard::Refused(_) => true,
+        Heard::Refused(_) => false,
         Heard::Quiet => false,
-        Heard::Offered(_) => false,
+        Heard::Offered(_) => true,
     }
 }
 
-fn receipt(answer: Heard) -> Receipt
-    ensures { λ r. ⌜ receiptTold r ≡ told (refusedFirst (heardPaper answer) nothing) ⌝ }
+// Once samples went in, a refusal is left to the call that gives the rest.
+fn receipt(answer: Heard, fed: usize) -> Receipt
+    ensures { λ r. ⌜ receiptPaper r ≡ refusedAfter fed (heardPaper answer) ⌝ }
 {
     match answer {
-        Heard::Refused(why) => Receipt::Refused(why),
-        Heard::Quiet => Receipt::Taken,
-        Heard::Offered(_) => Receipt::Taken,
+        Heard::Refused(why) => if fed == 0 {
+            Receipt::Refused(why)
+        } else {
+            Receipt::Admitted
+        },
+        Heard::Quiet => Receipt::Admitted,
+        Heard::Offered(_) => Receipt::Admitted,
+    }
+}
+
+// Where no sample is given: a call that tests no filtered value.
+fn test_record(demodulator: SoftDemodulator) -> Receipt
+    ensures { λ r. ⌜ receiptPaper r ≡ recordTold demodulator [] ⌝ }
+{
+    let carrier = demodulator.data_carrier_detect();
+    match carrier {
+        Carrier::Refused(why) => Receipt::Refused(why),
+        Carrier::Detected(_) => Receipt::Admitted,
     }
 }
 
@@ -104,26 +122,26 @@ fn settle(demodulator: SoftDemodulator, kind: Kind, window: [f32; 192], room: &m
     }
 }
 
-// The samples up to the first offer, which is settled, or up to a refusal.
+// The samples up to the first offer, which is settled, or up to one that would be refused.
 fn hear_stretch(demodulator: SoftDemodulator, samples: &[i16], room: &mut [u8]) -> Stretch
     requires { ⌜ 97 ≤ length (now room) ⌝ }
     ensures { λ r. ⌜ Stretches demodulator (now (samples .entry)) (now (room .entry)) r (now (room .exit)) ⌝ }
 {
     let mut window = [0.0f32; 192];
-    let fed = demodulator.feed(samples, &mut window);
-    let answer = fed.answer;
-    let taken = fed.taken;
-    let left = fed.demodulator;
+    let after = demodulator.feed(samples, &mut window);
+    let answer = after.answer;
+    let fed = after.fed;
+    let left = after.demodulator;
     match answer {
         Heard::Refused(_) => Stretch {
             answer,
-            taken,
+            fed,
             written: 0,
             demodulator: left,
         },
         Heard::Quiet => Stretch {
             answer,
-            taken,
+            fed,
             written: 0,
             demodulator: left,
         },
@@ -134,7 +152,7 @@ fn hear_stretch(demodulator: SoftDemodulator, samples: &[i16], room: &mut [u8]) 
             let next = settled.demodulator;
             Stretch {
                 answer,
-                taken,
+                fed,
                 written,
                 demodulator: next,
             }
@@ -142,34 +160,45 @@ fn hear_stretch(demodulator: SoftDemodulator, samples: &[i16], room: &mut [u8]) 
     }
 }
 
-// A refused sample ends it: each later one would be refused alike.
+// Only an offer is followed by more samples: after any other answer the next one would be refused, or there is none.
 pub(crate) fn hear_samples(
     demodulator: SoftDemodulator,
     samples: &[i16],
     lines: &mut [u8],
 ) -> AfterSamples
-    requires { ⌜ (97 * length (now samples) ≤ length (now lines)) × (length (now samples) ≤ 256) ⌝ }
+    requires { ⌜ Roomy (now samples) (now lines) ⌝ }
     ensures { λ r. ⌜ HearsAll demodulator (now (samples .entry)) (now (lines .entry)) r (now (lines .exit)) ⌝ }
 {
+    if samples.len() == 0 {
+        return AfterSamples {
+            answer: test_record(demodulator),
+            fed: 0,
+            written: 0,
+            demodulator,
+        };
+    }
     let mut left = demodulator;
-    let mut at: usize = 0;
+    let mut fed: usize = 0;
     let mut written: usize = 0;
-    while at < samples.len() {
-        let heard = hear_stretch(left, &samples[at..], &mut lines[written..]);
+    while fed < samples.len() && LINE <= lines.len() - written {
+        let heard = hear_stretch(left, &samples[fed..], &mut lines[written..]);
+        let answer = heard.answer;
+        let told = receipt(answer, fed);
         left = heard.demodulator;
         written += heard.written;
-        at += heard.taken;
-        let answer = heard.answer;
-        if is_refused(answer) {
+        fed += heard.fed;
+        if !is_offered(answer) {
             return AfterSamples {
-                answer: receipt(answer),
+                answer: told,
+                fed,
                 written,
                 demodulator: left,
             };
         }
     }
     AfterSamples {
-        answer: Receipt::Taken,
+        answer: Receipt::Admitted,
+        fed,
         written,
         demodulator: left,
     }

@@ -1,5 +1,4 @@
--- What a fit control is known to be, clause by clause, and that it is ready. Assumes nothing.
-use mathlib.Core.List.{List}
+-- What a fit control is known to be, clause by clause. Assumes nothing.
 use mathlib.Core.Path.{_≡_, refl, subst}
 use mathlib.Core.Bool.{Bool, true, false, not, _&&_}
 use Prim.Native.Nat.{ℕ, _+_, _^_, _≤_, _<_}
@@ -8,11 +7,9 @@ use lib.Dec.{T, leb, ltb, leb→le, le→leb, ltb→lt, lit≤}
 use lib.Ieee.{Float, binary32, ofBits, lt, le}
 use lib.Ieee.Bits.{is-true, is-false}
 use lib.Ieee.Fits.{and-i, and-l, and-r}
-use Rattle.numbers.proofs.Below.{all-below, below-all}
 use Rattle.numbers.proofs.Tests.{holds}
 use Rattle.protocol.specs.declared.Kind.{Kind}
 use Rattle.decode.specs.Correlator.{leastGain, threshold, inRange}
-use Rattle.decode.specs.Parts.{valuesOf, eightInRange}
 use Rattle.search.specs.declared.Candidate.{Candidate}
 use Rattle.search.specs.declared.Candidate.the-variants.{Nothing, Held}
 use Rattle.search.specs.declared.Waiting.{Waiting}
@@ -23,8 +20,6 @@ use Rattle.search.specs.declared.Timer.the-variants.{Until}
 use Rattle.search.specs.declared.Control.{Control}
 use Rattle.search.specs.Search.{ageOf}
 use Rattle.search.specs.Fit.{timerFit, ageFit, diffFit, gainFit, shiftFit, candidateFit, held, waitFit, replyFit, controlFit}
-use Rattle.search.specs.Parts.{SearchReady}
-use Rattle.search.specs.Ready.{roomy, ready}
 use Rattle.search.proofs.Clauses.{clauses}
 
 -- ---- the facts
@@ -104,25 +99,6 @@ control-facts c t =
       reply = reply-fact (c .owed) (c .candidate) (s .reply);
     }
 
--- ---- ready for a search
 pub age-most : (candidate : Candidate) → T (candidateFit candidate) → ageOf candidate ≤ 254
 age-most Nothing t = lit≤ tt
 age-most (Held kind age diff gain shift) t = held-facts kind age diff gain shift t .age-to
-
-fit-roomy : (c : Control) → T (controlFit 10 c) → T (roomy c)
-fit-roomy c fit =
-    let s = clauses 10 c fit in
-    and-i (leb (ageOf (c .candidate)) 254) (leb (c .sample) (2 ^ 63)) (le→leb (ageOf (c .candidate)) 254 (age-most (c .candidate) (s .candidate))) (s .count)
-
-pub fit-ready : (c : Control) (vs : List Float) → ((i : ℕ) → i < 8 → T (inRange (valuesOf vs i))) → T (controlFit 10 c) → ready c vs ≡ true
-fit-ready c vs range fit = is-true (ready c vs) (and-i (roomy c) (eightInRange vs) (fit-roomy c fit) (below-all 8 (λ (i : ℕ). inRange (valuesOf vs i)) range))
-
-pub ready-search : (c : Control) (vs : List Float) → ready c vs ≡ true → SearchReady c vs
-ready-search c vs e =
-    let all = both (roomy c) (eightInRange vs) (holds e) in
-    let room = both (leb (ageOf (c .candidate)) 254) (leb (c .sample) (2 ^ 63)) (all .0) in
-    record {
-      range = all-below 8 (λ (i : ℕ). inRange (valuesOf vs i)) (all .1);
-      age = leb→le (ageOf (c .candidate)) 254 (room .0);
-      count = leb→le (c .sample) (2 ^ 63) (room .1);
-    }

@@ -7,8 +7,8 @@ pub mod Fitness
 pub mod Searching
 -- an age rises by one at most
 pub mod Passing
--- six bursts from one hearing
-pub mod Sensing
+-- what a comparison tells
+pub mod Compared
 -- a search with nothing to do
 pub mod Silent
 -- what comes before a search leaves a fit control fit

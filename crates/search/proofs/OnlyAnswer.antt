@@ -2,18 +2,19 @@
 use mathlib.Core.Path.{_≡_}
 use mathlib.Core.Bool.{Bool}
 use mathlib.Core.List.{List}
+use Prim.Native.Nat.{ℕ}
 use lib.Ieee.{Float}
 use Rattle.numbers.proofs.Answer.{same-answer}
 use Rattle.search.specs.declared.Control.{Control}
 use Rattle.search.specs.declared.Turn.{Turn}
 use Rattle.search.specs.declared.Reply.{Reply}
-use Rattle.search.specs.Ready.{control-fit-says, turn-of-says, searched-says, replied-says}
+use Rattle.search.specs.Promises.{control-fit-says, turn-of-says, searched-says, replied-says}
 
 pub control-fit-only-answer : (c : Control) (r s : Bool) → control-fit-says c r → control-fit-says c s → r ≡ s
 control-fit-only-answer c r s = same-answer
 
-pub turn-of-only-answer : (c : Control) (r s : Turn) → turn-of-says c r → turn-of-says c s → r ≡ s
-turn-of-only-answer c r s = same-answer
+pub turn-of-only-answer : (c : Control) (n : ℕ) (r s : Turn) → turn-of-says c n r → turn-of-says c n s → r ≡ s
+turn-of-only-answer c n r s = same-answer
 
 pub searched-only-answer : (c : Control) (vs : List Float) (r s : Control) → searched-says c vs r → searched-says c vs s → r ≡ s
 searched-only-answer c vs r s = same-answer

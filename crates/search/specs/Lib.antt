@@ -4,4 +4,4 @@ pub mod Turn
 pub mod Turns
 pub mod Fit
 pub mod Parts
-pub mod Ready
+pub mod Promises

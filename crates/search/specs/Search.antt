@@ -1,7 +1,7 @@
 -- Document 01, 'The receiver': the search, over p, the samples in a symbol, and over the eight values that the correlator is given, `v i` for the value i, the oldest 0.
 -- Assumes nothing.
 use mathlib.Core.Bool.{Bool, cond}
-use Prim.Native.Nat.{ℕ, _+_, _-_, _*_}
+use Prim.Native.Nat.{ℕ, _+_, _-_, _*_, min}
 use lib.Dec.{eqb}
 use lib.Ieee.{Float, lt}
 use Rattle.protocol.specs.declared.Kind.{Kind}
@@ -25,10 +25,19 @@ withTimer timer c = record { candidate = c .candidate; wait = c .wait; dcd = tim
 abbrev pub withCandidate : Candidate → Control → Control
 withCandidate held c = record { candidate = held; wait = c .wait; dcd = c .dcd; owed = c .owed; sample = c .sample }
 
+-- ---- two numbers that stop at the last of their type, so that any control has an answer: no fit one comes there but by an age of 254
+-- an age is a byte
+abbrev pub older : ℕ → ℕ
+older age = min (age + 1) 255
+
+-- a timer's end has 64 bits
+abbrev pub endAfter : ℕ → ℕ → ℕ
+endAfter count span = min (count + span) 0xffff_ffff_ffff_ffff
+
 -- ---- first part
 -- "preamble, then end of transmission; a match sets the timer's end to count + 240, even if that is sooner than before"
 unfoldable pub carried : ℕ → SyncBurst → (ℕ → Float) → Control → Control
-carried p burst v c = cond (matches burst v) (withTimer (Until (c .sample + 24 * p)) c) c
+carried p burst v c = cond (matches burst v) (withTimer (Until (endAfter (c .sample) (24 * p))) c) c
 
 -- ---- second part
 -- the order in which the kinds are tried
@@ -53,7 +62,7 @@ taken kind m = Held kind 1 (m .diff) (m .gain) (m .shift)
 -- "A match whose diff is above the held candidate's adds one to its age, whatever its kind. Any other match, ties included, takes a new candidate"
 unfoldable pub heldAfter : Candidate → Kind → Correlation → Candidate
 heldAfter Nothing kind m = taken kind m
-heldAfter (Held k age diff gain shift) kind m = cond (lt diff (m .diff)) (Held k (age + 1) diff gain shift) (taken kind m)
+heldAfter (Held k age diff gain shift) kind m = cond (lt diff (m .diff)) (Held k (older age) diff gain shift) (taken kind m)
 
 -- "the wait becomes 1,840 - age"
 abbrev pub waitAfter : ℕ → ℕ → Wait
@@ -64,7 +73,7 @@ unfoldable pub missed : ℕ → Kind → Candidate → Control → Control
 missed p kind Nothing c = c
 missed p kind (Held k age diff gain shift) c =
     cond (sameKind k kind)
-    (record { candidate = c .candidate; wait = waitAfter p age; dcd = Until (c .sample + 384 * p); owed = c .owed; sample = c .sample })
+    (record { candidate = c .candidate; wait = waitAfter p age; dcd = Until (endAfter (c .sample) (384 * p)); owed = c .owed; sample = c .sample })
     c
 
 -- one kind's turn in the pass

@@ -21,8 +21,12 @@ unfoldable pub cleared : ℕ → Timer → Timer
 cleared count Off = Off
 cleared count (Until end) = cond (ltb end count) Off (Until end)
 
+-- the count of a sample's number n
+abbrev pub countedTo : ℕ → Control → Control
+countedTo n c = record { candidate = c .candidate; wait = c .wait; dcd = cleared n (c .dcd); owed = c .owed; sample = n }
+
 abbrev pub counted : Control → Control
-counted c = record { candidate = c .candidate; wait = c .wait; dcd = cleared (c .sample + 1) (c .dcd); owed = c .owed; sample = c .sample + 1 }
+counted c = countedTo (c .sample + 1) c
 
 -- ---- the wait
 abbrev pub waitingOn : ℕ → Control → Control

@@ -11,7 +11,7 @@ use Rattle.search.specs.declared.Control.{Control}
 use Rattle.search.specs.declared.Turn.{Turn}
 use Rattle.search.specs.declared.Turn.the-variants.{Rest, Offer, Look}
 use Rattle.search.specs.Search.{searched}
-use Rattle.search.specs.Turn.{Outcome, quiet, offer, counted, waitingOn, freed, owing, offered}
+use Rattle.search.specs.Turn.{Outcome, quiet, offer, countedTo, waitingOn, freed, owing, offered}
 
 -- as `due` has it
 unfoldable pub dueTurn : Candidate → Control → Turn
@@ -23,8 +23,9 @@ unfoldable pub waitedTurn : Wait → Control → Turn
 waitedTurn Free c = Look c
 waitedTurn (Due w) c = cond (ltb 1 (w .left)) (Rest (waitingOn (w .left - 1) c)) (dueTurn (c .candidate) (freed c))
 
-abbrev pub turnOf : Control → Turn
-turnOf c = waitedTurn (c .wait) (counted c)
+-- the turn of the sample whose number is n
+abbrev pub turnOf : ℕ → Control → Turn
+turnOf n c = waitedTurn (c .wait) (countedTo n c)
 
 -- what a turn comes to, by the eight values
 abbrev pub comesTo : ℕ → (ℕ → Float) → Turn → Outcome

@@ -1,4 +1,4 @@
-// The search: what eight filtered values do to the control. They are heard once and their spread is taken once, and the six bursts are compared from these.
+// The search: what eight filtered values do to the control. They are heard once, their spread is taken once, and each of the six bursts is compared once.
 use crate::Candidate;
 use crate::Control;
 use crate::Timer;
@@ -6,15 +6,15 @@ use crate::Wait;
 use crate::Waiting;
 use crate::fit;
 use decode::Correlation;
-use decode::Spread;
+use decode::SYNC_MIN_GAIN;
 use protocol::Kind;
 use protocol::SyncBurst;
 ghost use mathlib.Core.Path.{_≡_};
-ghost use Prim.Native.Nat.{_≤_, _^_};
-ghost use Rattle.decode.specs.Parts.{valuesOf};
-ghost use Rattle.search.specs.Search.{rank, ageOf, heldAfter, missed, searched};
-ghost use Rattle.search.specs.Parts.{Carries, TryReady, Tries, PassReady, Passes, SearchReady, Hears, Silences};
-ghost use Rattle.search.specs.Ready.{searched-says};
+ghost use lib.Ieee.{lt};
+ghost use Rattle.decode.specs.Correlator.{threshold};
+ghost use Rattle.search.specs.Search.{rank, older, endAfter, heldAfter, missed};
+ghost use Rattle.search.specs.Parts.{Carries, Tries};
+ghost use Rattle.search.specs.Promises.{searched-says};
 
 // A diff below it is a match.
 const SYNC_THRESHOLD: f32 = 100.0;
@@ -27,16 +27,38 @@ const FRAME_CARRIER: u64 = 3840;
 // A frame is due so many samples after its burst was heard whole.
 const FRAME_REST: u16 = 1840;
 
-// The first part's turn of one burst: a match sets the timer, even to a sooner end.
-fn carried(control: Control, burst: SyncBurst, heard: [f32; 8], spread: Spread) -> Control
-    requires { ⌜ control .sample ≤ 2 ^ 63 ⌝ }
-    ensures { λ r. ⌜ Carries burst heard spread control r ⌝ }
+fn is_match(m: Correlation) -> bool
+    ensures { λ r. ⌜ r ≡ lt (m .diff) threshold ⌝ }
 {
-    let m = decode::compare(burst, heard, spread);
-    if m.diff < SYNC_THRESHOLD {
+    m.diff < SYNC_THRESHOLD
+}
+
+// `u64::saturating_add`: an end stops at the last number.
+fn end_after(count: u64, span: u64) -> u64
+    ensures { λ r. ⌜ r ≡ endAfter count span ⌝ }
+{
+    if count > u64::MAX - span {
+        u64::MAX
+    } else {
+        count + span
+    }
+}
+
+// `u8::saturating_add` of one.
+fn older(age: u8) -> u8
+    ensures { λ r. ⌜ r ≡ older age ⌝ }
+{
+    if age < 255 { age + 1 } else { age }
+}
+
+// The first part's turn of one burst: a match sets the timer, even to a sooner end.
+fn carry(control: Control, m: Correlation) -> Control
+    ensures { λ r. ⌜ Carries m control r ⌝ }
+{
+    if is_match(m) {
         let candidate = control.candidate;
         let wait = control.wait;
-        let end = control.sample + BURST_CARRIER;
+        let end = end_after(control.sample, BURST_CARRIER);
         return Control {
             candidate,
             wait,
@@ -62,7 +84,6 @@ fn rank(kind: Kind) -> u8
 
 // The candidate after a match: the held one, a sample older, or a new one.
 fn held_after(candidate: Candidate, kind: Kind, m: Correlation) -> Candidate
-    requires { ⌜ ageOf candidate ≤ 254 ⌝ }
     ensures { λ r. ⌜ r ≡ heldAfter candidate kind m ⌝ }
 {
     if let Candidate::Held {
@@ -73,10 +94,10 @@ fn held_after(candidate: Candidate, kind: Kind, m: Correlation) -> Candidate
         shift,
     } = candidate {
         if diff < m.diff {
-            let older = age + 1;
+            let aged = older(age);
             return Candidate::Held {
                 kind: k,
-                age: older,
+                age: aged,
                 diff,
                 gain,
                 shift,
@@ -93,8 +114,7 @@ fn held_after(candidate: Candidate, kind: Kind, m: Correlation) -> Candidate
 }
 
 // No match: where the held candidate is of the kind, its frame is awaited.
-fn missed(kind: Kind, control: Control) -> Control
-    requires { ⌜ control .sample ≤ 2 ^ 63 ⌝ }
+fn miss(kind: Kind, control: Control) -> Control
     ensures { λ r. ⌜ r ≡ missed 10 kind (control .candidate) control ⌝ }
 {
     let candidate = control.candidate;
@@ -107,7 +127,7 @@ fn missed(kind: Kind, control: Control) -> Control
     } = candidate {
         if rank(k) == rank(kind) {
             let left = FRAME_REST - (age as u16);
-            let end = control.sample + FRAME_CARRIER;
+            let end = end_after(control.sample, FRAME_CARRIER);
             return Control {
                 candidate,
                 wait: Wait::Due(Waiting { left }),
@@ -121,12 +141,10 @@ fn missed(kind: Kind, control: Control) -> Control
 }
 
 // The second part's turn of one kind.
-fn tried(control: Control, kind: Kind, heard: [f32; 8], spread: Spread) -> Control
-    requires { ⌜ TryReady control kind heard spread ⌝ }
-    ensures { λ r. ⌜ Tries kind heard spread control r ⌝ }
+fn try_kind(control: Control, kind: Kind, m: Correlation) -> Control
+    ensures { λ r. ⌜ Tries kind m control r ⌝ }
 {
-    let m = decode::compare(SyncBurst::Frame(kind), heard, spread);
-    if m.diff < SYNC_THRESHOLD {
+    if is_match(m) {
         let before = control.candidate;
         let candidate = held_after(before, kind, m);
         let wait = control.wait;
@@ -139,62 +157,39 @@ fn tried(control: Control, kind: Kind, heard: [f32; 8], spread: Spread) -> Contr
             sample: control.sample,
         };
     }
-    missed(kind, control)
+    miss(kind, control)
 }
 
-// At most one kind matches, so that the age rises by one at most.
-fn passed(control: Control, heard: [f32; 8], spread: Spread) -> Control
-    requires { ⌜ PassReady control heard spread ⌝ }
-    ensures { λ r. ⌜ Passes heard spread control r ⌝ }
-{
-    let after_lsf = tried(control, Kind::Lsf, heard, spread);
-    let after_bert = tried(after_lsf, Kind::Bert, heard, spread);
-    let after_stream = tried(after_bert, Kind::Stream, heard, spread);
-    tried(after_stream, Kind::Packet, heard, spread)
-}
-
-fn is_heard(burst: SyncBurst, heard: [f32; 8], spread: Spread) -> bool
-    ensures { λ r. ⌜ Hears burst heard spread r ⌝ }
-{
-    let m = decode::compare(burst, heard, spread);
-    m.diff < SYNC_THRESHOLD
-}
-
-// Whether there is nothing to do: no candidate is held, and none of the six bursts is heard. Most searches are so, and a control that goes from burst to burst costs more than the bursts.
-fn is_silent(control: Control, heard: [f32; 8], spread: Spread) -> bool
-    ensures { λ r. ⌜ Silences heard spread control r ⌝ }
-{
-    let candidate = control.candidate;
-    !fit::is_held(candidate)
-        & !is_heard(SyncBurst::Preamble, heard, spread)
-        & !is_heard(SyncBurst::EndOfTransmission, heard, spread)
-        & !is_heard(SyncBurst::Frame(Kind::Lsf), heard, spread)
-        & !is_heard(SyncBurst::Frame(Kind::Bert), heard, spread)
-        & !is_heard(SyncBurst::Frame(Kind::Stream), heard, spread)
-        & !is_heard(SyncBurst::Frame(Kind::Packet), heard, spread)
-}
-
-// The six bursts, from one hearing and one spread.
-pub(crate) fn swept(control: Control, values: [f32; 8]) -> Control
-    requires { ⌜ SearchReady control values ⌝ }
-    ensures { λ r. ⌜ r ≡ searched 10 (valuesOf values) control ⌝ }
-{
-    let heard = decode::hear(values);
-    let spread = decode::spread_of(heard);
-    if is_silent(control, heard, spread) {
-        return control;
-    }
-    let after_preamble = carried(control, SyncBurst::Preamble, heard, spread);
-    let after_end = carried(after_preamble, SyncBurst::EndOfTransmission, heard, spread);
-    passed(after_end, heard, spread)
-}
-
-// What is not ready is given back as it is.
+// With nothing held, a gain that matches no burst leaves the control at once, and so do six bursts of which none matches: most searches end there.
 pub fn searched(control: Control, values: [f32; 8]) -> Control
     ensures { λ r. ⌜ searched-says control values r ⌝ }
 {
-    if !fit::is_ready(control, values) {
+    let heard = decode::hear(values);
+    let spread = decode::spread_of(heard);
+    let candidate = control.candidate;
+    let free = !fit::is_held(candidate);
+    if free & (spread.gain < SYNC_MIN_GAIN) {
         return control;
     }
-    swept(control, values)
+    let preamble = decode::compare(SyncBurst::Preamble, heard, spread);
+    let end = decode::compare(SyncBurst::EndOfTransmission, heard, spread);
+    let lsf = decode::compare(SyncBurst::Frame(Kind::Lsf), heard, spread);
+    let bert = decode::compare(SyncBurst::Frame(Kind::Bert), heard, spread);
+    let stream = decode::compare(SyncBurst::Frame(Kind::Stream), heard, spread);
+    let packet = decode::compare(SyncBurst::Frame(Kind::Packet), heard, spread);
+    let matched = is_match(preamble)
+        | is_match(end)
+        | is_match(lsf)
+        | is_match(bert)
+        | is_match(stream)
+        | is_match(packet);
+    if free & !matched {
+        return control;
+    }
+    let after_preamble = carry(control, preamble);
+    let after_end = carry(after_preamble, end);
+    let after_lsf = try_kind(after_end, Kind::Lsf, lsf);
+    let after_bert = try_kind(after_lsf, Kind::Bert, bert);
+    let after_stream = try_kind(after_bert, Kind::Stream, stream);
+    try_kind(after_stream, Kind::Packet, packet)
 }

@@ -1,4 +1,4 @@
-// Whether a control is fit: no phrase of 'Unfit receiver' applies to it. Tests are joined by `&`: none hangs on another.
+// Whether a control is fit: no phrase of 'Unfit receiver' applies to it. Tests are joined by `&`: none depends on another.
 use crate::Candidate;
 use crate::Control;
 use crate::LAST_COUNT;
@@ -6,8 +6,7 @@ use crate::Timer;
 use crate::Wait;
 ghost use mathlib.Core.Path.{_≡_};
 ghost use Rattle.search.specs.Fit.{timerFit, candidateFit, held, waitFit};
-ghost use Rattle.search.specs.Search.{ageOf};
-ghost use Rattle.search.specs.Ready.{ready, control-fit-says};
+ghost use Rattle.search.specs.Promises.{control-fit-says};
 
 // The latest end of the carrier timer: 3,840 samples after the largest count.
 const LAST_END: u64 = 9223372036854779648;
@@ -82,34 +81,4 @@ pub fn control_fit(control: Control) -> bool
         & candidate_fit(candidate)
         & wait_fit(wait, candidate, owed)
         & !owed_with_candidate
-}
-
-// 0 where none is held.
-fn age_of(candidate: Candidate) -> u8
-    ensures { λ r. ⌜ r ≡ ageOf candidate ⌝ }
-{
-    match candidate {
-        Candidate::Nothing => 0,
-        Candidate::Held {
-            kind: _,
-            age,
-            diff: _,
-            gain: _,
-            shift: _,
-        } => age,
-    }
-}
-
-// Whether eight values may be searched: the age has room for one more, the count is not past its last, and the correlator takes each value.
-pub(crate) fn is_ready(control: Control, values: [f32; 8]) -> bool
-    ensures { λ r. ⌜ r ≡ ready control values ⌝ }
-{
-    let candidate = control.candidate;
-    let mut all = (age_of(candidate) <= 254) & (control.sample <= LAST_COUNT);
-    let mut i: usize = 0;
-    while i < 8 {
-        all = all & decode::in_range(values[i]);
-        i += 1;
-    }
-    all
 }

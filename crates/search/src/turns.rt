@@ -1,19 +1,17 @@
 // What a sample and a reply ask of the control alone: no ring is read here.
 use crate::Candidate;
 use crate::Control;
-use crate::LAST_COUNT;
 use crate::Reply;
 use crate::Timer;
 use crate::Turn;
 use crate::Wait;
 use crate::Waiting;
 use crate::bursts;
-use crate::fit;
 use protocol::Kind;
 ghost use mathlib.Core.Path.{_≡_};
 ghost use Rattle.search.specs.Turn.{cleared, offered};
 ghost use Rattle.search.specs.Turns.{dueTurn};
-ghost use Rattle.search.specs.Ready.{turn-of-says, replied-says};
+ghost use Rattle.search.specs.Promises.{turn-of-says, replied-says};
 
 fn cleared(timer: Timer, count: u64) -> Timer
     ensures { λ r. ⌜ r ≡ cleared count timer ⌝ }
@@ -63,18 +61,14 @@ fn due(candidate: Candidate, control: Control) -> Turn
     }
 }
 
-// The sample is counted, the timer cleared, and the wait, if one is held, comes nearer to its end. A control at the last count, or past it, rests as it is.
-pub fn turn_of(control: Control) -> Turn
-    ensures { λ r. ⌜ turn-of-says control r ⌝ }
+// The turn of the sample whose number is `sample`: the timer is cleared, and the wait, if one is held, comes nearer to its end.
+pub fn turn_of(control: Control, sample: u64) -> Turn
+    ensures { λ r. ⌜ turn-of-says control sample r ⌝ }
 {
-    if LAST_COUNT <= control.sample {
-        return Turn::Rest(control);
-    }
     let candidate = control.candidate;
     let wait = control.wait;
     let timer = control.dcd;
     let owed = control.owed;
-    let sample = control.sample + 1;
     let dcd = cleared(timer, sample);
     match wait {
         Wait::Free => Turn::Look(Control {
@@ -110,17 +104,14 @@ pub fn turn_of(control: Control) -> Turn
     }
 }
 
-// A reply ends the wait for it; a frame that is not accepted leaves the sample to the search. What is not ready for one is given back as it is.
+// A reply ends the wait for it; a frame that is not accepted leaves the sample to the search.
 pub fn replied(control: Control, reply: Reply, values: [f32; 8]) -> Control
     ensures { λ r. ⌜ replied-says control reply values r ⌝ }
 {
-    if !fit::is_ready(control, values) {
-        return control;
-    }
     let mut settled = control;
     settled.owed = false;
     match reply {
         Reply::Accepted => settled,
-        Reply::Rejected => bursts::swept(settled, values),
+        Reply::Rejected => bursts::searched(settled, values),
     }
 }

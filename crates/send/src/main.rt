@@ -1,8 +1,9 @@
-// Reads lines of the house format from standard input, and writes the samples of their transmission to standard output, two bytes each, the low one first. All that it does between its
-// reads and its writes is the library sending. Where a read or a write fails, it stops and says so on standard error; what it wrote by then begins the right output.
+// Reads lines of the house format from standard input, and writes the samples of their transmission to standard output, two bytes each,
+// the low one first. Where a read or a write fails it stops and says so on standard error; what it wrote by then begins the right output.
 use house::Trouble;
 use libc::STDIN_FILENO;
 use libc::STDOUT_FILENO;
+use modulator::Provided;
 use sending::AfterPart;
 use sending::Sending;
 ghost use Prim.Native.Nat.{_≤_};
@@ -42,6 +43,25 @@ fn read_some(room: &mut [u8]) -> Got {
     }
 }
 
+fn is_refused(answer: Provided) -> bool {
+    match answer {
+        Provided::Refused(_) => true,
+        Provided::Done => false,
+    }
+}
+
+// From a fresh start no turn is refused. A refused one has taken no byte of its read, so the program cannot go on.
+fn put_admitted(part: AfterPart) -> Turn
+    requires { ⌜ part .length ≤ 5440 ⌝ }
+{
+    let answer = part.answer;
+    if is_refused(answer) {
+        telling::say(Trouble::Refused);
+        return Turn { part, fine: false };
+    }
+    put(part)
+}
+
 // Reads once, no more than the line at hand lacks.
 fn next_turn(before: AfterPart) -> Turn {
     let sending = before.sending;
@@ -54,7 +74,7 @@ fn next_turn(before: AfterPart) -> Turn {
             fine: false,
         };
     }
-    put(sending.turn(bytes, got.count))
+    put_admitted(sending.turn(bytes, got.count))
 }
 
 fn tell_last(part: AfterPart) {

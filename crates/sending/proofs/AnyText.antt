@@ -72,7 +72,7 @@ asks-from (bytes ∷ reads) l at fit on =
     by-test next true e more on = absurd (never-both e on)
     by-test next false e more on = more e on
 
--- Before each read the line lacks a byte at least: a read that gives none is the end of the input, and not for want of room.
+-- Before each read the line lacks a byte at least: a read that gives none is the end of the input.
 pub asks-some : (reads : List (List ℕ)) → Fitting (opened .sending) reads → lastUntil reads .last ≡ false → 0 < lacking (lastUntil reads .sending)
 asks-some reads fit on = asks-from reads opened somewhere fit on
 

@@ -1,4 +1,4 @@
--- Samples as bytes, one pair behind the other. Assumes nothing.
+-- Samples as bytes, one pair after the other. Assumes nothing.
 use mathlib.Core.Path.{_≡_, refl, sym, ap, _∙_}
 use mathlib.Core.List.{List, [], _∷_, _++_, map, map-append, append-assoc, append-nil, flatten}
 use Prim.Native.Nat.{ℕ, suc, _+_, _*_, _≤_, _<_}

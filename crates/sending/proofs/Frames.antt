@@ -18,10 +18,11 @@ use Rattle.numbers.proofs.Below.{all-below, below-all}
 use Rattle.numbers.proofs.Firsts.{length-firsts, firsts-at, firsts-same}
 use Rattle.shaping.specs.Taps.{taps}
 use Rattle.modulator.specs.declared.Pending.{Pending}
+use Rattle.modulator.specs.declared.SoftModulator.{SoftModulator}
 use Rattle.modulator.specs.declared.ModulatorFrame.{ModulatorFrame}
 use Rattle.modulator.specs.declared.ModulatorFrame.the-variants.{Preamble, Symbols as GivenSymbols, EndOfTransmission}
 use Rattle.modulator.specs.Frame.{Symbols, preamble, listed, given, ending, symbolFit}
-use Rattle.modulator.specs.Calls.{done, wrote, ended}
+use Rattle.modulator.specs.Calls.{done, wrote, ended, givenFrame, accepted}
 use Rattle.modulator_run.specs.Stream.{sentAt}
 use Rattle.modulator_run.specs.Rules.{Sent, provide, after, framed, provided, samplesRead, frameSample, drained, called}
 use Rattle.modulator_run.specs.Run.{Delay}
@@ -36,7 +37,7 @@ pub record Gives (frame : ModulatorFrame) (symbols : List Float) (f : Symbols) :
   pub given : Delay frame
   pub few : f .count ≤ 272
   pub pending : Pending → Pending
-  pub calls : (s : Sent) → s .progress .«tx_delay_padding» ≡ 0 → called taps 10 s (provide frame symbols) ≡ after done [] (framed taps 10 f 0 (pending (s .pending)) s)
+  pub calls : (s : Sent) → s .progress .«tx_delay_padding» .0 ≡ 0 → called taps 10 s (provide frame symbols) ≡ after done [] (framed taps 10 f 0 (pending (s .pending)) s)
 
 -- "preamble (TxDelay 0)"
 pub gives-preamble : Gives (Preamble (record { 0 = 0 })) noSymbols preamble
@@ -46,7 +47,7 @@ gives-preamble = record {
   few = lit≤ tt;
   pending = λ p. p;
   calls = λ s e.
-      let none : 48 * 10 * 0 - s .buffer .«output_latency» ≡ 0 = omega arith in
+      let none : 48 * 10 * 0 - s .buffer .«output_latency» .0 ≡ 0 = omega arith in
       ap (λ (n : ℕ). after done [] (framed taps 10 preamble n (s .pending) s)) none;
 }
 
@@ -69,13 +70,21 @@ module _ (line : List ℕ) (good : goodLine line ≡ true) where
       let digit : valueOf (getD line (i / 2) 0) < 16 = ltb-true _ 16 (is-true _ (good-digit line (holds good) (i / 2) (omega arith))) in
       rw (firsts-at (λ (j : ℕ). symbolOf (bitsAt line j)) 192 i nan l) (fit-symbol (bitsAt line i) (pair-below (valueOf (getD line (i / 2) 0)) i digit))
 
+  all-fit : allBelow 192 (λ (i : ℕ). symbolFit (getD (symbolsOf line) i nan)) ≡ true
+  all-fit = is-true _ (below-all 192 (λ (i : ℕ). symbolFit (getD (symbolsOf line) i nan)) fit-at)
+
+  -- by every record that is fit
+  pub line-accepted : (m : SoftModulator) → accepted m GivenSymbols (symbolsOf line) .answer ≡ done
+  unfolding accepted givenFrame
+  line-accepted m = rw (symbols-number, all-fit)
+
   pub gives-line : Gives GivenSymbols (symbolsOf line) (given (symbolsOf line))
   unfolding Delay called provided
   gives-line = record {
     given = tt;
     few = lit≤ tt;
     pending = λ p. p;
-    calls = λ s e. rw (symbols-number, is-true (allBelow 192 (λ (i : ℕ). symbolFit (getD (symbolsOf line) i nan))) (below-all 192 (λ (i : ℕ). symbolFit (getD (symbolsOf line) i nan)) fit-at), e);
+    calls = λ s e. rw (symbols-number, all-fit, e);
   }
 
   pub line-frame : firsts (given (symbolsOf line) .symbol) 192 ≡ symbolsOf line
@@ -110,6 +119,6 @@ module _ (s : Sent) (f : Symbols) (few : f .count ≤ 272) (pending : Pending) w
   unfolding drained framed
   then-symbols = refl
 
-  pub then-padding : drained taps 10 emptyRoom next .sent .progress .«tx_delay_padding» ≡ 0
+  pub then-padding : drained taps 10 emptyRoom next .sent .progress .«tx_delay_padding» .0 ≡ 0
   unfolding drained framed
   then-padding = omega arith

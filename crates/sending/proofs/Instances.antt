@@ -1,18 +1,30 @@
--- Texts that meet what the laws ask: none at all, document 01's whole case in one read and in two, and a bad first line. Assumes nothing.
+-- What meets the laws' hypotheses: no text, document 01's whole case in one read and in two, a bad first line, a byte past a line's
+-- end, and an unfit sender. Assumes nothing.
 use mathlib.Core.Path.{_≡_, refl, ap, _∙_}
 use mathlib.Core.Bool.{false}
 use mathlib.Core.List.{List, [], _∷_, _++_, flatten}
 use Prim.Native.Nat.{ℕ, _+_, _*_, _<_}
 use lib.Dec.{lit<, lit≤}
 use lib.ListN.{length, take, drop, replicate}
+use lib.Ieee.{le, ofBits}
 use Rattle.numbers.specs.Below.{allBelow}
 use Rattle.numbers.specs.Firsts.{firsts}
+use Rattle.modulator.specs.declared.ModulatorFrame.the-variants.{EndOfTransmission}
+use Rattle.modulator.specs.Fit.{pulseFit, windowFit, recordFit}
+use Rattle.modulator.specs.Record.{fresh}
+use Rattle.modulator.specs.Calls.{refusal, done, accepted, provided}
+use Rattle.modulator.specs.Calls.{read as readInto}
+use Rattle.modulator_run.specs.Run.{Delay}
 use Rattle.house.specs.Digits.{capitals, placeIn, valueOf}
-use Rattle.house.specs.Line.{lineFeed, goodLine}
+use Rattle.house.specs.Line.{lineFeed, goodLine, noSymbols}
 use Rattle.house.specs.BadLine.{tensIn, decimal, heading, badLine, inRoom}
+use Rattle.sending.specs.declared.Sending.{Sending}
 use Rattle.sending.specs.Text.{hasFeed, linesOf, goodFront, AllGood, none, inLine, firstBad, lineSymbols, preambleSymbols, endSymbols, streamSamples, samplesSent, sampleBytes, bytesSent}
-use Rattle.sending.specs.Calls.{partOf, starting, opened, lacking, held, judged, turned, words}
-use Rattle.sending.specs.Run.{Fitting, callsOver, callsUntil, writtenBy, lastOf, lastCall, lastUntil, toldOf, lastWords, Begins}
+use Rattle.sending.specs.Calls.{Left, isRefusal, emptyRoom, partOf, quiet, starting, opened, lacking, held, judged, moved, orAsItWas, turned, words}
+use Rattle.sending.specs.Run.{Fitting, callsFrom, callsOver, callsUntil, AllDone, AllTaken, writtenBy, lastOf, lastCall, lastUntil, toldOf, lastWords, Begins}
+use Rattle.sending.specs.TurnFrame.{lineFrame, turnFrame, isGiven}
+use Rattle.sending.proofs.RefusedTurn.{read-follows, refused-turn, refused-exactly}
+use Rattle.sending.proofs.BytesTaken.{bytes-taken, surplus}
 use Rattle.sending.proofs.SendRun.{send-run}
 use Rattle.sending.proofs.AnyText.{asks-some, output-prefix, failed-write, failed-last-write}
 use Rattle.sending.proofs.GoodLines.{lines-back, good-lines, send-good, send-good-tells, samples-sent, bytes-sent}
@@ -67,7 +79,7 @@ two-reads : List (List ℕ)
 two-reads = take 50 wholeCase ∷ drop 50 wholeCase ∷ []
 
 two-reads-fit : Fitting (opened .sending) two-reads
-unfolding two-reads Fitting opened partOf starting wholeCase turned judged held hasFeed
+unfolding two-reads Fitting opened partOf starting wholeCase turned orAsItWas moved judged held hasFeed
 two-reads-fit = (lit< tt, (lit≤ tt, λ _. (lit< tt, (lit≤ tt, λ _. tt))))
 
 -- and between them the line lacks a byte at least
@@ -76,16 +88,19 @@ unfolding Fitting opened partOf starting wholeCase
 half-fits = (lit< tt, (lit≤ tt, λ _. tt))
 
 half-goes-on : lastUntil (take 50 wholeCase ∷ []) .last ≡ false
-unfolding lastOf callsUntil opened partOf starting wholeCase turned judged held hasFeed
+unfolding lastOf callsUntil opened partOf starting wholeCase turned orAsItWas moved judged held hasFeed
 half-goes-on = refl
 
 half-asks : 0 < lacking (lastUntil (take 50 wholeCase ∷ []) .sending)
 half-asks = asks-some (take 50 wholeCase ∷ []) half-fits half-goes-on
 
+two-reads-taken : AllTaken (opened .sending) two-reads
+two-reads-taken = send-run two-reads two-reads-fit .takes
+
 two-reads-prefix : Begins (writtenBy (opened ∷ callsUntil (opened .sending) two-reads)) (bytesSent (flatten two-reads ++ wholeCase))
 two-reads-prefix = output-prefix two-reads two-reads-fit wholeCase
 
--- a write of the second part that fails behind its first byte
+-- a write of the second part that fails after its first byte
 two-reads-failed : Begins (take 3841 (writtenBy (opened ∷ callsUntil (opened .sending) two-reads))) (bytesSent (flatten two-reads ++ wholeCase))
 two-reads-failed = failed-write two-reads two-reads-fit wholeCase 3841
 
@@ -104,3 +119,64 @@ feed-tells = send-run ((lineFeed ∷ []) ∷ []) feed-fits .tells (lit≤ tt)
 feed-says : lastWords ((lineFeed ∷ []) ∷ []) ≡ inRoom (heading ++ (0x31 ∷ lineFeed ∷ []))
 unfolding words badLine decimal tensIn firsts
 feed-says = ap words feed-tells
+
+-- ---- a byte past a line's end changes nothing, and is not among the 97 that are taken
+past-end : List ℕ
+past-end = wholeCase ++ (0x35 ∷ [])
+
+past-end-same : turned (opened .sending) past-end ≡ turned (opened .sending) wholeCase
+unfolding past-end opened partOf starting wholeCase
+past-end-same = surplus (opened .sending) wholeCase (0x35 ∷ []) (lit< tt) (lit≤ tt)
+
+past-end-done : turned (opened .sending) past-end .answer ≡ done
+unfolding AllDone callsFrom
+past-end-done = ap (λ (l : Left). l .answer) past-end-same ∙ send-run (wholeCase ∷ []) whole-case-fits .answers .1 .0
+
+past-end-taken : turned (opened .sending) past-end .taken ≡ 97
+unfolding past-end opened partOf starting wholeCase
+past-end-taken = bytes-taken (opened .sending) past-end past-end-done
+
+-- ---- a fresh sender's end of transmission, which is then read
+fresh-ends : provided fresh EndOfTransmission noSymbols .answer ≡ done
+unfolding provided accepted recordFit windowFit pulseFit allBelow fresh ofBits le
+fresh-ends = refl
+
+fresh-end-read : isRefusal (readInto (provided fresh EndOfTransmission noSymbols .modulator) emptyRoom .answer) ≡ false
+unfolding Delay
+fresh-end-read = read-follows fresh EndOfTransmission noSymbols tt fresh-ends emptyRoom
+
+-- ---- an unfit sender, "cursor past 80", with half of the whole case's line at hand
+unfit : Sending
+unfit = record {
+  modulator = record {
+    «next_transmission» = fresh .«next_transmission»;
+    «filter_win» = fresh .«filter_win»;
+    «filter_cursor» = 81;
+    progress = fresh .progress;
+    pending = fresh .pending;
+    buffer = fresh .buffer;
+  };
+  line = wholeCase;
+  have = 50;
+  number = 7;
+}
+
+-- a good line's frame
+unfit-line : turned unfit (drop 50 wholeCase) ≡ quiet (refusal 1) unfit false
+unfolding unfit wholeCase recordFit turnFrame lineFrame isGiven held goodLine allBelow valueOf placeIn capitals
+unfit-line = refused-turn unfit (drop 50 wholeCase) 1 (refused-exactly unfit (drop 50 wholeCase))
+
+-- the end of the input
+unfit-end : turned unfit [] ≡ quiet (refusal 1) unfit false
+unfolding unfit recordFit turnFrame isGiven
+unfit-end = refused-turn unfit [] 1 (refused-exactly unfit [])
+
+-- a bad line
+unfit-bad : turned unfit (lineFeed ∷ []) ≡ quiet (refusal 1) unfit false
+unfolding unfit wholeCase recordFit turnFrame lineFrame isGiven held hasFeed
+unfit-bad = refused-turn unfit (lineFeed ∷ []) 1 (refused-exactly unfit (lineFeed ∷ []))
+
+-- and bytes that end no line, of which the sender hears nothing
+unfit-more : turned unfit (0x30 ∷ []) .answer ≡ done
+unfolding unfit wholeCase recordFit turnFrame lineFrame isGiven held hasFeed
+unfit-more = refused-exactly unfit (0x30 ∷ [])

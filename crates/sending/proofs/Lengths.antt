@@ -6,11 +6,11 @@ use Prim.Native.Nat.{ℕ, _≤_, _<_, _^_}
 use native.Mathlib.Omega.{arith}
 use lib.Dec.{ltb}
 use lib.IntN.{pos}
-use lib.ListN.{length-replicate}
+use lib.ListN.{length, length-replicate}
 use lib.Ieee.{Float}
 use Rattle.modulator.specs.declared.ModulatorFrame.{ModulatorFrame}
 use Rattle.modulator.specs.declared.ModulatorFrame.the-variants.{Symbols as GivenSymbols}
-use Rattle.modulator.specs.Calls.{provided}
+use Rattle.modulator.specs.Calls.{done, provided}
 use Rattle.house.specs.declared.Text.{Text}
 use Rattle.house.specs.Line.{goodLine, symbolsOf}
 use Rattle.house.specs.BadLine.{inRoom}
@@ -18,7 +18,7 @@ use Rattle.house.proofs.Within.{bad-line-within}
 use Rattle.sending.specs.declared.Sending.{Sending}
 use Rattle.sending.specs.declared.AfterPart.{AfterPart}
 use Rattle.sending.specs.Text.{hasFeed}
-use Rattle.sending.specs.Calls.{Left, emptyRoom, partOf, quiet, opened, atHand, held, nextLine, judged, taken, closed, turned, named, words, Says, open-says, last-words-says}
+use Rattle.sending.specs.Calls.{Left, emptyRoom, partOf, quiet, opened, added, atHand, held, nextLine, judged, closed, moved, withTaken, isRefusal, orAsItWas, turned, named, words, Says, open-says, last-words-says}
 use Rattle.sending.proofs.Parts.{read-within}
 
 part-within : (s : Sending) (frame : ModulatorFrame) (symbols : List Float) (bad last : Bool) → partOf s frame symbols bad last .length ≤ 5440
@@ -29,7 +29,7 @@ judged-within : (s : Sending) → judged s .length ≤ 5440
 unfolding judged
 judged-within s = by-test (ltb (s .have) 97) (goodLine (s .line))
   where
-    by-test : (t u : Bool) → cond t (quiet s (hasFeed (atHand s))) (cond u (partOf (nextLine s) GivenSymbols (symbolsOf (s .line)) false false) (quiet s true)) .length ≤ 5440
+    by-test : (t u : Bool) → cond t (quiet done s (hasFeed (atHand s))) (cond u (partOf (nextLine s) GivenSymbols (symbolsOf (s .line)) false false) (quiet done s true)) .length ≤ 5440
     by-test true u = omega arith
     by-test false true = part-within (nextLine s) GivenSymbols (symbolsOf (s .line)) false false
     by-test false false = omega arith
@@ -45,13 +45,21 @@ closed-within : (s : Sending) → closed s .length ≤ 5440
 unfolding closed
 closed-within s = part-within s _ _ _ true
 
-turned-within : (s : Sending) (bytes : List ℕ) → turned s bytes .length ≤ 5440
-unfolding turned
-turned-within s [] = closed-within s
-turned-within s (b ∷ bytes) = by-test (taken s (b ∷ bytes)) (taken s (b ∷ bytes) .bad) (judged-within (held s (b ∷ bytes)))
+moved-within : (s : Sending) (bytes : List ℕ) → moved s bytes .length ≤ 5440
+unfolding moved
+moved-within s [] = closed-within s
+moved-within s (b ∷ bytes) = by-test (judged (held s (b ∷ bytes))) (judged (held s (b ∷ bytes)) .bad) (judged-within (held s (b ∷ bytes)))
   where
     by-test : (l : Left) (t : Bool) → l .length ≤ 5440 → cond t (closed (l .sending)) l .length ≤ 5440
     by-test l true few = closed-within (l .sending)
+    by-test l false few = few
+
+turned-within : (s : Sending) (bytes : List ℕ) → turned s bytes .length ≤ 5440
+unfolding turned orAsItWas
+turned-within s bytes = by-test (moved s bytes) (isRefusal (moved s bytes .answer)) (moved-within s bytes)
+  where
+    by-test : (l : Left) (t : Bool) → l .length ≤ 5440 → cond t (quiet (l .answer) s false) (withTaken (length (added s bytes)) l) .length ≤ 5440
+    by-test l true few = omega arith
     by-test l false few = few
 
 -- the promise of `turn`, of the bytes that it takes

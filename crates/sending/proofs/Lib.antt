@@ -15,10 +15,14 @@ pub mod OnlyAnswer
 pub mod Frames
 pub mod OnePart
 -- what becomes of the line at hand with a read's bytes, and a turn
-pub mod Becoming
-pub mod Turning
+pub mod LineAtHand
+pub mod Turns
+-- which turns are refused, and what a refused one leaves
+pub mod RefusedTurn
+-- how many of a read's bytes a turn takes
+pub mod BytesTaken
 -- what the calls from some place on come to
-pub mod Closing
+pub mod RestOfRun
 -- the program over all of its reads
 pub mod SendRun
 -- every text, and what is written so far

@@ -97,7 +97,7 @@ unfolding inFront linesOf
 line-open b [] h = lines-plain b [] (first-plain b [] h)
 line-open b (a ∷ l) h = lines-plain b (a ∷ l) (first-plain b (a ∷ l) h) ∙ ap (inFront b) (line-open a l (rest-plain b (a ∷ l) h))
 
--- a line that goes on behind the bytes `l`
+-- a line that goes on after the bytes `l`
 pub record GoesOn (l : List ℕ) (lines : List (List ℕ)) : Type 0 where
   pub more : List ℕ
   pub others : List (List ℕ)

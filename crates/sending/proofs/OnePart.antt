@@ -1,4 +1,4 @@
--- A part from a sender that has sent the symbols `xs` and has no padding due: its frame's symbols are sent behind them, and all of its samples are written. Assumes nothing.
+-- A part from a sender that has sent the symbols `xs` and has no padding due: its frame's symbols are sent after them, and all of its samples are written. Assumes nothing.
 use mathlib.Core.Path.{_≡_, refl, sym, ap, _∙_}
 use mathlib.Core.Bool.{Bool}
 use mathlib.Core.List.{List, [], _∷_, _++_}
@@ -35,7 +35,7 @@ pub record Sits (m : SoftModulator) (cs : List Call) (xs : List Float) : Type 0 
   pub by : m ≡ recordAfter cs
   pub given : AllGiven cs
   pub symbols : sentAll taps 10 cs .symbols ≡ xs
-  pub padding : sentAll taps 10 cs .progress .«tx_delay_padding» ≡ 0
+  pub padding : sentAll taps 10 cs .progress .«tx_delay_padding» .0 ≡ 0
 
 -- ---- more calls
 record-behind : (m : SoftModulator) (cs ds : List Call) → recordFrom m (cs ++ ds) ≡ recordFrom (recordFrom m cs) ds
@@ -127,7 +127,7 @@ module _ (s : Sending) (cs : List Call) (xs : List Float) (sits : Sits (s .modul
     given = given-behind cs (partCalls frame symbols) (sits .given) calls-given;
     symbols =
         ap (λ (x : Sent). x .symbols) both-called ∙ then-symbols before f (gives .few) pending ∙ ap (λ (l : List Float). l ++ new) (sits .symbols);
-    padding = ap (λ (x : Sent). x .progress .«tx_delay_padding») both-called ∙ then-padding before f (gives .few) pending;
+    padding = ap (λ (x : Sent). x .progress .«tx_delay_padding» .0) both-called ∙ then-padding before f (gives .few) pending;
   }
 
   all-written : take (2 * (10 * f .count)) (sampleBytes (samplesBehind xs new ++ drop (10 * f .count) emptyRoom)) ≡ sampleBytes (samplesBehind xs new)

@@ -11,10 +11,10 @@ use Rattle.sending.specs.declared.Sending.{Sending}
 use Rattle.sending.specs.declared.AfterPart.{AfterPart}
 use Rattle.sending.specs.Calls.{Left, Says, open-says, lacks-says, turn-says, last-words-says}
 
--- what is made of six parts is one where these are
-made : {a b : Provided} {s t : Sending} {k l : List ℕ} {m n : ℕ} {p q u v : Bool} → a ≡ b → s ≡ t → k ≡ l → m ≡ n → p ≡ q → u ≡ v
-    → _≡_ {A = AfterPart} (record { answer = a; sending = s; bytes = k; length = m; bad = p; last = u }) (record { answer = b; sending = t; bytes = l; length = n; bad = q; last = v })
-made e f g h i j = cc
+-- what is made of seven parts is one where these are
+made : {a b : Provided} {s t : Sending} {k l : List ℕ} {m n i j : ℕ} {p q u v : Bool} → a ≡ b → s ≡ t → k ≡ l → m ≡ n → i ≡ j → p ≡ q → u ≡ v
+    → _≡_ {A = AfterPart} (record { answer = a; sending = s; bytes = k; length = m; taken = i; bad = p; last = u }) (record { answer = b; sending = t; bytes = l; length = n; taken = j; bad = q; last = v })
+made d e f g h k l = cc
 
 said-once : (d : Left) (r s : AfterPart) → Says d r → Says d s → r ≡ s
 said-once d r s p q =
@@ -23,6 +23,7 @@ said-once d r s p q =
     (same-answer (p .leaves) (q .leaves))
     (same-answer (p .writes) (q .writes))
     (same-answer (p .counts) (q .counts))
+    (same-answer (p .takes) (q .takes))
     (same-answer (p .tells) (q .tells))
     (same-answer (p .ends) (q .ends))
 

@@ -17,7 +17,7 @@ use Rattle.modulator.specs.declared.AfterFrame.{AfterFrame}
 use Rattle.modulator.specs.declared.AfterRead.{AfterRead}
 use Rattle.modulator.specs.Record.{fresh}
 use Rattle.modulator.specs.Fit.{recordFit}
-use Rattle.modulator.specs.Calls.{readPaper, drained, provide-next-frame-says, read-output-samples-says}
+use Rattle.modulator.specs.Calls.{done, readPaper, drained, provide-next-frame-says, read-output-samples-says}
 use Rattle.modulator.specs.Calls.{read as readInto}
 use Rattle.modulator.proofs.Cases.{read-unfit, read-fit}
 use Rattle.modulator_run.specs.Pieces.{counted}
@@ -27,7 +27,7 @@ use Rattle.house.proofs.Lines.{read-good, read-bad}
 use Rattle.sending.specs.declared.Sending.{Sending}
 use Rattle.sending.specs.declared.AfterPart.{AfterPart}
 use Rattle.sending.specs.Text.{hasFeed, sampleBytes}
-use Rattle.sending.specs.Calls.{emptyRoom, withModulator, partOf, quiet, starting, opened, lacking, atHand, held, nextLine, judged, Says}
+use Rattle.sending.specs.Calls.{emptyRoom, withModulator, partOf, quiet, starting, opened, lacking, added, atHand, held, nextLine, judged, Says}
 
 -- a read writes no more than the room holds
 pub read-within : (m : SoftModulator) (room : List ℤ) → counted (readInto m room .answer) ≤ length room
@@ -44,13 +44,14 @@ counted-within {m} {room} said = rw (said .answers) (read-within m room)
 -- a part, from what its two calls promise
 pub part-said : (s : Sending) (frame : ModulatorFrame) (symbols : List Float) (bad last : Bool) (given : AfterFrame) (out : AfterRead) (after : List ℤ) (bytes : List ℕ) (n : ℕ)
     → provide-next-frame-says (s .modulator) frame symbols given → read-output-samples-says (given .modulator) emptyRoom out after → bytes ≡ sampleBytes after → n ≡ counted (readPaper (out .answer))
-    → Says (partOf s frame symbols bad last) (record { answer = given .answer; sending = withModulator (out .modulator) s; bytes = bytes; length = 2 * n; bad = bad; last = last })
+    → Says (partOf s frame symbols bad last) (record { answer = given .answer; sending = withModulator (out .modulator) s; bytes = bytes; length = 2 * n; taken = 0; bad = bad; last = last })
 unfolding partOf
 part-said s frame symbols bad last given out after bytes n first second b k = record {
   answers = first .answers;
   leaves = rw (second .leaves, first .leaves);
   writes = rw (b, second .writes, first .leaves);
   counts = rw (k, second .answers, first .leaves);
+  takes = refl;
   tells = refl;
   ends = refl;
 }
@@ -62,7 +63,7 @@ open-said m e r said = rw e at said
 
 -- ---- the line at hand, judged
 module _ (s : Sending) where
-  pub judged-short : s .have < 97 → judged s ≡ quiet s (hasFeed (atHand s))
+  pub judged-short : s .have < 97 → judged s ≡ quiet done s (hasFeed (atHand s))
   unfolding judged
   judged-short h = rw (lt-ltb (s .have) 97 h)
 
@@ -70,7 +71,7 @@ module _ (s : Sending) where
   unfolding judged
   judged-good h good = rw (le-ltb (s .have) 97 h, good)
 
-  pub judged-bad : 97 ≤ s .have → goodLine (s .line) ≡ false → judged s ≡ quiet s true
+  pub judged-bad : 97 ≤ s .have → goodLine (s .line) ≡ false → judged s ≡ quiet done s true
   unfolding judged
   judged-bad h bad = rw (le-ltb (s .have) 97 h, bad)
 
@@ -98,6 +99,10 @@ both-taken a n l = by-test (ltb a n) refl
         let less = ltb-false a n e in
         let same : n ≡ min n a = omega arith in
         take-all a (take n l) (omega (arith, length-take n l)) ∙ ap (λ (k : ℕ). take k l) same
+
+-- how many of the first n bytes go into the line
+pub added-number : (s : Sending) (bytes : List ℕ) (n : ℕ) → length bytes ≡ 97 → length (added s (take n bytes)) ≡ min n (lacking s)
+added-number s bytes n size = rw (both-taken (lacking s) n bytes) (length-take-le (min n (lacking s)) bytes (omega arith))
 
 pub held-is : (s : Sending) (bytes : List ℕ) (n : ℕ) → length bytes ≡ 97
     → held s (take n bytes) ≡ record { modulator = s .modulator; line = paste (s .line) (s .have) bytes (min n (lacking s)); have = s .have + min n (lacking s); number = s .number }

@@ -11,21 +11,23 @@ use lib.Seq.{length-take-le}
 use lib.Ieee.{Float}
 use Rattle.modulator.specs.declared.ModulatorFrame.the-variants.{Preamble, Symbols as GivenSymbols}
 use Rattle.modulator.specs.Frame.{preamble, given}
+use Rattle.modulator.specs.Calls.{done}
 use Rattle.modulator_run.specs.Rules.{Call, sentFrom}
 use Rattle.modulator_run.specs.Run.{recordFrom, AllGiven}
 use Rattle.house.specs.Line.{goodLine, symbolsOf, noSymbols}
 use Rattle.sending.specs.declared.Sending.{Sending}
 use Rattle.sending.specs.Text.{hasFeed, linesOf, goodLines, lineSymbols, preambleSymbols, endSymbols, symbolsSent, sampleBytes}
-use Rattle.sending.specs.Calls.{Left, partOf, quiet, starting, largest, opened, atHand, nextLine, taken, closed, turned, words}
+use Rattle.sending.specs.Calls.{Left, partOf, quiet, starting, largest, opened, added, atHand, held, nextLine, judged, closed, withTaken, turned, words}
 use Rattle.sending.specs.Run.{Fitting, callsFrom, writtenBy, AllDone, lastOf, partCalls, lineCalls, senderCalls, Sends}
 use Rattle.sending.proofs.Lines.{never-both, good-first}
 use Rattle.sending.proofs.Bytes.{bytes-two}
 use Rattle.sending.proofs.Stream.{samplesBehind, samples-from-start, samples-two}
 use Rattle.sending.proofs.Frames.{gives-preamble, gives-line, line-frame}
 use Rattle.sending.proofs.OnePart.{Sits, Done, part-done}
-use Rattle.sending.proofs.Becoming.{longer, Becomes, waits, fails, sends, longer-places, longer-at-hand, becomes}
-use Rattle.sending.proofs.Turning.{closed-last, turned-on, turned-bad}
-use Rattle.sending.proofs.Closing.{Over, open-bad, over-bad, over-nothing, over-quiet, over-part}
+use Rattle.sending.proofs.LineAtHand.{longer, Becomes, waits, fails, sends, longer-places, longer-at-hand, becomes}
+use Rattle.sending.proofs.Turns.{closed-last, turned-on, turned-bad, turned-end}
+use Rattle.sending.proofs.BytesTaken.{all-taken}
+use Rattle.sending.proofs.RestOfRun.{Over, closes, open-bad, over-bad, over-nothing, over-quiet, over-part}
 
 -- ---- where the program stands between two reads: the line at hand has not ended, and has the number k
 pub record Stands (s : Sending) (cs : List Call) (xs : List Float) (k : ℕ) : Type 0 where
@@ -40,36 +42,36 @@ empty : (s : Sending) → s .have ≡ 0 → linesOf (atHand s) ≡ []
 unfolding linesOf
 empty s e = rw e
 
-over-end : (s : Sending) (cs : List Call) (xs : List Float) (k : ℕ) → Stands s cs xs k → Over (closed s ∷ []) cs xs k (linesOf (atHand s))
-over-end s cs xs k st = by-test (ltb 0 (s .have)) refl
+over-end : (n : ℕ) (s : Sending) (cs : List Call) (xs : List Float) (k : ℕ) → Stands s cs xs k → Over (withTaken n (closed s) ∷ []) cs xs k (linesOf (atHand s))
+over-end n s cs xs k st = by-test (ltb 0 (s .have)) refl
   where
-    by-test : (t : Bool) → ltb 0 (s .have) ≡ t → Over (closed s ∷ []) cs xs k (linesOf (atHand s))
+    by-test : (t : Bool) → ltb 0 (s .have) ≡ t → Over (withTaken n (closed s) ∷ []) cs xs k (linesOf (atHand s))
     by-test true e =
         let some = ltb-true 0 (s .have) e in
         let size : length (atHand s) ≡ s .have = length-take-le (s .have) (s .line) (omega (arith, st .places, st .short)) in
-        over-bad s cs xs k (linesOf (atHand s)) (st .sits) some (st .number) (open-bad (atHand s) (omega arith) (omega (arith, st .short)) (st .plain))
+        over-bad n s cs xs k (linesOf (atHand s)) (st .sits) some (st .number) (open-bad (atHand s) (omega arith) (omega (arith, st .short)) (st .plain))
     by-test false e =
         let nothing : s .have ≡ 0 = omega (arith, ltb-false 0 (s .have) e) in
         let no-lines : linesOf (atHand s) ≡ [] = empty s nothing in
-        rw no-lines (over-nothing s cs xs k (st .sits) nothing)
+        rw no-lines (over-nothing n s cs xs k (st .sits) nothing)
 
 -- ---- from any place on
 abbrev Runs : List (List ℕ) → Type 0
 Runs reads = (s : Sending) (cs : List Call) (xs : List Float) (k : ℕ) → Stands s cs xs k → Fitting s reads → Over (callsFrom s reads) cs xs k (linesOf (atHand s ++ flatten reads))
 
-module _ (s : Sending) (bytes : List ℕ) (reads : List (List ℕ)) (some : 0 < length bytes) (l : Left) (e : taken s bytes ≡ l) where
-  calls-on : l .bad ≡ false → l .last ≡ false → callsFrom s (bytes ∷ reads) ≡ l ∷ callsFrom (l .sending) reads
+module _ (s : Sending) (bytes : List ℕ) (reads : List (List ℕ)) (some : 0 < length bytes) (l : Left) (e : judged (held s bytes) ≡ l) where
+  calls-on : l .bad ≡ false → l .answer ≡ done → l .last ≡ false → callsFrom s (bytes ∷ reads) ≡ withTaken (length (added s bytes)) l ∷ callsFrom (l .sending) reads
   unfolding callsFrom
-  calls-on fine on = rw (turned-on s bytes some l e fine, on)
+  calls-on fine answered on = rw (turned-on s bytes some l e fine answered, on)
 
-  calls-end : l .bad ≡ true → callsFrom s (bytes ∷ reads) ≡ closed (l .sending) ∷ []
+  calls-end : l .bad ≡ true → closed (l .sending) .answer ≡ done → callsFrom s (bytes ∷ reads) ≡ withTaken (length (added s bytes)) (closed (l .sending)) ∷ []
   unfolding callsFrom
-  calls-end bad = rw (turned-bad s bytes some l e bad, closed-last (l .sending))
+  calls-end bad answered = rw (turned-bad s bytes some l e bad answered, closed-last (l .sending))
 
-  fits-on : l .bad ≡ false → l .last ≡ false → Fitting s (bytes ∷ reads) → Fitting (l .sending) reads
+  fits-on : l .bad ≡ false → l .answer ≡ done → l .last ≡ false → Fitting s (bytes ∷ reads) → Fitting (l .sending) reads
   unfolding Fitting
-  fits-on fine on fit =
-      let now : turned s bytes ≡ l = turned-on s bytes some l e fine in
+  fits-on fine answered on fit =
+      let now = turned-on s bytes some l e fine answered in
       rw now at (fit .1 .1 (ap (λ (x : Left). x .last) now ∙ on))
 
 few-bytes : (s : Sending) (bytes : List ℕ) (reads : List (List ℕ)) → s .have < 97 → Fitting s (bytes ∷ reads) → s .have + length bytes ≤ 97
@@ -81,9 +83,12 @@ unfolding Fitting
 some-bytes s bytes reads fit = fit .0
 
 module _ (bytes : List ℕ) (s : Sending) (cs : List Call) (xs : List Float) (k : ℕ) (st : Stands s cs xs k) (few : s .have + length bytes ≤ 97) where
-  -- the line at hand with the bytes
+  -- the line at hand with the bytes, and how many of these are taken
   abbrev g : List ℕ
   g = atHand s ++ bytes
+
+  abbrev n : ℕ
+  n = length (added s bytes)
 
   -- a good line as a part
   abbrev lineSent : Left
@@ -101,6 +106,9 @@ module _ (bytes : List ℕ) (s : Sending) (cs : List Call) (xs : List Float) (k 
   line-done : goodLine g ≡ true → Done lineSent cs xs (symbolsOf g) GivenSymbols (symbolsOf g)
   line-done good = rw (line-frame g good) at (part-done (nextLine (longer s bytes)) cs xs (st .sits) GivenSymbols (symbolsOf g) (given (symbolsOf g)) (gives-line g good) false false)
 
+  bad-done : closed (longer s bytes) .answer ≡ done
+  bad-done = closes (longer s bytes) cs xs (st .sits) .answer
+
   sends-stands : goodLine g ≡ true → Stands (lineSent .sending) (cs ++ lineCalls g) (xs ++ symbolsOf g) (suc k)
   unfolding partOf hasFeed
   sends-stands good =
@@ -111,17 +119,18 @@ module _ (bytes : List ℕ) (s : Sending) (cs : List Call) (xs : List Float) (k 
     unfolding partOf
     next-read fit (waits e less plain) =
         let some = some-bytes s bytes reads fit in
-        let l : Left = quiet (longer s bytes) false in
-        let rest = rw (longer-at-hand s bytes (st .places) few) at (more (longer s bytes) cs xs k (waits-stands less plain) (fits-on s bytes reads some l e refl refl fit)) in
-        rw (calls-on s bytes reads some l e refl refl) (over-quiet l (callsFrom (longer s bytes) reads) cs xs k (linesOf (g ++ flatten reads)) refl refl rest)
+        let l : Left = quiet done (longer s bytes) false in
+        let rest = rw (longer-at-hand s bytes (st .places) few) at (more (longer s bytes) cs xs k (waits-stands less plain) (fits-on s bytes reads some l e refl refl refl fit)) in
+        rw (calls-on s bytes reads some l e refl refl refl) (over-quiet n l (callsFrom (longer s bytes) reads) cs xs k (linesOf (g ++ flatten reads)) refl refl rest)
     next-read fit (fails e begun bad) =
-        rw (calls-end s bytes reads (some-bytes s bytes reads fit) (quiet (longer s bytes) true) e refl)
-        (over-bad (longer s bytes) cs xs k (linesOf (g ++ flatten reads)) (st .sits) begun (st .number) (bad (flatten reads)))
+        rw (calls-end s bytes reads (some-bytes s bytes reads fit) (quiet done (longer s bytes) true) e refl bad-done)
+        (over-bad n (longer s bytes) cs xs k (linesOf (g ++ flatten reads)) (st .sits) begun (st .number) (bad (flatten reads)))
     next-read fit (sends e good) =
         let some = some-bytes s bytes reads fit in
-        let rest = more (lineSent .sending) (cs ++ lineCalls g) (xs ++ symbolsOf g) (suc k) (sends-stands good) (fits-on s bytes reads some lineSent e refl refl fit) in
-        rw (calls-on s bytes reads some lineSent e refl refl, good-first g good (flatten reads))
-        (over-part lineSent (callsFrom (lineSent .sending) reads) cs xs k (linesOf (flatten reads)) g good (line-done good) rest)
+        let fine = line-done good .answer in
+        let rest = more (lineSent .sending) (cs ++ lineCalls g) (xs ++ symbolsOf g) (suc k) (sends-stands good) (fits-on s bytes reads some lineSent e refl fine refl fit) in
+        rw (calls-on s bytes reads some lineSent e refl fine refl, good-first g good (flatten reads))
+        (over-part n lineSent (callsFrom (lineSent .sending) reads) cs xs k (linesOf (flatten reads)) g good (line-done good) rest)
 
 -- after a turn that is not the last the program stands between two reads again
 pub record Somewhere (s : Sending) : Type 0 where
@@ -133,20 +142,20 @@ pub record Somewhere (s : Sending) : Type 0 where
 module _ (bytes : List ℕ) (some : 0 < length bytes) where
   by-line : (s : Sending) (cs : List Call) (xs : List Float) (k : ℕ) → Stands s cs xs k → s .have + length bytes ≤ 97 → turned s bytes .last ≡ false → Becomes s bytes → Somewhere (turned s bytes .sending)
   by-line s cs xs k st few on (waits e less plain) =
-      rw (turned-on s bytes some (quiet (longer s bytes) false) e refl) (record { cs = cs; xs = xs; k = k; stands = waits-stands bytes s cs xs k st few less plain })
+      rw (turned-on s bytes some (quiet done (longer s bytes) false) e refl refl) (record { cs = cs; xs = xs; k = k; stands = waits-stands bytes s cs xs k st few less plain })
   by-line s cs xs k st few on (fails e begun bad) =
-      let l : Left = quiet (longer s bytes) true in
-      absurd (never-both (ap (λ (x : Left). x .last) (turned-bad s bytes some l e refl) ∙ closed-last (l .sending)) on)
+      let l : Left = quiet done (longer s bytes) true in
+      absurd (never-both (ap (λ (x : Left). x .last) (turned-bad s bytes some l e refl (bad-done bytes s cs xs k st few)) ∙ closed-last (l .sending)) on)
   by-line s cs xs k st few on (sends e good) =
-      rw (turned-on s bytes some (lineSent bytes s cs xs k st few) e (line-fine bytes s cs xs k st few))
+      rw (turned-on s bytes some (lineSent bytes s cs xs k st few) e (line-fine bytes s cs xs k st few) (line-done bytes s cs xs k st few good .answer))
       (record { cs = cs ++ lineCalls (atHand s ++ bytes); xs = xs ++ symbolsOf (atHand s ++ bytes); k = suc k; stands = sends-stands bytes s cs xs k st few good })
 
   pub next-stands : (s : Sending) → Somewhere s → s .have + length bytes ≤ 97 → turned s bytes .last ≡ false → Somewhere (turned s bytes .sending)
   next-stands s at few on = by-line s (at .cs) (at .xs) (at .k) (at .stands) few on (becomes s bytes (at .stands .places) few)
 
 pub run-from : (reads : List (List ℕ)) → Runs reads
-unfolding callsFrom flatten turned
-run-from [] s cs xs k st fit = rw (append-nil (atHand s)) (over-end s cs xs k st)
+unfolding callsFrom flatten
+run-from [] s cs xs k st fit = rw (append-nil (atHand s), turned-end s (closes s cs xs (st .sits) .answer)) (over-end (length (added s [])) s cs xs k st)
 run-from (bytes ∷ reads) s cs xs k st fit =
     let few : s .have + length bytes ≤ 97 = few-bytes s bytes reads (st .short) fit in
     rw append-assoc at (next-read bytes s cs xs k st few reads (run-from reads) fit (becomes s bytes (st .places) few))
@@ -159,6 +168,10 @@ start-sits = record { by = refl; given = tt; symbols = refl; padding = refl }
 opens : Done opened [] [] preambleSymbols (Preamble (record { 0 = 0 })) noSymbols
 unfolding opened
 opens = part-done starting [] [] start-sits (Preamble (record { 0 = 0 })) noSymbols preamble gives-preamble false false
+
+-- Opening is never refused.
+pub open-done : opened .answer ≡ done
+open-done = opens .answer
 
 pub opened-stands : Stands (opened .sending) (partCalls (Preamble (record { 0 = 0 })) noSymbols) preambleSymbols 1
 unfolding opened starting partOf hasFeed
@@ -177,7 +190,8 @@ send-run reads fit =
           ∙ sym (bytes-two (samplesBehind [] preambleSymbols) (samplesBehind preambleSymbols more))
           ∙ ap sampleBytes (sym (samples-two [] preambleSymbols more))
           ∙ ap sampleBytes (samples-from-start (preambleSymbols ++ more));
-      answers = (opens .answer, rest .answers);
+      answers = (open-done, rest .answers);
+      takes = all-taken reads (opened .sending) fit (rest .answers);
       sender = rest .sender opened;
       ends = rest .ends opened;
       tells = λ h. rest .tells opened (omega arith);

@@ -1,4 +1,4 @@
--- The samples of a stream of symbols, one stretch behind the other. Assumes nothing.
+-- The samples of a stream of symbols, one stretch after the other. Assumes nothing.
 use mathlib.Core.Path.{_≡_, sym, ap, _∙_}
 use mathlib.Core.List.{List, [], _++_, append-assoc}
 use Prim.Native.Nat.{ℕ, _+_, _*_, _<_}
@@ -14,7 +14,7 @@ use Rattle.modulator_run.specs.Stream.{sentAt}
 use Rattle.modulator_run.proofs.Longer.{sent-old}
 use Rattle.sending.specs.Text.{streamSamples}
 
--- the samples of the symbols `ys` that are sent behind `xs`
+-- the samples of the symbols `ys` that are sent after `xs`
 unfoldable pub samplesBehind : List Float → List Float → List ℤ
 samplesBehind xs ys = firsts (λ (i : ℕ). sentAt taps 10 (xs ++ ys) (10 * length xs + i + 1)) (10 * length ys)
 
@@ -34,7 +34,7 @@ module _ (xs ys zs : List Float) where
   abbrev at : ℕ → ℤ
   at i = sentAt taps 10 (xs ++ (ys ++ zs)) (10 * length xs + i + 1)
 
-  -- what is sent does not hang on what follows
+  -- what is sent does not depend on what follows
   first : (i : ℕ) → i < 10 * length ys → at i ≡ sentAt taps 10 (xs ++ ys) (10 * length xs + i + 1)
   first i l =
       ap (λ (s : List Float). sentAt taps 10 s (10 * length xs + i + 1)) (sym (append-assoc xs ys zs))

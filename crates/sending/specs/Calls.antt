@@ -11,7 +11,7 @@ use Rattle.modulator.specs.declared.SoftModulator.{SoftModulator}
 use Rattle.modulator.specs.declared.ModulatorFrame.{ModulatorFrame}
 use Rattle.modulator.specs.declared.ModulatorFrame.the-variants.{Preamble, Symbols as GivenSymbols, EndOfTransmission}
 use Rattle.modulator.specs.Record.{fresh}
-use Rattle.modulator.specs.Calls.{Paper, done, providedPaper, provided}
+use Rattle.modulator.specs.Calls.{Paper, refusal, done, wrote, transmitEnd, readOutput, idle, getFrame, nothing, providedPaper, provided}
 use Rattle.modulator.specs.Calls.{Left as SenderLeft}
 use Rattle.modulator.specs.Calls.{read as readInto}
 use Rattle.modulator_run.specs.Pieces.{counted}
@@ -22,17 +22,28 @@ use Rattle.sending.specs.declared.Sending.{Sending}
 use Rattle.sending.specs.declared.AfterPart.{AfterPart}
 use Rattle.sending.specs.Text.{hasFeed, Bad, none, inLine, sampleBytes}
 
--- what a call leaves: the sender's answer, the record, the bytes with how many of them are to be written, whether the line at hand is bad, and
--- whether the transmission has ended
+-- what a call leaves: the sender's answer, the record, the bytes with how many of them are to be written, how many bytes of a read
+-- went into the line, whether the line at hand is bad, and whether the transmission has ended
 pub record Left : Type 0 where
   pub answer : Paper
   pub sending : Sending
   pub bytes : List ℕ
   pub length : ℕ
+  pub taken : ℕ
   pub bad : Bool
   pub last : Bool
 
--- ---- a part: a frame is given, and then all of it is read
+abbrev pub isRefusal : Paper → Bool
+isRefusal (refusal number) = true
+isRefusal done = false
+isRefusal (wrote n) = false
+isRefusal (transmitEnd n) = false
+isRefusal readOutput = false
+isRefusal (idle state) = false
+isRefusal getFrame = false
+isRefusal nothing = false
+
+-- ---- a part: a frame is given, and then as much is read as the longest frame has
 abbrev pub withModulator : SoftModulator → Sending → Sending
 withModulator m s = record { modulator = m; line = s .line; have = s .have; number = s .number }
 
@@ -44,11 +55,19 @@ unfoldable pub partOf : Sending → ModulatorFrame → List Float → Bool → B
 partOf s frame symbols bad last =
     let given : SenderLeft = provided (s .modulator) frame symbols in
     let out : SenderLeft = readInto (given .modulator) emptyRoom in
-    record { answer = given .answer; sending = withModulator (out .modulator) s; bytes = sampleBytes (out .room); length = 2 * counted (out .answer); bad = bad; last = last }
+    record {
+      answer = given .answer;
+      sending = withModulator (out .modulator) s;
+      bytes = sampleBytes (out .room);
+      length = 2 * counted (out .answer);
+      taken = 0;
+      bad = bad;
+      last = last;
+    }
 
 -- nothing is written
-abbrev pub quiet : Sending → Bool → Left
-quiet s bad = record { answer = done; sending = s; bytes = replicate 5440 0; length = 0; bad = bad; last = false }
+abbrev pub quiet : Paper → Sending → Bool → Left
+quiet answer s bad = record { answer = answer; sending = s; bytes = replicate 5440 0; length = 0; taken = 0; bad = bad; last = false }
 
 -- ---- "Send writes preamble (TxDelay 0)"
 unfoldable pub starting : Sending
@@ -64,11 +83,15 @@ lacking s = 97 - s .have
 abbrev pub atHand : Sending → List ℕ
 atHand s = take (s .have) (s .line)
 
--- the bytes go behind those that the line has, for as many as it lacks
+-- of a read's bytes, those that go into the line: as many as it lacks
+abbrev pub added : Sending → List ℕ → List ℕ
+added s bytes = take (lacking s) bytes
+
+-- they go after those that the line has
 unfoldable pub held : Sending → List ℕ → Sending
 held s bytes =
-    let added : List ℕ = take (lacking s) bytes in
-    record { modulator = s .modulator; line = take (s .have) (s .line) ++ added ++ drop (s .have + length added) (s .line); have = s .have + length added; number = s .number }
+    let more : List ℕ = added s bytes in
+    record { modulator = s .modulator; line = take (s .have) (s .line) ++ more ++ drop (s .have + length more) (s .line); have = s .have + length more; number = s .number }
 
 -- "from 1"; a line's number stays at the largest that a u64 holds
 abbrev pub largest : ℕ
@@ -80,25 +103,38 @@ nextNumber n = min (n + 1) largest
 abbrev pub nextLine : Sending → Sending
 nextLine s = record { modulator = s .modulator; line = s .line; have = 0; number = nextNumber (s .number) }
 
--- "Any line that is not 96 capital digits and a line feed is bad": fewer than 97 bytes with a line feed among them, or 97 that are no good line. Fewer with no line feed may
--- still become one.
+-- "Any line that is not 96 capital digits and a line feed is bad": fewer than 97 bytes with a line feed among them, or 97 that are no
+-- good line. Fewer with no line feed may still become one.
 unfoldable pub judged : Sending → Left
 judged s =
-    cond (ltb (s .have) 97) (quiet s (hasFeed (atHand s)))
+    cond (ltb (s .have) 97) (quiet done s (hasFeed (atHand s)))
     (cond (goodLine (s .line)) (partOf (nextLine s) GivenSymbols (symbolsOf (s .line)) false false)
-    (quiet s true))
-
-abbrev pub taken : Sending → List ℕ → Left
-taken s bytes = judged (held s bytes)
+    (quiet done s true))
 
 -- ---- ".. and end of transmission"; "a last one without its line feed too": a line begun and not ended is bad
 unfoldable pub closed : Sending → Left
 closed s = partOf s EndOfTransmission noSymbols (ltb 0 (s .have)) true
 
--- ---- a turn: a read that gives no bytes is the end of the input; "At the first bad line it stops reading, still ends the transmission"
+-- ---- a turn
+-- "At the first bad line it stops reading, still ends the transmission"
+abbrev pub orClosed : Left → Left
+orClosed l = cond (l .bad) (closed (l .sending)) l
+
+-- a read that gives no bytes is the end of the input
+unfoldable pub moved : Sending → List ℕ → Left
+moved s [] = closed s
+moved s (byte ∷ bytes) = orClosed (judged (held s (byte ∷ bytes)))
+
+-- with how many bytes of the read went into the line
+abbrev pub withTaken : ℕ → Left → Left
+withTaken n l = record { answer = l .answer; sending = l .sending; bytes = l .bytes; length = l .length; taken = n; bad = l .bad; last = l .last }
+
+-- "Every refusal returns its number only, with record and buffers as they were": then nothing is to be written, and no byte is taken
+unfoldable pub orAsItWas : Sending → Left → Left
+orAsItWas s l = cond (isRefusal (l .answer)) (quiet (l .answer) s false) l
+
 unfoldable pub turned : Sending → List ℕ → Left
-turned s [] = closed s
-turned s (byte ∷ bytes) = let l : Left = taken s (byte ∷ bytes) in cond (l .bad) (closed (l .sending)) l
+turned s bytes = orAsItWas s (withTaken (length (added s bytes)) (moved s bytes))
 
 -- ---- ".. and writes `bad line N` and a line feed on standard error"
 unfoldable pub named : Bool → ℕ → Bad
@@ -114,6 +150,7 @@ pub record Says (d : Left) (r : AfterPart) : Type 0 where
   pub leaves : r .sending ≡ d .sending
   pub writes : r .bytes ≡ d .bytes
   pub counts : r .length ≡ d .length
+  pub takes : r .taken ≡ d .taken
   pub tells : r .bad ≡ d .bad
   pub ends : r .last ≡ d .last
 

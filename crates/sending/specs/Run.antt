@@ -21,7 +21,7 @@ unfoldable pub Fitting : Sending → List (List ℕ) → Type 0
 Fitting s [] = Unit {0}
 Fitting s (bytes ∷ reads) = (0 < length bytes) × ((length bytes ≤ lacking s) × (turned s bytes .last ≡ false → Fitting (turned s bytes .sending) reads))
 
--- what the turns from `s` on leave, the last with them: behind the reads the input ends
+-- what the turns from `s` on leave, the last with them: after the reads the input ends
 unfoldable pub callsFrom : Sending → List (List ℕ) → List Left
 callsFrom s [] = turned s [] ∷ []
 callsFrom s (bytes ∷ reads) = turned s bytes ∷ cond (turned s bytes .last) [] (callsFrom (turned s bytes .sending) reads)
@@ -47,7 +47,12 @@ unfoldable pub AllDone : List Left → Type 0
 AllDone [] = Unit {0}
 AllDone (l ∷ calls) = (l .answer ≡ done) × AllDone calls
 
--- the last of some calls, behind another
+-- of each read all bytes went into the line
+unfoldable pub AllTaken : Sending → List (List ℕ) → Type 0
+AllTaken s [] = Unit {0}
+AllTaken s (bytes ∷ reads) = (turned s bytes .taken ≡ length bytes) × (turned s bytes .last ≡ false → AllTaken (turned s bytes .sending) reads)
+
+-- the last of some calls, after another
 unfoldable pub lastOf : Left → List Left → Left
 lastOf l [] = l
 lastOf l (next ∷ calls) = lastOf next calls
@@ -76,11 +81,12 @@ lineCalls line = partCalls GivenSymbols (symbolsOf line)
 unfoldable pub senderCalls : List (List ℕ) → List Call
 senderCalls lines = partCalls (Preamble (record { 0 = 0 })) noSymbols ++ (flatten (map lineCalls lines) ++ partCalls EndOfTransmission noSymbols)
 
--- ---- what the theorem says of the program: over these reads it writes what their text says, each of its calls is taken, the sender has had just these calls, the last turn ends
--- the transmission, and it tells the first bad line, as long as a u64 holds its number: then its last words are that line's text, and none where no line is bad
+-- ---- over these reads the program writes what their text says: no call is refused, no byte is left out, the sender has had just these
+-- calls, and the last turn ends the transmission and tells the first bad line, if there is one, as long as a u64 holds its number
 pub record Sends (reads : List (List ℕ)) : Type 0 where
   pub written : writtenBy (callsOver reads) ≡ bytesSent (flatten reads)
   pub answers : AllDone (callsOver reads)
+  pub takes : AllTaken (opened .sending) reads
   pub sender : lastCall reads .sending .modulator ≡ recordAfter (senderCalls (goodLines (flatten reads)))
   pub ends : lastCall reads .last ≡ true
   pub tells : length (linesOf (flatten reads)) ≤ largest → toldOf (lastCall reads) ≡ badLine (flatten reads)

@@ -1,9 +1,10 @@
-// What the program `send` does between its reads and its writes: the preamble before the first line, a frame for each good line and the end of transmission, each as
-// the bytes that are to be written. All goes by value in arrays of fixed length: no caller can bring too little room.
+// What the program `send` does between its reads and its writes: preamble, a frame for each good line and the end of transmission,
+// each as the bytes that are to be written. All goes by value in arrays of fixed length: no caller can bring too little room.
 use house::Text;
 use modulator::Provided;
 use modulator::SoftModulator;
-ghost use Rattle.sending.specs.Calls.{turn-says, last-words-says};
+ghost use lib.ListN.{take};
+ghost use Rattle.sending.specs.Calls.{moved, Says, turn-says, last-words-says};
 
 mod line;
 mod part;
@@ -16,31 +17,46 @@ pub struct Sending {
     pub number: u64,
 }
 
-// What the sender answered, what the next call is given, and what is to be written: the first `length` bytes, behind which zeros follow. `bad` says that the line at
-// hand is a bad one, `last` that the transmission has ended.
+// What the sender answered, what the next call is given, and what is to be written: the first `length` bytes, zeros after them. `taken`
+// bytes of the read went into the line. `bad` says that the line at hand is a bad one, `last` that the transmission has ended.
 pub struct AfterPart {
     pub answer: Provided,
     pub sending: Sending,
     pub bytes: [u8; 5440],
     pub length: usize,
+    pub taken: usize,
     pub bad: bool,
     pub last: bool,
 }
 
+// No bytes are the end of the input; it and a bad line end the transmission.
+fn move_on(s: Sending, bytes: [u8; 97], n: usize) -> AfterPart
+    ensures { λ r. ⌜ Says (moved s (take n bytes)) r ⌝ }
+{
+    if n == 0 {
+        return part::close(s);
+    }
+    let after = line::take(s, bytes, n);
+    if after.bad {
+        let ended = after.sending;
+        return part::close(ended);
+    }
+    after
+}
+
 impl Sending {
-    // What a read gave, the first n of the bytes. None are the end of the input; it and a bad line end the transmission.
+    // What a read gave, the first n of the bytes. A refused turn leaves all as it was.
     pub fn turn(self, bytes: [u8; 97], n: usize) -> AfterPart
         ensures { λ r. ⌜ turn-says self bytes n r ⌝ }
     {
-        if n == 0 {
-            return part::close(self);
+        let taken = line::count_taken(self, n);
+        let mut after = move_on(self, bytes, n);
+        after.taken = taken;
+        let answer = after.answer;
+        match answer {
+            Provided::Refused(_) => line::write_nothing(answer, self, false),
+            Provided::Done => after,
         }
-        let taken = line::take(self, bytes, n);
-        if taken.bad {
-            let ended = taken.sending;
-            return part::close(ended);
-        }
-        taken
     }
 }
 

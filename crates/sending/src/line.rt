@@ -8,20 +8,22 @@ ghost use mathlib.Core.Path.{_≡_};
 ghost use Prim.Native.Nat.{_+_, _-_, _≤_, min};
 ghost use lib.ListN.{take};
 ghost use lib.Seq.{paste};
+ghost use Rattle.modulator.specs.Calls.{providedPaper};
 ghost use Rattle.sending.specs.Text.{hasFeed};
-ghost use Rattle.sending.specs.Calls.{Says, quiet, held, judged, nextNumber, taken, lacks-says};
+ghost use Rattle.sending.specs.Calls.{Says, quiet, lacking, held, judged, nextNumber, lacks-says};
 
 const LINE_FEED: u8 = 10;
 
-// `usize::min`: a number has no methods here.
-fn fewer(a: usize, b: usize) -> usize
-    ensures { λ r. ⌜ r ≡ min a b ⌝ }
+// How many of n bytes go into the line: no more than it lacks.
+pub(crate) fn count_taken(s: Sending, n: usize) -> usize
+    ensures { λ r. ⌜ r ≡ min n (lacking s) ⌝ }
 {
-    if b < a { b } else { a }
+    let lacks = s.lacks();
+    if lacks < n { lacks } else { n }
 }
 
-// The first n of the bytes go behind those that the line has.
-fn appended(line: [u8; 97], have: usize, bytes: [u8; 97], n: usize) -> [u8; 97]
+// The first n of the bytes go after those that the line has.
+fn append(line: [u8; 97], have: usize, bytes: [u8; 97], n: usize) -> [u8; 97]
     requires { ⌜ n ≤ 97 - have ⌝ }
     ensures { λ r. ⌜ r ≡ paste line have bytes n ⌝ }
 {
@@ -57,25 +59,26 @@ fn next_number(n: u64) -> u64
 }
 
 // Nothing is to be written.
-fn quiet(sending: Sending, bad: bool) -> AfterPart
-    ensures { λ r. ⌜ Says (quiet sending bad) r ⌝ }
+pub(crate) fn write_nothing(answer: Provided, sending: Sending, bad: bool) -> AfterPart
+    ensures { λ r. ⌜ Says (quiet (providedPaper answer) sending bad) r ⌝ }
 {
     AfterPart {
-        answer: Provided::Done,
+        answer,
         sending,
         bytes: [0; 5440],
         length: 0,
+        taken: 0,
         bad,
         last: false,
     }
 }
 
-fn held(s: Sending, bytes: [u8; 97], n: usize) -> Sending
+fn hold(s: Sending, bytes: [u8; 97], n: usize) -> Sending
     ensures { λ r. ⌜ r ≡ held s (take n bytes) ⌝ }
 {
-    let added = fewer(n, s.lacks());
+    let added = count_taken(s, n);
     let old = s.line;
-    let line = appended(old, s.have, bytes, added);
+    let line = append(old, s.have, bytes, added);
     let have = s.have + added;
     let modulator = s.modulator;
     Sending {
@@ -87,17 +90,17 @@ fn held(s: Sending, bytes: [u8; 97], n: usize) -> Sending
 }
 
 // Fewer than 97 bytes are a bad line if there is a line feed among them, and the beginning of a line if there is none.
-fn judged(s: Sending) -> AfterPart
+fn judge(s: Sending) -> AfterPart
     ensures { λ r. ⌜ Says (judged s) r ⌝ }
 {
     let line = s.line;
     let have = s.have;
     if have < 97 {
-        return quiet(s, has_feed(line, have));
+        return write_nothing(Provided::Done, s, has_feed(line, have));
     }
     let read = house::line_symbols(line);
     if !read.good {
-        return quiet(s, true);
+        return write_nothing(Provided::Done, s, true);
     }
     let modulator = s.modulator;
     let symbols = read.symbols;
@@ -112,12 +115,13 @@ fn judged(s: Sending) -> AfterPart
 
 // The first n of the bytes, or those that the line lacks if n is more.
 pub(crate) fn take(s: Sending, bytes: [u8; 97], n: usize) -> AfterPart
-    ensures { λ r. ⌜ Says (taken s (take n bytes)) r ⌝ }
+    ensures { λ r. ⌜ Says (judged (held s (take n bytes))) r ⌝ }
 {
-    judged(held(s, bytes, n))
+    judge(hold(s, bytes, n))
 }
 
 impl Sending {
+    // How many bytes a read may give, so that all of them go into the line.
     pub fn lacks(self) -> usize
         ensures { λ r. ⌜ lacks-says self r ⌝ }
     {

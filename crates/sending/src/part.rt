@@ -70,6 +70,7 @@ pub(crate) fn part(
         sending,
         bytes: bytes_of(room),
         length,
+        taken: 0,
         bad,
         last,
     }

@@ -88,14 +88,14 @@ pub(crate) fn by_stretch(samples: &[i16]) -> u64 {
         let after = receiver.feed(&samples[i..end], &mut room);
         receiver = after.demodulator;
         // Nothing here is refused, so neither comes about; the tests bound the loop.
-        let taken = after.taken;
-        if taken == 0 {
+        let fed = after.fed;
+        if fed == 0 {
             return sum;
         }
-        if most < taken {
+        if most < fed {
             return sum;
         }
-        sum = with_newest(sum, &receiver.rx_win, receiver.rx_cursor, taken);
+        sum = with_newest(sum, &receiver.rx_win, receiver.rx_cursor, fed);
         let answer = after.answer;
         let at = offered_at(answer);
         if 0 < at {
@@ -103,7 +103,7 @@ pub(crate) fn by_stretch(samples: &[i16]) -> u64 {
             let settled = receiver.reply(Reply::Accepted);
             receiver = settled.demodulator;
         }
-        i += taken;
+        i += fed;
     }
     with_control(sum, receiver.control)
 }

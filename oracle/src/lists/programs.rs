@@ -1,8 +1,12 @@
-//! The two programs: texts for send, and recordings for receive in reads of a size. README.md gives the
-//! lines' forms.
+//! The two programs: texts for send, and recordings for receive in reads of a size, with room for lines.
+//! README.md gives the lines' forms.
 
 use crate::house::{bytes, received, sent};
 use crate::random::Random;
+
+/// Room for a line of each sample that a call looks at, as the program has it; and for one line.
+const ALL: usize = 24_832;
+const ONE: usize = 97;
 
 pub fn write() -> String {
     let mut list = Session::default();
@@ -14,16 +18,19 @@ pub fn write() -> String {
     list.lines
 }
 
-/// The client's whole case, in reads of several sizes, with an odd byte, and no lines at all.
+/// The client's whole case, in reads of several sizes, also larger than a call takes and with room for one
+/// line, with an odd byte, and no lines at all.
 fn whole(list: &mut Session) {
     list.send("whole", &headed("55F7", '0'));
     for size in [512, 511, 1] {
-        list.receive(size);
+        list.receive(size, ALL);
     }
+    list.receive(4000, ONE);
     list.append(&[0x5a]);
-    list.receive(512);
+    list.receive(512, ALL);
+    list.receive(513, ONE);
     list.send("none", "");
-    list.receive(512);
+    list.receive(512, ALL);
 }
 
 /// A frame of each kind that is offered, and one of those that are not.
@@ -31,7 +38,8 @@ fn several(list: &mut Session) {
     let mut random = Random::new(31);
     let frames = ["55F7", "FF5D", "DF55", "75FF"].map(|word| payload(&mut random, word));
     list.send("several", &frames.concat());
-    list.receive(512);
+    list.receive(512, ALL);
+    list.receive(4000, 2 * ONE - 1);
 }
 
 /// A payload that ends in 75, and a Stream frame after it: the last four symbols of the one and the first four
@@ -39,16 +47,16 @@ fn several(list: &mut Session) {
 fn not_lossless(list: &mut Session) {
     let first = format!("55F7{}75\n", "0".repeat(90));
     list.send("75-before-stream", &(first + &headed("FF5D", '0')));
-    list.receive(512);
+    list.receive(512, ALL);
 }
 
 fn silence(list: &mut Session) {
     list.zeros(5000);
-    list.receive(512);
+    list.receive(512, ALL);
     list.zeros(0);
-    list.receive(512);
+    list.receive(512, ALL);
     list.append(&[1]);
-    list.receive(512);
+    list.receive(512, ALL);
 }
 
 /// Each kind of bad line as the first, the second and the third of three; a line without its line feed can
@@ -125,9 +133,10 @@ impl Session {
         self.say(&format!("append {}", hexadecimal(bytes)));
     }
 
-    fn receive(&mut self, size: usize) {
+    /// Neither the size of the reads nor the room changes what is received.
+    fn receive(&mut self, size: usize, room: usize) {
         let lines = received(&self.recording);
-        self.say(&format!("receive {size}"));
+        self.say(&format!("receive {size} {room}"));
         self.lines.push_str(&lines.concat());
         self.say(&format!("found {}", lines.len()));
     }

@@ -2,7 +2,7 @@
 use mathlib.Core.Path.{sym}
 use borrow.Author.Needs.{needs}
 use lib.Seq.{length-take-le}
-use Rattle.receiving.proofs.Calls.{written-fits}
+use Rattle.receiving.proofs.HearSays.{written-fits}
 use Rattle.receive.proofs.hear_some.Statement.{statement}
 use Rattle.receive.proofs.hear_some.Tie as tie
 
@@ -27,9 +27,6 @@ say-requires c κs = search needs
 returns : tie.Need-returns
 returns c = search needs
 
-is-taken-requires : tie.Need-is-taken-requires
-is-taken-requires c κs = search needs
-
 say-requires-2 : tie.Need-say-requires-2
 say-requires-2 c κs = search needs
 
@@ -50,7 +47,6 @@ hear-some-spec =
     write-all-requires
     say-requires
     returns
-    is-taken-requires
     say-requires-2
     returns-2
     returns-3)

@@ -27,8 +27,8 @@ returns c = search needs
 turn-requires : tie.Need-turn-requires
 turn-requires c κs = search needs
 
-put-requires : tie.Need-put-requires
-put-requires c κs = turn-within _ _ _ (c .turn .ensures)
+put-admitted-requires : tie.Need-put-admitted-requires
+put-admitted-requires c κs = turn-within _ _ _ (c .turn .ensures)
 
 returns-2 : tie.Need-returns-2
 returns-2 c = search needs
@@ -43,5 +43,5 @@ next-turn-spec =
     read-some-requires
     returns
     turn-requires
-    put-requires
+    put-admitted-requires
     returns-2)

@@ -1,15 +1,15 @@
--- `hear_all` is safe and ends: each read brings the place nearer to the end of the recording. Assumes nothing.
+-- `hear_all` is safe and ends: each read that goes on brings the place nearer to the end of the recording. Assumes nothing.
 use borrow.Author.Needs.{needs}
-use Prim.Native.Nat.{_-_}
+use Prim.Native.Nat.{_-_, _≤_}
 use lib.ListN.{length}
 use Rattle.cases_programs.proofs.received.hear_all.Statement.{statement}
 use Rattle.cases_programs.proofs.received.hear_all.Tie as tie
 
 abbrev Inv-loop : tie.InvT-loop
-Inv-loop recording size turn₀ at₀ turn at = Unit {0}
+Inv-loop recording size room turn₀ at₀ turn at = at ≤ length recording
 
 abbrev μ-loop : tie.MeasureT-loop
-μ-loop recording size turn₀ at₀ turn at = length recording - at
+μ-loop recording size room turn₀ at₀ turn at = length recording - at
 
 new-requires : tie.Need-new-requires Inv-loop μ-loop
 new-requires c κs = search needs
@@ -32,14 +32,20 @@ part-hear-some-end c = search needs
 hear-some-requires : tie.Need-hear-some-requires Inv-loop μ-loop
 hear-some-requires c κs = search needs
 
+returns : tie.Need-returns Inv-loop μ-loop
+returns c = search needs
+
+add-at : tie.Need-add-at Inv-loop μ-loop
+add-at c = search needs
+
 loop-less : tie.Need-loop-less Inv-loop μ-loop
 loop-less c = search needs
 
 loop-again : tie.Need-loop-again Inv-loop μ-loop
 loop-again c = search needs
 
-returns : tie.Need-returns Inv-loop μ-loop
-returns c = search needs
+returns-2 : tie.Need-returns-2 Inv-loop μ-loop
+returns-2 c = search needs
 
 pub hear-all-spec : {M : Type 1} → statement M
 hear-all-spec =
@@ -54,6 +60,8 @@ hear-all-spec =
     part-hear-some-start
     part-hear-some-end
     hear-some-requires
+    returns
+    add-at
     loop-less
     loop-again
-    returns)
+    returns-2)

@@ -29,6 +29,12 @@ all-requires c κs = search needs
 first-requires : tie.Need-first-requires Inv-loop μ-loop
 first-requires c κs = search needs
 
+start-requires : tie.Need-start-requires Inv-loop μ-loop
+start-requires c κs = search needs
+
+turn-requires : tie.Need-turn-requires Inv-loop μ-loop
+turn-requires c κs = search needs
+
 call-requires : tie.Need-call-requires Inv-loop μ-loop
 call-requires c κs = search needs
 
@@ -56,6 +62,8 @@ calls-of-spec =
     put-mark-requires
     all-requires
     first-requires
+    start-requires
+    turn-requires
     call-requires
     add-k
     loop-less

@@ -1,12 +1,11 @@
 -- `demod` meets its contract. Assumes nothing.
 use mir.Facts.{toZ-ofZ}
-use Rattle.demodulator.proofs.Samples.{sample-fits}
 use borrow.Author.Needs.{needs}
 use Rattle.demodulator.proofs.SoftDemodulator.demod.Statement.{statement}
 use Rattle.demodulator.proofs.SoftDemodulator.demod.Tie as tie
 
 step-requires : tie.Need-step-requires
-step-requires c κs = record { samples = λ i. search sample-fits; places = search needs }
+step-requires c κs = search needs
 
 same-length : tie.Need-same-length
 same-length c = search needs

@@ -18,6 +18,9 @@ add-filter-next c = let inside = accepts-inside (c .before .before .before .befo
 add-rx-next : tie.Need-add-rx-next
 add-rx-next c = let inside = accepts-inside (c .before .before .before .before .pre) in search needs
 
+add-number : tie.Need-add-number
+add-number c = let below = c .before .before .before .before .before .pre .count in search needs
+
 turn-of-requires : tie.Need-turn-of-requires
 turn-of-requires c κs = search needs
 
@@ -29,7 +32,7 @@ enum-known-turn-2 c = search needs
 
 write-window-requires : tie.Need-write-window-requires
 write-window-requires c κs =
-    let inside = accepts-inside (c .before .before .before .before .before .before .before .before .before .before .pre) in
+    let inside = accepts-inside (c .before .before .before .before .before .before .before .before .before .before .before .pre) in
     search needs
 
 enum-known-turn-3 : tie.Need-enum-known-turn-3
@@ -45,7 +48,7 @@ returns : tie.Need-returns
 returns c =
     let k = c .before in
     let t = k .before .before in
-    let s = t .before in
+    let s = t .before .before in
     rests _ _ _ _ _ _ _ (stored-is s) _ (s .before .before .before .before .pre) _ (t .turn-of .ensures) _ (k .turn .given .1)
 
 same-length : tie.Need-same-length
@@ -56,7 +59,7 @@ returns-2 c =
     let w = c .before .before in
     let k = w .before .before .before .before in
     let t = k .before .before in
-    let s = t .before in
+    let s = t .before .before in
     offers _ _ _ _ _ _ _ (stored-is s) _ (s .before .before .before .before .pre) _ (t .turn-of .ensures) _ _ _ _ (k .turn2 .given .1) _ (w .write-window .ensures)
 
 returns-3 : tie.Need-returns-3
@@ -64,9 +67,9 @@ returns-3 c =
     let e = c .before in
     let k = e .before .before .before in
     let t = k .before .before in
-    let s = t .before in
+    let s = t .before .before in
     let start = s .before .before .before .before in
-    looks _ _ _ _ _ _ _ (stored-is s) _ (start .pre) _ (t .turn-of .ensures) (start .fits .sample) _ (k .turn3 .given .1) _ (e .eight .ensures) _ (c .searched .ensures)
+    looks _ _ _ _ _ _ _ (stored-is s) _ (start .pre) _ (t .turn-of .ensures) _ (k .turn3 .given .1) _ (e .eight .ensures) _ (c .searched .ensures)
 
 pub advance-spec : {M : Type 1} → statement M
 advance-spec =
@@ -75,6 +78,7 @@ advance-spec =
     store-requires
     add-filter-next
     add-rx-next
+    add-number
     turn-of-requires
     enum-known-turn
     enum-known-turn-2

@@ -60,9 +60,8 @@ advance-requires c κs =
     let l = n .before .before in
     let o = l .before in
     let f = fit (o .before) in
-    let start = o .before .before .before .before .before in
     let most = record-facts _ (sample-record _ f) .control .count in
-    record { rings = start .pre; fit = f; no-reply = o .if2 .left; room-enough = l .if3 .left; count = omega arith }
+    record { fit = f; no-reply = o .if2 .left; room-enough = l .if3 .left; count = omega arith }
 
 same-length : tie.Need-same-length
 same-length c = search needs

@@ -48,14 +48,14 @@ part-copy-frame-end c = search needs
 
 copy-frame-requires : tie.Need-copy-frame-requires
 copy-frame-requires c κs =
-    let p = facts (c .before .before .before .before .before .before .before) .progress in
+    let p = facts (c .before .before .before .before .before .before .before .before) .progress in
     (p .read, p .len)
 
 add-next-read : tie.Need-add-next-read
 add-next-read c = search needs
 
-sub-tx-delay-padding : tie.Need-sub-tx-delay-padding
-sub-tx-delay-padding c = search needs
+saturating-sub-requires : tie.Need-saturating-sub-requires
+saturating-sub-requires c κs = search needs
 
 add-total : tie.Need-add-total
 add-total c = search needs
@@ -67,13 +67,13 @@ returns-2 : tie.Need-returns-2
 returns-2 c =
     let k = c .before .before .before in
     let w = k .before .before .before .before .before in
-    let f = w .before .before .before in
+    let f = w .before .before .before .before in
     let a = f .before .before .args in
     let p = facts f .progress in
     let whole = store-length (f .before .before) in
     let e = read-fit (a .t1) (a .out .now) (fit f)
     ∙ drained-is (a .t1) (p .read) (omega arith) (a .out .now) (w .write-padding .last .1 .0) (k .copy-frame .last .1 .1 .1 .0) (w .write-padding .result) (k .copy-frame .result) (w .write-padding .ensures .0) (w .write-padding .ensures .1) (k .copy-frame .ensures .0) (k .copy-frame .ensures .1) in
-    record { answers = rw e; leaves = rw e; writes = rw e }
+    record { answers = rw e; leaves = rw (e, c .saturating-sub .ensures); writes = rw e }
 
 pub read-output-samples-spec : {M : Type 1} → statement M
 read-output-samples-spec =
@@ -88,7 +88,7 @@ read-output-samples-spec =
     part-copy-frame-end
     copy-frame-requires
     add-next-read
-    sub-tx-delay-padding
+    saturating-sub-requires
     add-total
     same-length
     returns-2)

@@ -14,11 +14,11 @@ fit c = sym (c .before .record-fit .ensures) ∙ not-false _ (c .if1 .left)
 
 -- the code's test of the counts is the definition's
 tested : (c : tie.After-count-fit3) → let a = c .before .before .before .before .before .args in
-    not (c .before .before .count-fit .result) || not (c .before .count-fit2 .result) || not (c .count-fit3 .result) ≡ tooLarge (a .samples-to-play) (a .capacity) (a .output-latency)
+    not (c .before .before .count-fit .result) || not (c .before .count-fit2 .result) || not (c .count-fit3 .result) ≡ tooLarge (a .samples-to-play .0) (a .capacity .0) (a .output-latency .0)
 tested c = rw (c .before .before .count-fit .ensures, c .before .count-fit2 .ensures, c .count-fit3 .ensures)
 
 -- where none is refused
-small : (c : tie.Else2) → let a = c .before .before .before .before .before .before .args in tooLarge (a .samples-to-play) (a .capacity) (a .output-latency) ≡ false
+small : (c : tie.Else2) → let a = c .before .before .before .before .before .before .args in tooLarge (a .samples-to-play .0) (a .capacity .0) (a .output-latency .0) ≡ false
 small c = sym (tested (c .before)) ∙ c .if2 .left
 
 record-fit-requires : tie.Need-record-fit-requires
@@ -27,7 +27,7 @@ record-fit-requires c κs = search needs
 returns : tie.Need-returns
 returns c =
     let a = c .before .before .args in
-    let e = update-unfit (a .self) (a .samples-to-play) (a .capacity) (a .output-latency) (sym (c .before .record-fit .ensures) ∙ not-true _ (c .if1 .taken)) in
+    let e = update-unfit (a .self) (a .samples-to-play .0) (a .capacity .0) (a .output-latency .0) (sym (c .before .record-fit .ensures) ∙ not-true _ (c .if1 .taken)) in
     record { answers = rw e; leaves = rw e }
 
 count-fit-requires : tie.Need-count-fit-requires
@@ -43,29 +43,30 @@ returns-2 : tie.Need-returns-2
 returns-2 c =
     let f = c .before .before .before .before in
     let a = f .before .before .args in
-    let e = update-large (a .self) (a .samples-to-play) (a .capacity) (a .output-latency) (fit f) (sym (tested (c .before)) ∙ c .if2 .taken) in
+    let e = update-large (a .self) (a .samples-to-play .0) (a .capacity .0) (a .output-latency .0) (fit f) (sym (tested (c .before)) ∙ c .if2 .taken) in
     record { answers = rw e; leaves = rw e }
 
 returns-3 : tie.Need-returns-3
 returns-3 c =
-    let f = c .before .before .before .before .before in
+    let s = c .before .before .before in
+    let f = s .before .before .before .before in
     let a = f .before .before .args in
-    let e = update-below (a .self) (a .samples-to-play) (a .capacity) (a .output-latency) (fit f) (small (c .before)) (c .if3 .taken) in
+    let e = update-below (a .self) (a .samples-to-play .0) (a .capacity .0) (a .output-latency .0) (fit f) (small s) (c .if3 .taken) in
     record { answers = rw e; leaves = rw e }
 
 updated-pending-requires : tie.Need-updated-pending-requires
 updated-pending-requires c κs =
-    let s = c .before .before in
+    let s = c .before .before .before .before in
     let a = s .before .before .before .before .before .before .args in
-    let f = counts-taken (a .samples-to-play) (a .capacity) (a .output-latency) (small s) in
-    (f .0, f .2, c .before .if3 .left)
+    let f = counts-taken (a .samples-to-play .0) (a .capacity .0) (a .output-latency .0) (small s) in
+    (f .0, f .2)
 
 returns-4 : tie.Need-returns-4
 returns-4 c =
-    let s = c .before .before .before in
+    let s = c .before .before .before .before .before in
     let f = s .before .before .before .before in
     let a = f .before .before .args in
-    let e = update-done (a .self) (a .samples-to-play) (a .capacity) (a .output-latency) (fit f) (small s) (c .before .before .if3 .left) in
+    let e = update-done (a .self) (a .samples-to-play .0) (a .capacity .0) (a .output-latency .0) (fit f) (small s) (c .before .before .if3 .left) in
     record { answers = rw e; leaves = rw (e, c .updated-pending .ensures) }
 
 pub update-output-buffer-spec : {M : Type 1} → statement M

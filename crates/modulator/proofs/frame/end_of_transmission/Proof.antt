@@ -1,5 +1,4 @@
 -- `frame::end_of_transmission` meets its contract. Assumes nothing.
-use mathlib.Core.Path.{_∙_}
 use borrow.Author.Needs.{needs}
 use Rattle.modulator.specs.Frame.{ending}
 use Rattle.modulator.specs.Calls.{ended}
@@ -19,8 +18,8 @@ framed-requires c κs = search needs
 returns : tie.Need-returns
 returns c =
     let s = c .before .before in
-    let m = s .before .before .args .m in
-    c .framed .ensures ∙ framed-listed 10 (m .progress .«tx_delay_padding») (ended (m .pending)) m (ending .symbol) 272 _ (s .ending-symbols .ensures)
+    let m = s .before .before .before .args .m in
+    rw (framed-listed 10 (m .progress .«tx_delay_padding» .0) (ended (m .pending)) m (ending .symbol) 272 (s .ending-symbols .result) (s .ending-symbols .ensures)) at (c .framed .ensures)
 
 pub end-of-transmission-spec : {M : Type 1} → statement M
 end-of-transmission-spec =

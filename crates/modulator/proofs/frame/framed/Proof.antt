@@ -23,7 +23,7 @@ mul-len c = search needs
 returns : tie.Need-returns
 returns c =
     let a = c .before .before .before .before .before .before .before .before .args in
-    framed-from 10 (a .padding) (a .pending) (a .m) (listing (a .symbols .now)) _ _ (c .before .push-symbols .ensures)
+    framed-from 10 (a .padding .0) (a .pending) (a .m) (listing (a .symbols .now)) _ _ (c .before .push-symbols .ensures)
 
 pub framed-spec : {M : Type 1} → statement M
 framed-spec =

@@ -1,10 +1,7 @@
 -- `frame::preamble` meets its contract. Assumes nothing.
-use mathlib.Core.Path.{ap, _∙_}
-use Prim.Native.Nat.{ℕ, _-_}
 use borrow.Author.Needs.{needs}
 use Rattle.encode.specs.Frames.{frameOf}
-use Rattle.modulator.specs.Frame.{listing, preamble}
-use Rattle.modulator.specs.Record.{framed}
+use Rattle.modulator.specs.Frame.{preamble}
 use Rattle.modulator.proofs.Frames.{framed-listed}
 use Rattle.modulator.proofs.frame.preamble.Statement.{statement}
 use Rattle.modulator.proofs.frame.preamble.Tie as tie
@@ -28,11 +25,9 @@ returns : tie.Need-returns
 unfolding frameOf
 returns c =
     let s = c .before .before in
-    let m = s .before .before .before .before .args .m in
-    let padding = s .before .saturating-sub .ensures ∙ ap (λ (n : ℕ). n - m .buffer .«output_latency») (s .before .before .in-samples .ensures) in
-    c .framed .ensures
-    ∙ ap (λ (n : ℕ). framed 10 (listing (s .generate-preamble .result)) n (m .pending) m) padding
-    ∙ framed-listed 10 _ (m .pending) m (preamble .symbol) 192 _ (s .generate-preamble .ensures)
+    let m = s .before .before .before .before .before .args .m in
+    let padding = s .before .saturating-sub .result .0 in
+    rw (framed-listed 10 padding (m .pending) m (preamble .symbol) 192 (s .generate-preamble .result) (s .generate-preamble .ensures), s .before .saturating-sub .ensures, s .before .before .in-samples .ensures) at (c .framed .ensures)
 
 pub preamble-spec : {M : Type 1} → statement M
 preamble-spec =

@@ -3,17 +3,17 @@ use borrow.Author.Needs.{needs}
 use Rattle.modulator.proofs.output.updated_pending.Statement.{statement}
 use Rattle.modulator.proofs.output.updated_pending.Tie as tie
 
-sub-room : tie.Need-sub-room
-sub-room c = search needs
+saturating-sub-requires : tie.Need-saturating-sub-requires
+saturating-sub-requires c κs = search needs
 
 add-end : tie.Need-add-end
 add-end c = search needs
 
 returns : tie.Need-returns
-returns c = rw (c .if1 .taken)
+returns c = rw (c .if1 .taken) (cc)
 
 returns-2 : tie.Need-returns-2
-returns-2 c = rw (c .if1 .left)
+returns-2 c = rw (c .if1 .left) (cc)
 
 pub updated-pending-spec : {M : Type 1} → statement M
-updated-pending-spec = tie.close (tie.spec sub-room add-end returns returns-2)
+updated-pending-spec = tie.close (tie.spec saturating-sub-requires add-end returns returns-2)

@@ -12,10 +12,10 @@ use Rattle.modulator.proofs.output.write_padding.Statement.{statement}
 use Rattle.modulator.proofs.output.write_padding.Tie as tie
 
 abbrev Inv-loop : tie.InvT-loop
-Inv-loop padding room₀ end i₀ room i = (i ≤ end) × (end ≤ length room₀) × (length room ≡ length room₀) × (room ≡ written (λ (i : ℕ). pos 0) i room₀)
+Inv-loop room₀ end i₀ room i = (i ≤ end) × (end ≤ length room₀) × (length room ≡ length room₀) × (room ≡ written (λ (i : ℕ). pos 0) i room₀)
 
 abbrev μ-loop : tie.MeasureT-loop
-μ-loop padding room₀ end i₀ room i = end - i
+μ-loop room₀ end i₀ room i = end - i
 
 fewer-requires : tie.Need-fewer-requires Inv-loop μ-loop
 fewer-requires c κs = search needs

@@ -1,60 +1,113 @@
 -- `hear` meets its contract. Assumes nothing.
-use mathlib.Core.Path.{_≡_, sym}
-use Prim.Native.Nat.{_≤_}
+use mathlib.Core.Path.{_≡_, sym, ap, _∙_}
+use mathlib.Core.Logic.{inl, inr}
+use Prim.Native.Nat.{ℕ, _≤_}
 use native.Mathlib.Omega.{arith}
+use borrow.Author.Tests.{eqb-true, eqb-false}
 use borrow.Author.Needs.{needs}
 use lib.ListN.{length, take}
 use lib.Seq.{length-take-le}
-use Rattle.receiving.proofs.Calls.{too-many-says, cramped-says, taken-says}
+use Rattle.receiving.specs.Hear.{looked}
+use Rattle.receiving.specs.Parts.{PairsUp}
+use Rattle.receiving.proofs.HearSays.{looked-is, looks-most, looks-few, by-room, no-room-none, count-long, fed-most, whole-says, part-says}
 use Rattle.receiving.proofs.Receiving.hear.Statement.{statement}
 use Rattle.receiving.proofs.Receiving.hear.Tie as tie
 
-returns : tie.Need-returns
-returns c = too-many-says _ _ _ (c .if1 .taken)
+look-at-requires : tie.Need-look-at-requires
+look-at-requires c κs = search needs
 
-returns-2 : tie.Need-returns-2
-returns-2 c = cramped-says _ _ _ (search needs) (c .if2 .taken)
+-- ---- the bytes that are lent
+seen-long : (u : tie.After-look-at) → let a = u .before .before .before .args in length (take (u .look-at .result) (a .bytes .now)) ≡ u .look-at .result
+seen-long u =
+    let a = u .before .before .before .args in
+    length-take-le _ _ (rw (u .look-at .ensures) (looks-most (a .bytes .now) (length (a .lines .now))))
+
+slice-aggregate-pair-up : tie.Need-slice-aggregate-pair-up
+slice-aggregate-pair-up c = sym (seen-long (c .before))
 
 pair-up-requires : tie.Need-pair-up-requires
-pair-up-requires c κs = search needs
+pair-up-requires c κs =
+    let u = c .before in
+    let a = u .before .before .before .args in
+    let few : u .look-at .result ≤ 512 = rw (u .look-at .ensures) (looks-few (a .bytes .now) (length (a .lines .now))) in
+    rw (seen-long u) few
+
+-- ---- their samples
+paired : (u : tie.After-pair-up) → let a = u .before .before .before .before .before .args in PairsUp (a .self .odd) (looked (a .bytes .now) (length (a .lines .now))) (u .pair-up .result)
+paired u =
+    let a = u .before .before .before .before .before .args in
+    let same = ap (λ (k : ℕ). take k (a .bytes .now)) (u .before .before .look-at .ensures) ∙ looked-is (a .bytes .now) (length (a .lines .now)) in
+    rw same at (u .pair-up .ensures)
 
 array-share-prefix-samples : tie.Need-array-share-prefix-samples
 array-share-prefix-samples c = search needs
 
--- the samples that are lent
-count-long : (u : tie.After-pair-up) → length (take (u .pair-up .result .count) (u .pair-up .result .samples)) ≡ u .pair-up .result .count
-count-long u = length-take-le _ _ (omega (arith, u .pair-up .ensures .room, u .pair-up .ensures .count))
+samples-long : (u : tie.After-pair-up) → length (take (u .pair-up .result .count) (u .pair-up .result .samples)) ≡ u .pair-up .result .count
+samples-long u = length-take-le _ _ (omega (arith, u .pair-up .ensures .room, u .pair-up .ensures .count))
 
 slice-aggregate-hear-samples : tie.Need-slice-aggregate-hear-samples
-slice-aggregate-hear-samples c = sym (count-long (c .before .before .before))
+slice-aggregate-hear-samples c = sym (samples-long (c .before .before .before))
 
 hear-samples-requires : tie.Need-hear-samples-requires
 hear-samples-requires c κs =
     let u = c .before .before .before .before in
-    let room : 24832 ≤ length (u .before .before .before .before .before .args .lines .now) = search needs in
-    (omega (arith, count-long u, u .pair-up .ensures .count), omega (arith, count-long u, u .pair-up .ensures .count))
+    let a = u .before .before .before .before .before .args in
+    let p = paired u in
+    record {
+      few = omega (arith, samples-long u, p .count);
+      room = λ some. by-room (length (a .lines .now)) _ some (λ l. p .samples ∙ no-room-none (a .self .odd) (a .bytes .now) (length (a .lines .now)) l);
+    }
+
+is-admitted-requires : tie.Need-is-admitted-requires
+is-admitted-requires c κs = search needs
 
 same-length : tie.Need-same-length
 same-length c = search needs
 
-returns-3 : tie.Need-returns-3
-returns-3 c =
-    let h = c .before .before .before in
+returns : tie.Need-returns
+returns c =
+    let t = c .before .before in
+    let h = t .before .before .before .before .before in
     let u = h .before .before .before .before .before in
-    let a = u .before .before .before .before .before .args in
-    let few : length (a .bytes .now) ≤ 512 = search needs in
-    let room : 24832 ≤ length (a .lines .now) = search needs in
-    taken-says (a .self) (a .bytes .now) (a .lines .now) (u .pair-up .result) (h .hear-samples .result) _ few room (u .pair-up .ensures) (h .hear-samples .ensures)
+    let l = u .before .before in
+    let a = l .before .before .before .args in
+    let long = sym (seen-long l) ∙ ap length (ap (λ (k : ℕ). take k (a .bytes .now)) (l .look-at .ensures) ∙ looked-is (a .bytes .now) (length (a .lines .now))) in
+    whole-says _ _ _ _ _ _ (paired u) (h .hear-samples .ensures) (sym (t .before .is-admitted .ensures) ∙ t .if1 .taken) (eqb-true (h .hear-samples .result .fed) (u .pair-up .result .count) (c .if2 .taken)) _ long
+
+part-of-requires : tie.Need-part-of-requires
+part-of-requires c κs =
+    let h = c .before .before .before .before .before in
+    let u = h .before .before .before .before .before in
+    let most = fed-most _ _ _ _ _ _ (paired u) (h .hear-samples .ensures) in
+    omega (arith, most, count-long _ _ _ _ _ _ (paired u) (h .hear-samples .ensures), u .pair-up .ensures .count)
+
+same-length-2 : tie.Need-same-length-2
+same-length-2 c = search needs
+
+returns-2 : tie.Need-returns-2
+returns-2 c =
+    let j = c .before in
+    let h = j .before .before .before .before .before in
+    let u = h .before .before .before .before .before in
+    part-says _ _ _ _ _ _ (paired u) (h .hear-samples .ensures) _ (c .part-of .ensures)
+    (elim (j .if1 .came) [
+      | inl both ↦ inr (eqb-false (h .hear-samples .result .fed) (u .pair-up .result .count) (both .2 .left))
+      | inr refused ↦ inl (sym (j .before .is-admitted .ensures) ∙ refused .left)
+    ])
 
 pub hear-spec : {M : Type 1} → statement M
 hear-spec =
     tie.close
     (tie.spec
-    returns
-    returns-2
+    look-at-requires
+    slice-aggregate-pair-up
     pair-up-requires
     array-share-prefix-samples
     slice-aggregate-hear-samples
     hear-samples-requires
+    is-admitted-requires
     same-length
-    returns-3)
+    returns
+    part-of-requires
+    same-length-2
+    returns-2)

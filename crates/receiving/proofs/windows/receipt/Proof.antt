@@ -1,10 +1,8 @@
 -- `windows::receipt` meets its contract. Assumes nothing.
-use mathlib.Core.Path.{sym, ap}
+use borrow.Author.Tests.{eq-eqb, ne-eqb}
 use borrow.Author.Needs.{needs}
-use Rattle.demodulator.specs.declared.Heard.{Heard}
-use Rattle.demodulator.specs.Calls.{heardPaper, nothing}
-use Rattle.receiving.specs.Answers.{refusedFirst}
-use Rattle.receiving.specs.Hearing.{Told, told}
+use Rattle.receiving.specs.Answers.{refusalIn}
+use Rattle.receiving.proofs.Progress.{either-way}
 use Rattle.receiving.proofs.windows.receipt.Statement.{statement}
 use Rattle.receiving.proofs.windows.receipt.Tie as tie
 
@@ -17,20 +15,22 @@ enum-told c = search needs
 enum-told-2 : tie.Need-enum-told-2
 enum-told-2 c = search needs
 
-abbrev told-by : Heard → Told
-told-by a = told (refusedFirst (heardPaper a) nothing)
-
 returns : tie.Need-returns
-unfolding refusedFirst
-returns c = sym (ap told-by (c .before .answer .given .1))
+unfolding refusalIn
+returns c = rw (c .before .before .answer .given .1, eq-eqb _ 0 (c .if1 .taken))
 
 returns-2 : tie.Need-returns-2
-unfolding refusedFirst
-returns-2 c = sym (ap told-by (c .enum-told .given .1))
+returns-2 c = rw (ne-eqb _ 0 (c .if1 .left))
 
 returns-3 : tie.Need-returns-3
-unfolding refusedFirst
-returns-3 c = sym (ap told-by (c .enum-told2 .given .1))
+unfolding refusalIn
+returns-3 c = rw (c .enum-told .given .1, either-way)
+
+returns-4 : tie.Need-returns-4
+unfolding refusalIn
+returns-4 c = rw (c .enum-told2 .given .1, either-way)
 
 pub receipt-spec : {M : Type 1} → statement M
-receipt-spec = tie.close (tie.spec enum-known-answer enum-told enum-told-2 returns returns-2 returns-3)
+receipt-spec =
+    tie.close
+    (tie.spec enum-known-answer enum-told enum-told-2 returns returns-2 returns-3 returns-4)

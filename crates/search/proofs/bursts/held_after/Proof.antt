@@ -1,5 +1,4 @@
 -- `held_after` meets its contract: the held candidate where its diff is below the match's, and else a new one. Assumes nothing.
-use native.Mathlib.Omega.{arith}
 use Rattle.search.specs.Search.{heldAfter}
 use borrow.Author.Needs.{needs}
 use Rattle.search.proofs.bursts.held_after.Statement.{statement}
@@ -8,14 +7,12 @@ use Rattle.search.proofs.bursts.held_after.Tie as tie
 enum-known-candidate : tie.Need-enum-known-candidate
 enum-known-candidate c = search needs
 
-add-older : tie.Need-add-older
-add-older c =
-    let known = c .before .before .before in
-    omega (arith, rw (known .candidate .given .1) at (known .before .before .pre))
+older-requires : tie.Need-older-requires
+older-requires c κs = search needs
 
 returns : tie.Need-returns
 unfolding heldAfter
-returns c = rw (c .before .before .before .candidate .given .1, c .if1 .taken)
+returns c = rw (c .before .before .before .before .candidate .given .1, c .before .if1 .taken, c .older .ensures)
 
 enum-told : tie.Need-enum-told
 enum-told c = search needs
@@ -29,4 +26,4 @@ unfolding heldAfter
 returns-3 c = rw (c .enum-told .given .1)
 
 pub held-after-spec : {M : Type 1} → statement M
-held-after-spec = tie.close (tie.spec enum-known-candidate add-older returns enum-told returns-2 returns-3)
+held-after-spec = tie.close (tie.spec enum-known-candidate older-requires returns enum-told returns-2 returns-3)

@@ -1,45 +1,53 @@
 -- `Sending::turn` meets its contract: each return is one case of the definition. Assumes nothing.
-use mathlib.Core.Path.{_≡_}
-use Prim.Native.Nat.{_<_}
-use native.Mathlib.Omega.{arith}
+use mathlib.Core.Path.{_≡_, ap}
 use lib.ListN.{length}
 use borrow.Author.Needs.{needs}
-use Rattle.sending.proofs.Turning.{turn-none, turn-bad, turn-on}
+use Rattle.modulator.specs.Calls.{providedPaper}
+use Rattle.sending.proofs.Turns.{turn-done, turn-refused}
 use Rattle.sending.proofs.Sending.turn.Statement.{statement}
 use Rattle.sending.proofs.Sending.turn.Tie as tie
 
-close-requires : tie.Need-close-requires
-close-requires c κs = search needs
+count-taken-requires : tie.Need-count-taken-requires
+count-taken-requires c κs = search needs
+
+move-on-requires : tie.Need-move-on-requires
+move-on-requires c κs = search needs
+
+enum-told : tie.Need-enum-told
+enum-told c = search needs
+
+write-nothing-requires : tie.Need-write-nothing-requires
+write-nothing-requires c κs = search needs
+
+enum-told-2 : tie.Need-enum-told-2
+enum-told-2 c = search needs
+
+places : (c : tie.Start) → length (c .args .bytes) ≡ 97
+places c = search needs
 
 returns : tie.Need-returns
 returns c =
-    let a = c .before .before .args in
-    turn-none (a .self) (a .bytes) (a .n) (c .close .result) (c .before .if1 .taken) (c .close .ensures)
-
-take-requires : tie.Need-take-requires
-take-requires c κs = search needs
-
--- some bytes were given, of 97
-given : (c : tie.After-take) → 0 < c .before .before .args .n
-given c = omega (arith, c .before .if1 .left)
-
-places : (c : tie.After-take) → length (c .before .before .args .bytes) ≡ 97
-places c = search needs
-
-close-requires-2 : tie.Need-close-requires-2
-close-requires-2 c κs = search needs
+    let told = c .before in
+    let moves = told .before .before in
+    let start = moves .before .before in
+    let a = start .args in
+    turn-refused (a .self) (a .bytes) (a .n) (places start) (moves .move-on .result) (moves .move-on .ensures) _ (ap providedPaper (told .enum-told .given .1)) (c .write-nothing .result) (c .write-nothing .ensures)
 
 returns-2 : tie.Need-returns-2
 returns-2 c =
-    let took = c .before .before .before in
-    let a = took .before .before .args in
-    turn-bad (a .self) (a .bytes) (a .n) (c .close2 .result) (given took) (places took) (took .take .result) (took .take .ensures) (c .before .before .if2 .taken) (c .close2 .ensures)
-
-returns-3 : tie.Need-returns-3
-returns-3 c =
-    let took = c .before in
-    let a = took .before .before .args in
-    turn-on (a .self) (a .bytes) (a .n) (took .take .result) (given took) (places took) (took .take .result) (took .take .ensures) (c .if2 .left)
+    let moves = c .before .before in
+    let start = moves .before .before in
+    let a = start .args in
+    turn-done (a .self) (a .bytes) (a .n) (places start) (moves .move-on .result) (moves .move-on .ensures) _ (moves .before .count-taken .ensures) (ap providedPaper (c .enum-told2 .given .1))
 
 pub turn-spec : {M : Type 1} → statement M
-turn-spec = tie.close (tie.spec close-requires returns take-requires close-requires-2 returns-2 returns-3)
+turn-spec =
+    tie.close
+    (tie.spec
+    count-taken-requires
+    move-on-requires
+    enum-told
+    write-nothing-requires
+    enum-told-2
+    returns
+    returns-2)

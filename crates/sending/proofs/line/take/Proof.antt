@@ -3,14 +3,14 @@ use borrow.Author.Needs.{needs}
 use Rattle.sending.proofs.line.take.Statement.{statement}
 use Rattle.sending.proofs.line.take.Tie as tie
 
-held-requires : tie.Need-held-requires
-held-requires c κs = search needs
+hold-requires : tie.Need-hold-requires
+hold-requires c κs = search needs
 
-judged-requires : tie.Need-judged-requires
-judged-requires c κs = search needs
+judge-requires : tie.Need-judge-requires
+judge-requires c κs = search needs
 
 returns : tie.Need-returns
-returns c = rw (c .before .held .ensures) at (c .judged .ensures)
+returns c = rw (c .before .hold .ensures) at (c .judge .ensures)
 
 pub take-spec : {M : Type 1} → statement M
-take-spec = tie.close (tie.spec held-requires judged-requires returns)
+take-spec = tie.close (tie.spec hold-requires judge-requires returns)

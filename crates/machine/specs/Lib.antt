@@ -1,0 +1,2 @@
+-- Machines: what a run over a list of calls is.
+pub mod Runs

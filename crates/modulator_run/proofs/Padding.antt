@@ -1,0 +1,168 @@
+-- The padding left is what the last preamble set, by the latency then, less the places of the reads since. Assumes nothing.
+use mathlib.Core.Path.{_≡_, refl, sym, ap, subst, _∙_}
+use mathlib.Core.Logic.{_↔_}
+use mathlib.Core.Bool.{Bool, true, false, not, cond, _&&_}
+use mathlib.Core.List.{List, [], _∷_, _++_, append-assoc}
+use Prim.Native.Nat.{ℕ, _+_, _-_}
+use native.Mathlib.Nat.{sub-add-eq}
+use native.Mathlib.Omega.{arith}
+use lib.Dec.{T}
+use lib.Ieee.{Float}
+use lib.Ieee.Fits.{and-l, and-r}
+use Rattle.shaping.specs.Taps.{taps}
+use Rattle.modulator.specs.declared.DelaySteps.{DelaySteps}
+use Rattle.modulator.specs.declared.ModulatorFrame.the-variants.{Nothing as NoFrame, Preamble, Symbols as GivenSymbols, EndOfTransmission}
+use Rattle.modulator.specs.declared.Progress.{Progress}
+use Rattle.modulator.specs.Frame.{paddingOf}
+use Rattle.modulator_run.specs.Rules.{Call, provide, read, update, ask, Sent, After, start, framed, provided, drained, called, sentFrom, sentAll}
+use Rattle.modulator_run.specs.Run.{recordAfter, AllGiven}
+use Rattle.modulator_run.specs.Kinds.{stores, delays, none}
+use Rattle.modulator_run.specs.Padding.{latencyOf, lastLatency, placesOf, placesRead, PaddingLeft, unset, set}
+use Rattle.modulator_run.proofs.EachCall.{Refusing, miscounted, outside, large, below, each-call}
+use Rattle.modulator_run.proofs.LastCall.{by-last, sent-behind, none-more}
+use Rattle.modulator_run.proofs.SenderRun.{sender-run}
+
+abbrev pub padding : Sent → ℕ
+padding s = s .progress .«tx_delay_padding» .0
+
+abbrev latency : Sent → ℕ
+latency s = s .buffer .«output_latency» .0
+
+-- ---- the latency
+refused-latency : (c : Call) (number l : ℕ) → Refusing c number → l ≡ cond (stores c) (latencyOf c) l
+unfolding stores
+refused-latency c number l miscounted = refl
+refused-latency c number l outside = refl
+refused-latency c number l (large e) = rw e
+refused-latency c number l (below e) = rw e
+
+-- with a call before others: whether it stores, and whether none of the others does
+last-one : (a b : Bool) (l m n : ℕ) → cond b (cond a l m) n ≡ cond (not a && b) m (cond b (cond a l 0) n)
+last-one true true l m n = refl
+last-one true false l m n = refl
+last-one false true l m n = refl
+last-one false false l m n = refl
+
+none-stored : (cs : List Call) → cond (none stores cs) 0 (lastLatency cs) ≡ lastLatency cs
+unfolding none lastLatency
+none-stored [] = refl
+none-stored (c ∷ cs) = sym (last-one (stores c) (none stores cs) (latencyOf c) 0 (lastLatency cs))
+
+module _ (table : List Float) (p : ℕ) where
+  latency-next : (s : Sent) (c : Call) → latency (called table p s c .sent) ≡ cond (stores c) (latencyOf c) (latency s)
+  unfolding stores latencyOf framed drained
+  latency-next s =
+      each-call table p s (λ (c : Call) (a : After). latency (a .sent) ≡ cond (stores c) (latencyOf c) (latency s)) (record {
+        refused = λ c number e. refused-latency c number (latency s) e;
+        no-frame = λ _. refl;
+        delayed = λ _ _. refl;
+        symbols-given = λ _ _. refl;
+        last-frame = λ _. refl;
+        reads = λ _. refl;
+        stored = λ _ _ _ e. rw e;
+        told = λ _ _. refl;
+        unread = λ _ _. refl;
+        idles = λ _ _ _. refl;
+        wishes = λ _ _ _. refl;
+        rests = λ _ _ _. refl;
+      })
+
+  -- after calls, by the last update among them
+  latency-from : (cs : List Call) (s : Sent) → latency (sentFrom table p s cs) ≡ cond (none stores cs) (latency s) (lastLatency cs)
+  unfolding sentFrom none lastLatency
+  latency-from [] s = refl
+  latency-from (c ∷ cs) s =
+      latency-from cs (called table p s c .sent) ∙ rw (latency-next s c) (last-one (stores c) (none stores cs) (latencyOf c) (latency s) (lastLatency cs))
+
+  latency-all : (cs : List Call) → latency (sentAll table p cs) ≡ lastLatency cs
+  latency-all cs = latency-from cs start ∙ none-stored cs
+
+  -- ---- the padding, by one call
+  padding-set : (s : Sent) (steps : DelaySteps) (symbols : List Float) → padding (called table p s (provide (Preamble steps) symbols) .sent) ≡ paddingOf p (steps .0) (latency s)
+  unfolding called provided framed
+  padding-set s steps symbols = refl
+
+  no-places : (c : Call) (number n : ℕ) → Refusing c number → n ≡ n - placesOf c
+  unfolding placesOf
+  no-places c number n miscounted = omega arith
+  no-places c number n outside = omega arith
+  no-places c number n (large e) = omega arith
+  no-places c number n (below e) = omega arith
+
+  padding-read : (s : Sent) (c : Call) → T (not (delays c)) → padding (called table p s c .sent) ≡ padding s - placesOf c
+  unfolding delays placesOf framed drained
+  padding-read s =
+      each-call table p s (λ (c : Call) (a : After). T (not (delays c)) → padding (a .sent) ≡ padding s - placesOf c) (record {
+        refused = λ c number e _. no-places c number (padding s) e;
+        no-frame = λ _ _. omega arith;
+        delayed = λ _ _ t. absurd t;
+        symbols-given = λ _ _ _. omega arith;
+        last-frame = λ _ _. omega arith;
+        reads = λ _ _. omega arith;
+        stored = λ _ _ _ _ _. omega arith;
+        told = λ _ _ _. omega arith;
+        unread = λ _ _ _. omega arith;
+        idles = λ _ _ _ _. omega arith;
+        wishes = λ _ _ _ _. omega arith;
+        rests = λ _ _ _ _. omega arith;
+      })
+
+  -- ---- by all
+  padding-since : (cs : List Call) (s : Sent) → T (none delays cs) → padding (sentFrom table p s cs) ≡ padding s - placesRead cs
+  unfolding sentFrom none placesRead
+  padding-since [] s t = omega arith
+  padding-since (c ∷ cs) s t =
+      padding-since cs (called table p s c .sent) (and-r (not (delays c)) (none delays cs) t)
+      ∙ rw (padding-read s c (and-l (not (delays c)) (none delays cs) t), sub-add-eq (padding s) (placesOf c) (placesRead cs))
+
+  left-after : (cs : List Call) (n : ℕ) → PaddingLeft p cs n → padding (sentAll table p cs) ≡ n
+  unfolding sentFrom
+  left-after cs n (unset t) = padding-since cs start t ∙ omega arith
+  left-after cs n (set before steps symbols since parts t) =
+      let there : Sent = sentAll table p before in
+      let delay : Call = provide (Preamble steps) symbols in
+      ap (λ (ds : List Call). padding (sentAll table p ds)) parts
+      ∙ ap padding (sent-behind table p start before (delay ∷ since))
+      ∙ padding-since since (called table p there delay .sent) t
+      ∙ rw (padding-set there steps symbols, latency-all before)
+
+-- ---- each list of calls leaves some padding
+Some : ℕ → List Call → Type 0
+Some p cs = (n : ℕ) × PaddingLeft p cs n
+
+module _ (p : ℕ) where
+  some-more : (cs : List Call) (c : Call) → delays c ≡ false → Some p cs → Some p (cs ++ c ∷ [])
+  unfolding Some
+  some-more cs c e (n, unset t) = (0, unset (none-more delays cs c t e))
+  some-more cs c e (n, set before steps symbols since parts t) =
+      let longer = ap (λ (ds : List Call). ds ++ c ∷ []) parts ∙ append-assoc before (provide (Preamble steps) symbols ∷ since) (c ∷ []) in
+      (_, set before steps symbols (since ++ c ∷ []) longer (none-more delays since c t e))
+
+  some-last : (cs : List Call) (c : Call) → Some p cs → Some p (cs ++ c ∷ [])
+  unfolding Some delays none
+  some-last cs (provide NoFrame symbols) l = some-more cs _ refl l
+  some-last cs (provide (Preamble steps) symbols) l = (_, set cs steps symbols [] refl tt)
+  some-last cs (provide GivenSymbols symbols) l = some-more cs _ refl l
+  some-last cs (provide EndOfTransmission symbols) l = some-more cs _ refl l
+  some-last cs (read room) l = some-more cs _ refl l
+  some-last cs (update fill capacity latency) l = some-more cs _ refl l
+  some-last cs ask l = some-more cs _ refl l
+
+  some : (cs : List Call) → Some p cs
+  unfolding Some none
+  some = by-last (Some p) (0, unset tt) some-last
+
+-- ---- exactly
+module _ (table : List Float) (p : ℕ) where
+  pub padding-exactly : (cs : List Call) (n : ℕ) → (padding (sentAll table p cs) ≡ n) ↔ PaddingLeft p cs n
+  unfolding Some
+  padding-exactly cs n =
+      let l = some p cs in
+      (λ e. subst (PaddingLeft p cs) (sym (left-after table p cs (l .0) (l .1)) ∙ e) (l .1), left-after table p cs n)
+
+-- the record, from a fresh start
+pub padding-by-record : (cs : List Call) → AllGiven cs → (n : ℕ) → (recordAfter cs .progress .«tx_delay_padding» .0 ≡ n) ↔ PaddingLeft 10 cs n
+padding-by-record cs g n =
+    let same = ap (λ (s : Progress). s .«tx_delay_padding» .0) (sender-run cs g .0 .progress) in
+    let left = padding-exactly taps 10 cs n in
+    (λ e. left .0 (sym same ∙ e), λ l. same ∙ left .1 l)

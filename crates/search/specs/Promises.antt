@@ -1,0 +1,26 @@
+-- What the functions promise, of any control, number and values. Assumes nothing.
+use mathlib.Core.Path.{_≡_}
+use mathlib.Core.Bool.{Bool}
+use mathlib.Core.List.{List}
+use Prim.Native.Nat.{ℕ}
+use lib.Ieee.{Float}
+use Rattle.decode.specs.Parts.{valuesOf}
+use Rattle.search.specs.declared.Control.{Control}
+use Rattle.search.specs.declared.Turn.{Turn}
+use Rattle.search.specs.declared.Reply.{Reply}
+use Rattle.search.specs.Search.{searched}
+use Rattle.search.specs.Turn.{replied}
+use Rattle.search.specs.Turns.{turnOf}
+use Rattle.search.specs.Fit.{controlFit}
+
+abbrev pub control-fit-says : Control → Bool → Type 0
+control-fit-says c r = r ≡ controlFit 10 c
+
+abbrev pub turn-of-says : Control → ℕ → Turn → Type 0
+turn-of-says c n r = r ≡ turnOf n c
+
+abbrev pub searched-says : Control → List Float → Control → Type 0
+searched-says c vs r = r ≡ searched 10 (valuesOf vs) c
+
+abbrev pub replied-says : Control → Reply → List Float → Control → Type 0
+replied-says c reply vs r = r ≡ replied 10 (valuesOf vs) reply c
