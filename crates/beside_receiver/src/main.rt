@@ -44,7 +44,7 @@ fn answer_one() -> bool {
     }
     let mut asked = [0u64; 4];
     wire::numbers(&head, &mut asked);
-    // The record, and behind it the room.
+    // The record, and after it the room.
     let mut body = [0u8; 8778];
     io::read_full(STDIN_FILENO, &mut body);
     let mut room = [0.0f32; 200];

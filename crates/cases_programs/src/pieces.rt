@@ -61,7 +61,7 @@ fn put_byte(recording: &mut [u8], at: usize, byte: u8) -> usize {
     }
 }
 
-// The first `count` of the bytes go into the recording, as far as there is room, and the place behind them comes back.
+// The first `count` of the bytes go into the recording, as far as there is room, and the place after them comes back.
 pub(crate) fn put(recording: &mut [u8], at: usize, bytes: &[u8], count: usize) -> usize {
     let most = least(count, bytes.len());
     let mut end = at;

@@ -8,16 +8,16 @@ ghost use lib.ListN.{length};
 // Room for a line of each sample that a call looks at.
 const MOST: usize = 24832;
 
-// What the last call took, and how many lines there are by now.
+// What the last call consumed, and how many lines there are by now.
 struct Turn {
     receiving: Receiving,
-    taken: usize,
+    consumed: usize,
     found: u64,
 }
 
 // The lines are written as they come, and counted.
 fn hear_into(turn: Turn, bytes: &[u8], lines: &mut [u8]) -> Turn
-    ensures { λ r. ⌜ r .taken ≤ length (now (bytes .entry)) ⌝ }
+    ensures { λ r. ⌜ r .consumed ≤ length (now (bytes .entry)) ⌝ }
 {
     let receiving = turn.receiving;
     let after = receiving.hear(bytes, lines);
@@ -26,35 +26,35 @@ fn hear_into(turn: Turn, bytes: &[u8], lines: &mut [u8]) -> Turn
     let next = after.receiving;
     Turn {
         receiving: next,
-        taken: after.taken,
+        consumed: after.consumed,
         found: wrapping_add_u64(turn.found, (written / 97) as u64),
     }
 }
 
 fn hear_some(turn: Turn, bytes: &[u8], room: usize) -> Turn
-    ensures { λ r. ⌜ r .taken ≤ length (now (bytes .entry)) ⌝ }
+    ensures { λ r. ⌜ r .consumed ≤ length (now (bytes .entry)) ⌝ }
 {
     let mut lines = io::large_buffer();
     let places = pieces::least(room, MOST);
     hear_into(turn, bytes, &mut lines[..places])
 }
 
-// What a call does not take begins the next read.
+// What a call does not consume begins the next read.
 fn hear_all(recording: &[u8], size: usize, room: usize) -> u64 {
     let mut turn = Turn {
         receiving: Receiving::new(),
-        taken: 0,
+        consumed: 0,
         found: 0,
     };
     let mut at: usize = 0;
     while at < recording.len() {
         let end = pieces::read_end(at, size, recording.len());
         turn = hear_some(turn, &recording[at..end], room);
-        let taken = turn.taken;
-        if taken == 0 {
+        let consumed = turn.consumed;
+        if consumed == 0 {
             return turn.found;
         }
-        at += taken;
+        at += consumed;
     }
     turn.found
 }

@@ -1,4 +1,4 @@
-// What the receiver refuses and what it still takes, on made-up records. A line of the table has three cells, between them bars: the phrase of document 01 that decides it, the record in words, and the calls in words, each made on that same record. The line is written again, and behind one more bar the answers to its calls. The expected answers are written by hand from document 01, by the phrase in the first cell.
+// What the receiver refuses and what it still takes, on made-up records. A line of the table has three cells, between them bars: the phrase of document 01 that decides it, the record in words, and the calls in words, each made on that same record. The line is written again, and after one more bar the answers to its calls. The expected answers are written by hand from document 01, by the phrase in the first cell.
 mod answer;
 mod calls;
 mod made;
@@ -6,7 +6,7 @@ mod many;
 mod places;
 mod same;
 
-// The calls from the second on. Words are counted from 1, since the space behind a bar ends an empty one.
+// The calls from the second on. Words are counted from 1, since the space after a bar ends an empty one.
 fn put_more(record: &[u8], calls: &[u8]) {
     let mut k: usize = 2;
     while k < calls.len() {

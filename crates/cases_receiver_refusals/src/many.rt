@@ -177,6 +177,6 @@ pub(crate) fn hear(words: &[u8], place: usize) -> Answer {
         demodulator,
         next.demodulator,
     );
-    let told = counted(plain, answer::TAKEN, after.taken as u64);
+    let told = counted(plain, answer::TAKEN, after.consumed as u64);
     with_odd(told, byte_of(held), byte_of(left))
 }

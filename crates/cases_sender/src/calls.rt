@@ -13,7 +13,7 @@ fn count(line: &[u8], k: usize) -> usize {
     cases_text::decimal(cases_text::word(line, k)) as usize
 }
 
-// The words behind the first as symbols: a missing one is 0.
+// The words after the first as symbols: a missing one is 0.
 fn symbols(line: &[u8]) -> [f32; 192] {
     let mut symbols = [0.0f32; 192];
     let mut i: usize = 0;

@@ -1,6 +1,6 @@
 // What the sender refuses and what it still takes, on made-up records, and sessions of several calls. A line of the table has three cells, ` | ` between them: the phrase of document 01 that
 // decides the line; the record and the operands of its calls, so far as they are not those of `made`; and the calls, each of them made on that record. The line is written again, and
-// behind it a fourth cell, the answers, `; ` between them. The expected answers are written by hand from document 01, by the phrase in the first cell.
+// after it a fourth cell, the answers, `; ` between them. The expected answers are written by hand from document 01, by the phrase in the first cell.
 mod answer;
 mod calls;
 mod line;

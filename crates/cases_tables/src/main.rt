@@ -1,6 +1,8 @@
-// Writes the lists `taps`, `bursts` and `frames` from the port's tables.
+// Writes the lists `taps`, `bursts` and `frames` from the port's tables, and replays the list `filters`.
 use protocol::Kind;
 use protocol::SyncBurst;
+
+mod filters;
 
 fn put_tap(i: usize, tap: f32) {
     io::print_decimal(1, i as u64);
@@ -42,4 +44,7 @@ fn main() {
     put_burst(b"packet", SyncBurst::Frame(Kind::Packet));
     put_frame(b"preamble", encode::generate_preamble());
     put_frame(b"end", encode::generate_end_of_transmission());
+    let mut text = io::large_buffer();
+    let length = io::read_full(0, &mut text);
+    filters::replay(&text[..length]);
 }

@@ -41,7 +41,7 @@ between-is-meets = between-is 32 line 0 0 2 starts ends
 none-past-meets : 4 ≤ beginOf 32 line 4
 none-past-meets = none-past 32 line 4 (lit≤ tt)
 
--- ---- the place behind a name: the first word is it, the second is not, and there is no third
+-- ---- the place after a name: the first word is it, the second is not, and there is no third
 word-found-meets : 1 ≡ behindTo line first 1
 unfolding beginOf endOf partOf sameWord indexOf slice
 word-found-meets = word-found line first 0 1 (lit< tt) refl refl

@@ -1,4 +1,4 @@
--- Two words are the same exactly if the test says so; where the parts of a line begin; and the place behind a name, word by word. Assumes nothing.
+-- Two words are the same exactly if the test says so; where the parts of a line begin; and the place after a name, word by word. Assumes nothing.
 use mathlib.Core.Path.{_≡_, refl, sym, ap, _∙_, subst}
 use mathlib.Core.Bool.{Bool, true, false, _&&_, true≢false}
 use mathlib.Core.List.{List, [], _∷_}
@@ -42,7 +42,7 @@ pub same-word : (a b : List ℕ) (r : Bool) → (r ≡ true → a ≡ b) → (a 
 same-word a b r told seen =
     same-test r (sameWord a b) told seen (same-letters a b) (λ e. subst (λ (w : List ℕ). sameWord a w ≡ true) e (as-itself a))
 
--- the next part begins behind the end of this one, at most at the line's end
+-- the next part begins after the end of this one, at most at the line's end
 pub next-begins : (letter : ℕ) (line : List ℕ) (k at end : ℕ) → at ≡ beginOf letter line k → end ≡ endOf letter line at → min (end + 1) (length line) ≡ beginOf letter line (k + 1)
 unfolding beginOf
 next-begins letter line k at end here ends =
@@ -54,13 +54,13 @@ unfolding partOf
 between-is letter line k at end here ends =
     ap (between line at) ends ∙ ap (λ (a : ℕ). between line a (endOf letter line a)) here
 
--- where a part is at the line's end, so are those behind it
+-- where a part is at the line's end, so are those after it
 at-the-end : (letter : ℕ) (line : List ℕ) (k d : ℕ) → length line ≤ beginOf letter line k → length line ≤ beginOf letter line (k + d)
 unfolding beginOf endOf
 at-the-end letter line k zero h = rw (add-zero k) h
 at-the-end letter line k (suc d) h = let before = at-the-end letter line k d h in rw (add-suc k d) (omega arith)
 
--- each part begins at least one place behind the one before it, until the line ends
+-- each part begins at least one place after the one before it, until the line ends
 begins-past : (letter : ℕ) (line : List ℕ) (k : ℕ) → min k (length line) ≤ beginOf letter line k
 unfolding beginOf endOf
 begins-past letter line zero = omega arith
@@ -79,7 +79,7 @@ pub word-passed : (words name : List ℕ) (k place : ℕ) → beginOf 32 words k
 unfolding behindTo
 word-passed words name k place there test before = rw (add-one k, lt-ltb _ _ there, test) before
 
--- behind the last word the place stays
+-- after the last word the place stays
 pub words-done : (words name : List ℕ) (k d : ℕ) → length words ≤ beginOf 32 words k → behindTo words name (k + d) ≡ behindTo words name k
 unfolding behindTo
 words-done words name k zero h = rw (add-zero k)

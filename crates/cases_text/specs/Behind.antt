@@ -1,4 +1,4 @@
--- What a line of words names, and the word behind a name. Assumes nothing.
+-- What a line of words names, and the word after a name. Assumes nothing.
 use mathlib.Core.Path.{_≡_}
 use mathlib.Core.Bool.{Bool, true, false, _&&_, cond}
 use mathlib.Core.List.{List, [], _∷_}
@@ -16,7 +16,7 @@ sameWord [] (b ∷ v) = false
 sameWord (a ∷ u) [] = false
 sameWord (a ∷ u) (b ∷ v) = eqb a b && sameWord u v
 
--- of the first n words, as far as they begin before the line's end, the place behind the last that is the name; 0 where none is
+-- of the first n words, as far as they begin before the line's end, the place after the last that is the name; 0 where none is
 unfoldable pub behindTo : List ℕ → List ℕ → ℕ → ℕ
 behindTo words name zero = 0
 behindTo words name (suc n) =

@@ -14,7 +14,7 @@ begins word letter = ltb 0 (length word) && eqb (getD word 0 0) letter
 unfoldable pub endOf : ℕ → List ℕ → ℕ → ℕ
 endOf letter line at = at + indexOf letter (slice at (length line) line)
 
--- part k begins behind the letter that ends the part before it; past the last part, at the line's end
+-- part k begins after the letter that ends the part before it; past the last part, at the line's end
 unfoldable pub beginOf : ℕ → List ℕ → ℕ → ℕ
 beginOf letter line zero = 0
 beginOf letter line (suc k) = min (endOf letter line (beginOf letter line k) + 1) (length line)

@@ -1,11 +1,11 @@
-// What a line of words names, and what stands behind a name.
+// What a line of words names, and what is after a name.
 use crate::decimal;
 use crate::float;
 use crate::places::next;
 use crate::word;
 ghost use Rattle.cases_text.specs.Behind.{place-behind-says, names-says, count-behind-says, float-behind-says};
 
-// The place behind the last word that is the name, 0 where none is.
+// The place after the last word that is the name, 0 where none is.
 pub fn place_behind(words: &[u8], name: &[u8]) -> usize
     ensures { λ r. ⌜ place-behind-says (now (words .entry)) (now (name .entry)) r ⌝ }
 {
@@ -29,7 +29,7 @@ pub fn names(words: &[u8], name: &[u8]) -> bool
     0 < place_behind(words, name)
 }
 
-// The number behind a name, or the caller's own where no word is the name.
+// The number after a name, or the caller's own where no word is the name.
 pub fn count_behind(words: &[u8], name: &[u8], own: u64) -> u64
     ensures { λ r. ⌜ count-behind-says (now (words .entry)) (now (name .entry)) own r ⌝ }
 {

@@ -14,7 +14,7 @@ pub fn begins(word: &[u8], letter: u8) -> bool
     }
 }
 
-// The place behind one, at most the line's end.
+// The place after one, at most the line's end.
 pub(crate) fn next(line: &[u8], at: usize) -> usize
     requires { ⌜ at ≤ length (now line) ⌝ }
     ensures { λ r. ⌜ r ≡ min (at + 1) (length (now (line .entry))) ⌝ }
@@ -22,7 +22,7 @@ pub(crate) fn next(line: &[u8], at: usize) -> usize
     if at < line.len() { at + 1 } else { at }
 }
 
-// A part begins behind the letter that ends the part before it; one that is missing, at the line's end.
+// A part begins after the letter that ends the part before it; one that is missing, at the line's end.
 fn begin(line: &[u8], letter: u8, k: usize) -> usize
     ensures { λ r. ⌜ PartBegins letter (now (line .entry)) k r ⌝ }
 {

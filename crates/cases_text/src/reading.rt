@@ -2,8 +2,6 @@
 use crate::begins;
 ghost use mathlib.Core.Path.{_≡_};
 ghost use Prim.Native.Nat.{_<_};
-ghost use lib.Ieee.{binary32, ofBits};
-ghost use Rattle.numbers.specs.Cut.{signed};
 ghost use Rattle.cases_text.specs.Numbers.{Digit, appended, numberOf, decimal-says, hexadecimal-says, float-says, same-float-says, sample-says};
 
 fn digit(letter: u8) -> u64
@@ -62,17 +60,6 @@ pub fn hexadecimal(word: &[u8]) -> u64
     number(word, 16)
 }
 
-// `f32::from_bits` is not defined at the patterns that are not numbers, which lie above infinity's.
-fn of_pattern(pattern: u32) -> f32
-    ensures { λ r. ⌜ r ≡ ofBits binary32 pattern ⌝ }
-{
-    if 0x7f80_0000 < pattern % 0x8000_0000 {
-        0.0 / 0.0
-    } else {
-        f32::from_bits(pattern)
-    }
-}
-
 // The eight digits of a bit pattern, or `nan`.
 pub fn float(word: &[u8]) -> f32
     ensures { λ r. ⌜ float-says (now (word .entry)) r ⌝ }
@@ -81,7 +68,7 @@ pub fn float(word: &[u8]) -> f32
         return 0.0 / 0.0;
     }
     let pattern = number(word, 16) % 0x1_0000_0000;
-    of_pattern(pattern as u32)
+    numbers::of_pattern(pattern as u32)
 }
 
 // Equal to the bit; one not-a-number is as good as another.
@@ -99,27 +86,15 @@ pub fn same_float(a: f32, b: f32) -> bool
     }
 }
 
-fn with_sign(negative: bool, size: u64) -> i16
-    ensures { λ r. ⌜ r ≡ signed 15 negative size ⌝ }
-{
-    if negative {
-        if size < 32768 { -(size as i16) } else { -32768 }
-    } else if size < 32768 {
-        size as i16
-    } else {
-        32767
-    }
-}
-
 // A sample in decimal, with `-` before it where it is below 0.
 pub fn sample(word: &[u8]) -> i16
     ensures { λ r. ⌜ sample-says (now (word .entry)) r ⌝ }
 {
     if begins(word, b'-') {
         let size = number(&word[1..], 10);
-        with_sign(true, size)
+        numbers::with_sign(true, size)
     } else {
         let size = number(word, 10);
-        with_sign(false, size)
+        numbers::with_sign(false, size)
     }
 }

@@ -1,4 +1,4 @@
-// Answers on standard output, each behind a space. No contract can say what is written there.
+// Answers on standard output, each after a space. No contract can say what is written there.
 ghost use mathlib.Core.Path.{_≡_};
 ghost use lib.IntN.{natAbs};
 

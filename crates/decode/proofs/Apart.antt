@@ -19,8 +19,8 @@ use Rattle.decode.specs.Correlator.{farthest, distances, matches, inRang
 use Rattle.decode.proofs.Scale.{Scale, Sized}
 use Rattle.decode.proofs.Places.{meets, Place, place, uncrossed, unspread}
 use Rattle.decode.proofs.Table.{kind-below, for-each, for-each-two}
-use Rattle.decode.proofs.Opened.{heardAt, gainAt, shiftAt, Opened, opened}
-use Rattle.decode.proofs.Heard.{value-heard, scale, sized}
+use Rattle.decode.proofs.Opened.{unsignedAt, gainAt, shiftAt, Opened, opened}
+use Rattle.decode.proofs.RangeFacts.{value-unsigned, scale, sized}
 
 -- the signs a and b at one of the seven places
 unfoldable pub shares : Bool → Bool → List ℤ → List ℤ → Bool
@@ -91,17 +91,17 @@ module _ (v : ℕ → Float) (range : (i : ℕ) → i < 9 → T (inRange (v i)))
   second-scale : Scale (gainAt (λ i. v (suc i))) (shiftAt (λ i. v (suc i)))
   second-scale = scale (λ i. v (suc i)) second-range (second .strong)
 
-  shared-finite : (i : ℕ) → i < 7 → T (finite (heardAt v (suc i)))
-  shared-finite i l = value-heard v first-range (suc i) (omega arith) .0
+  shared-finite : (i : ℕ) → i < 7 → T (finite (unsignedAt v (suc i)))
+  shared-finite i l = value-unsigned v first-range (suc i) (omega arith) .0
 
   by-order : T (crossed (signsOf (Frame j)) (signsOf (Frame k))) → ⊥
   by-order =
-      not-crossed _ _ _ _ first-scale second-scale (signsOf (Frame j)) (signsOf (Frame k)) (heardAt v) shared-finite
+      not-crossed _ _ _ _ first-scale second-scale (signsOf (Frame j)) (signsOf (Frame k)) (unsignedAt v) shared-finite
       (λ i l. first .near (suc i) (omega arith)) (λ i l. second .near i (omega arith))
 
   by-widths : (s : Bool) → T (spread s (signsOf (Frame j)) (signsOf (Frame k))) → ⊥
   by-widths =
-      not-spread _ _ _ _ first-scale second-scale (signsOf (Frame j)) (signsOf (Frame k)) (heardAt v) shared-finite
+      not-spread _ _ _ _ first-scale second-scale (signsOf (Frame j)) (signsOf (Frame k)) (unsignedAt v) shared-finite
       (λ i l. first .near (suc i) (omega arith)) (λ i l. second .near i (omega arith)) (sized v first-range (first .strong)) (sized (λ i. v (suc i)) second-range (second .strong))
 
 pub not-again : (v : ℕ → Float) → ((i : ℕ) → i < 9 → T (inRange (v i))) → (k : Kind) → T (matches (Frame k) v) → T (matches (Frame k) (λ i. v (suc i))) → ⊥

@@ -18,8 +18,8 @@ use Rattle.protocol.specs.declared.SyncBurst.{SyncBurst}
 use Rattle.decode.specs.Correlator.{zero32, leastGain, farthest, threshold, noMatch, summed, diffOf, distanceOf, correlation, matches, inRange}
 use Rattle.decode.proofs.Near.{distance-within}
 use Rattle.decode.proofs.Signs.{sign-at}
-use Rattle.decode.proofs.Opened.{heardAt, gainAt, shiftAt, distanceAt, Opened}
-use Rattle.decode.proofs.Heard.{value-heard, scale}
+use Rattle.decode.proofs.Opened.{unsignedAt, gainAt, shiftAt, distanceAt, Opened}
+use Rattle.decode.proofs.RangeFacts.{value-unsigned, scale}
 
 -- ---- the sum
 sum-below : (x : Float) → Within x 8 → T (lt x threshold)
@@ -42,7 +42,7 @@ module _ (b : SyncBurst) (v : ℕ → Float) (o : Opened b v) where
     near-one : (i : ℕ) → i < 8 → Within (distanceAt b v i) 1
     near-one i l =
         let s = sign-at b i l in
-        rw (s .1) (distance-within (gainAt v) (shiftAt v) (scale v range (o .strong)) (s .0) (heardAt v i) (value-heard v range i (omega arith) .0) (rw (s .1) at (o .near i l)))
+        rw (s .1) (distance-within (gainAt v) (shiftAt v) (scale v range (o .strong)) (s .0) (unsignedAt v i) (value-unsigned v range i (omega arith) .0) (rw (s .1) at (o .near i l)))
 
     sum-eight : Within (sumTo binary32 (distanceAt b v) 8) 8
     unfolding totalTo

@@ -15,9 +15,9 @@ use Rattle.protocol.specs.declared.Kind.{Kind}
 use Rattle.protocol.specs.declared.SyncBurst.{SyncBurst}
 use Rattle.protocol.specs.declared.SyncBurst.the-variants.{Frame}
 use Rattle.protocol.specs.Bursts.{signsOf}
-use Rattle.decode.specs.Correlator.{zero32, heard, highest, lowest, gainOf, shiftOf, symbolOf, distanceOf, summed, diffOf, correlation, matches, inRange}
+use Rattle.decode.specs.Correlator.{zero32, zeroUnsigned, highest, lowest, gainOf, shiftOf, symbolOf, distanceOf, summed, diffOf, correlation, matches, inRange}
 use Rattle.decode.proofs.Side.{side-of-plus, side-of-minus}
-use Rattle.decode.proofs.Opened.{heardAt, Opened, opened}
+use Rattle.decode.proofs.Opened.{unsignedAt, Opened, opened}
 use Rattle.decode.proofs.Table.{rank-below, for-each}
 use Rattle.decode.proofs.OneMatch.{one-match}
 use Rattle.decode.proofs.Apart.{not-again, never-apart}
@@ -44,7 +44,7 @@ eight b i l = sent-range b i (omega arith)
 sent-matches : (b : SyncBurst) → T (matches b (sent b))
 sent-matches b =
     for-each 6 (λ a. matches a (sent a))
-    (unfold allBelow anyBelow sent signsOf matches correlation diffOf summed sumTo distanceOf symbolOf shiftOf gainOf highest lowest heard larger smaller sizeOf add sub mul div lt eq neg ofInt ofBits in tt) b (rank-below b)
+    (unfold allBelow anyBelow sent signsOf matches correlation diffOf summed sumTo distanceOf symbolOf shiftOf gainOf highest lowest zeroUnsigned larger smaller sizeOf add sub mul div lt eq neg ofInt ofBits in tt) b (rank-below b)
 
 side-plus : T (lt zero32 up32)
 unfolding distanceOf symbolOf sizeOf sub div ofInt ofBits lt
@@ -70,5 +70,5 @@ sent-not-again k = not-T (matches (Frame k) (λ i. sent (Frame k) (suc i))) (not
 sent-never-apart : (j k : Kind) → T (not (matches (Frame k) (λ i. sent (Frame j) (suc i))))
 sent-never-apart j k = not-T (matches (Frame k) (λ i. sent (Frame j) (suc i))) (never-apart (sent (Frame j)) (sent-range (Frame j)) j k (sent-matches (Frame j)))
 
-sent-facts : (b : SyncBurst) → MatchFacts (correlation b (sent b)) (lowest (heardAt (sent b)) 7) (highest (heardAt (sent b)) 7)
+sent-facts : (b : SyncBurst) → MatchFacts (correlation b (sent b)) (lowest (unsignedAt (sent b)) 7) (highest (unsignedAt (sent b)) 7)
 sent-facts b = match-facts (sent b) (eight b) b (sent-matches b)

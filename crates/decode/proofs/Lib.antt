@@ -25,7 +25,7 @@ pub mod Widths
 -- what a match is
 pub mod Opened
 -- eight values in range
-pub mod Heard
+pub mod RangeFacts
 -- values near a target of each of two bursts
 pub mod Places
 -- at most one burst matches

@@ -1,4 +1,4 @@
--- What the values of a match are worth: diff, gain and shift within limits, and the shift strictly between the lowest and the highest value as heard, since every burst has
+-- What the values of a match are worth: diff, gain and shift within limits, and the shift strictly between the lowest and the highest value, since every burst has
 -- both signs. Assumes nothing.
 use mathlib.Core.Bool.{Bool, true, false}
 use Prim.Native.Nat.{ℕ, _≤_, _<_}
@@ -13,8 +13,8 @@ use Rattle.decode.specs.Correlator.{zero32, leastGain, threshold, highes
 use Rattle.decode.proofs.Direction.{Beyond, beyond-toward}
 use Rattle.decode.proofs.Side.{side-of}
 use Rattle.decode.proofs.Signs.{sign-held}
-use Rattle.decode.proofs.Opened.{heardAt, gainAt, shiftAt, Opened, opened}
-use Rattle.decode.proofs.Heard.{within-range, range-le, value-heard, extreme, extreme-heard, toward-extreme, gain-within, gain-le, scale}
+use Rattle.decode.proofs.Opened.{unsignedAt, gainAt, shiftAt, Opened, opened}
+use Rattle.decode.proofs.RangeFacts.{within-range, range-le, value-unsigned, extreme, extreme-unsigned, toward-extreme, gain-within, gain-le, scale}
 use Rattle.decode.proofs.Diff.{diff-least, diff-below}
 
 pub record MatchFacts (c : Correlation) (low high : Float) : Type 0 where
@@ -28,26 +28,26 @@ pub record MatchFacts (c : Correlation) (low high : Float) : Type 0 where
 
 module _ (v : ℕ → Float) (range : (i : ℕ) → i < 8 → T (inRange (v i))) (b : SyncBurst) (o : Opened b v) where
   -- the extreme in each direction is on that side of the shift
-  shift-inside : (s : Bool) → Beyond s (shiftAt v) (extreme s (heardAt v) 7)
+  shift-inside : (s : Bool) → Beyond s (shiftAt v) (extreme s (unsignedAt v) 7)
   shift-inside s =
       let S = scale v range (o .strong) in
       let r = sign-held s b in
       let i = r .0 in
       let l : i ≤ 7 = omega (arith, r .1) in
-      let K = value-heard v range i l .0 in
-      beyond-toward s (shiftAt v) (heardAt v i) (extreme s (heardAt v) 7) (S .shift-finite) K (extreme-heard v range s .0)
-      (side-of (gainAt v) (shiftAt v) S s (heardAt v i) K (rw (r .2) at (o .near i (r .1))))
-      (toward-extreme s (heardAt v) _ 7 (value-heard v range) i l)
+      let K = value-unsigned v range i l .0 in
+      beyond-toward s (shiftAt v) (unsignedAt v i) (extreme s (unsignedAt v) 7) (S .shift-finite) K (extreme-unsigned v range s .0)
+      (side-of (gainAt v) (shiftAt v) S s (unsignedAt v i) K (rw (r .2) at (o .near i (r .1))))
+      (toward-extreme s (unsignedAt v) _ 7 (value-unsigned v range) i l)
 
   shift-fits : T (inRange (shiftAt v))
   shift-fits =
       let F = scale v range (o .strong) .shift-finite in
-      let hi = extreme-heard v range false in
-      let lo = extreme-heard v range true in
+      let hi = extreme-unsigned v range false in
+      let lo = extreme-unsigned v range true in
       within-range (shiftAt v)
-      (within-between (extreme true (heardAt v) 7) (shiftAt v) (extreme false (heardAt v) 7) _ lo hi (lt→le _ _ (lo .0) F (shift-inside true)) (lt→le _ _ F (hi .0) (shift-inside false)))
+      (within-between (extreme true (unsignedAt v) 7) (shiftAt v) (extreme false (unsignedAt v) 7) _ lo hi (lt→le _ _ (lo .0) F (shift-inside true)) (lt→le _ _ F (hi .0) (shift-inside false)))
 
-pub match-facts : (v : ℕ → Float) → ((i : ℕ) → i < 8 → T (inRange (v i))) → (b : SyncBurst) → T (matches b v) → MatchFacts (correlation b v) (lowest (heardAt v) 7) (highest (heardAt v) 7)
+pub match-facts : (v : ℕ → Float) → ((i : ℕ) → i < 8 → T (inRange (v i))) → (b : SyncBurst) → T (matches b v) → MatchFacts (correlation b v) (lowest (unsignedAt v) 7) (highest (unsignedAt v) 7)
 unfolding correlation
 match-facts v range b m =
     let o = opened b v m in

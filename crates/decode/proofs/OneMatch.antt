@@ -18,8 +18,8 @@ use Rattle.decode.specs.Correlator.{farthest, distances, matches, inRang
 use Rattle.decode.proofs.Scale.{Scale}
 use Rattle.decode.proofs.Places.{meets, Place, place, unopposed}
 use Rattle.decode.proofs.Table.{rank, same-rank, rank-below, for-each-two}
-use Rattle.decode.proofs.Opened.{heardAt, gainAt, shiftAt, opened}
-use Rattle.decode.proofs.Heard.{value-heard, scale}
+use Rattle.decode.proofs.Opened.{unsignedAt, gainAt, shiftAt, opened}
+use Rattle.decode.proofs.RangeFacts.{value-unsigned, scale}
 
 -- the signs +1 and -1 at one place of both
 unfoldable pub differ : List ℤ → List ℤ → Bool
@@ -44,5 +44,5 @@ one-match v range b c p q =
     let y = opened c v q in
     elim (or-split (eqb (rank b) (rank c)) (differ (signsOf b) (signsOf c)) (all-differ b c)) [
       | inl e ↦ same-rank b c (eqb→eq (rank b) (rank c) e)
-      | inr d ↦ absurd (not-both (gainAt v) (shiftAt v) (scale v range (x .strong)) (signsOf b) (signsOf c) d (heardAt v) (λ i l. value-heard v range i (omega arith) .0) (x .near) (y .near))
+      | inr d ↦ absurd (not-both (gainAt v) (shiftAt v) (scale v range (x .strong)) (signsOf b) (signsOf c) d (unsignedAt v) (λ i l. value-unsigned v range i (omega arith) .0) (x .near) (y .near))
     ]

@@ -13,7 +13,7 @@ use Rattle.decode.specs.declared.Correlation.{Correlation}
 use Rattle.decode.specs.declared.Spread.{Spread}
 use Rattle.decode.specs.Slicer.{decode-sample-says}
 use Rattle.decode.specs.Correlator.{Paper, refusal, values, paper, in-range-says, sync-burst-correlation-says}
-use Rattle.decode.specs.Parts.{hear-says, spread-of-says, compare-says}
+use Rattle.decode.specs.Parts.{unsign-zeros-says, spread-of-says, compare-says}
 
 pub decode-sample-only-answer : (sample : Float) (r s : List ℕ) → decode-sample-says sample r → decode-sample-says sample s → r ≡ s
 decode-sample-only-answer sample r s = same-answer
@@ -21,8 +21,8 @@ decode-sample-only-answer sample r s = same-answer
 pub in-range-only-answer : (x : Float) (r s : Bool) → in-range-says x r → in-range-says x s → r ≡ s
 in-range-only-answer x r s = same-answer
 
-pub hear-only-answer : (vs r s : List Float) → hear-says vs r → hear-says vs s → r ≡ s
-hear-only-answer vs r s = same-answer
+pub unsign-zeros-only-answer : (vs r s : List Float) → unsign-zeros-says vs r → unsign-zeros-says vs s → r ≡ s
+unsign-zeros-only-answer vs r s = same-answer
 
 pub spread-of-only-answer : (vs : List Float) (r s : Spread) → spread-of-says vs r → spread-of-says vs s → r ≡ s
 spread-of-only-answer vs r s = same-answer

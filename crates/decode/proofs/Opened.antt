@@ -8,20 +8,20 @@ use Rattle.numbers.specs.Sum.{sumTo}
 use Rattle.numbers.proofs.Below.{none-below}
 use Rattle.protocol.specs.declared.SyncBurst.{SyncBurst}
 use Rattle.protocol.specs.Bursts.{signsOf}
-use Rattle.decode.specs.Correlator.{leastGain, farthest, threshold, noMatch, heard, highest, lowest, gainOf, shiftOf, summed, diffOf, distances, correlation, matches}
+use Rattle.decode.specs.Correlator.{leastGain, farthest, threshold, noMatch, zeroUnsigned, highest, lowest, gainOf, shiftOf, summed, diffOf, distances, correlation, matches}
 
--- the values as they are heard, and their gain and shift
-abbrev pub heardAt : (ℕ → Float) → ℕ → Float
-heardAt v i = heard (v i)
+-- the values with their zeros unsigned, and their gain and shift
+abbrev pub unsignedAt : (ℕ → Float) → ℕ → Float
+unsignedAt v i = zeroUnsigned (v i)
 
 abbrev pub gainAt : (ℕ → Float) → Float
-gainAt v = gainOf (highest (heardAt v) 7) (lowest (heardAt v) 7)
+gainAt v = gainOf (highest (unsignedAt v) 7) (lowest (unsignedAt v) 7)
 
 abbrev pub shiftAt : (ℕ → Float) → Float
-shiftAt v = shiftOf (highest (heardAt v) 7) (lowest (heardAt v) 7)
+shiftAt v = shiftOf (highest (unsignedAt v) 7) (lowest (unsignedAt v) 7)
 
 abbrev pub distanceAt : SyncBurst → (ℕ → Float) → ℕ → Float
-distanceAt b v = distances (signsOf b) (gainAt v) (shiftAt v) (heardAt v)
+distanceAt b v = distances (signsOf b) (gainAt v) (shiftAt v) (unsignedAt v)
 
 pub record Opened (b : SyncBurst) (v : ℕ → Float) : Type 0 where
   pub strong : T (not (lt (gainAt v) leastGain))

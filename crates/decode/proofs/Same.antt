@@ -13,7 +13,7 @@ use Rattle.protocol.specs.declared.SyncBurst.{SyncBurst}
 use Rattle.protocol.specs.Bursts.{signsOf}
 use Rattle.decode.specs.declared.Correlation.{Correlation}
 use Rattle.decode.specs.declared.Spread.{Spread}
-use Rattle.decode.specs.Correlator.{farthest, threshold, heard, highest, lowest, gainOf, shiftOf, distanceOf, summed, diffOf, distances, compared, correlation, matches}
+use Rattle.decode.specs.Correlator.{farthest, threshold, zeroUnsigned, highest, lowest, gainOf, shiftOf, distanceOf, summed, diffOf, distances, compared, correlation, matches}
 use Rattle.decode.specs.Parts.{valuesOf, spreadOf, answerFrom}
 
 module _ (v w : ℕ → Float) where
@@ -40,25 +40,25 @@ module _ (v w : ℕ → Float) where
 pub correlation-same : (burst : SyncBurst) (v w : ℕ → Float) → ((i : ℕ) → i < 8 → v i ≡ w i) → correlation burst v ≡ correlation burst w
 unfolding correlation
 correlation-same burst v w h =
-    let u : ℕ → Float = λ i. heard (v i) in
-    let u′ : ℕ → Float = λ i. heard (w i) in
-    let e : (i : ℕ) → i < 8 → u i ≡ u′ i = λ i l. ap heard (h i l) in
+    let u : ℕ → Float = λ i. zeroUnsigned (v i) in
+    let u′ : ℕ → Float = λ i. zeroUnsigned (w i) in
+    let e : (i : ℕ) → i < 8 → u i ≡ u′ i = λ i l. ap zeroUnsigned (h i l) in
     rw (highest-same u u′ 7 e, lowest-same u u′ 7 e) (compared-same u u′ (signsOf burst) (gainOf (highest u′ 7) (lowest u′ 7)) (shiftOf (highest u′ 7) (lowest u′ 7)) e)
 
 pub matches-same : (burst : SyncBurst) (v w : ℕ → Float) → ((i : ℕ) → i < 8 → v i ≡ w i) → matches burst v ≡ matches burst w
 unfolding matches
 matches-same burst v w h = ap (λ (c : Correlation). lt (c .diff) threshold) (correlation-same burst v w h)
 
--- ---- what is heard of a list's values, by their places
-nan-heard : heard nan ≡ nan
-unfolding heard add
-nan-heard = refl
+-- ---- a list's values with their zeros unsigned, by their places
+nan-unsigned : zeroUnsigned nan ≡ nan
+unfolding zeroUnsigned add
+nan-unsigned = refl
 
-pub heard-values : (vs : List Float) → valuesOf (map heard vs) ≡ (λ (i : ℕ). heard (valuesOf vs i))
-heard-values vs = fun-ext (λ (i : ℕ). rw nan-heard at (List·getD-map heard vs i nan))
+pub unsigned-values : (vs : List Float) → valuesOf (map zeroUnsigned vs) ≡ (λ (i : ℕ). zeroUnsigned (valuesOf vs i))
+unsigned-values vs = fun-ext (λ (i : ℕ). rw nan-unsigned at (List·getD-map zeroUnsigned vs i nan))
 
 -- compared from the spread that the six bursts share, each is its own correlation
-pub six-alike : (burst : SyncBurst) (vs us : List Float) (s : Spread) (r : Correlation) → us ≡ map heard vs → s ≡ spreadOf (valuesOf us) → r ≡ answerFrom burst (valuesOf us) s → r ≡ correlation burst (valuesOf vs)
+pub six-alike : (burst : SyncBurst) (vs us : List Float) (s : Spread) (r : Correlation) → us ≡ map zeroUnsigned vs → s ≡ spreadOf (valuesOf us) → r ≡ answerFrom burst (valuesOf us) s → r ≡ correlation burst (valuesOf vs)
 unfolding correlation
 six-alike burst vs us s r p q e =
-    e ∙ ap (answerFrom burst (valuesOf us)) q ∙ ap (λ (v : ℕ → Float). answerFrom burst v (spreadOf v)) (ap valuesOf p ∙ heard-values vs)
+    e ∙ ap (answerFrom burst (valuesOf us)) q ∙ ap (λ (v : ℕ → Float). answerFrom burst v (spreadOf v)) (ap valuesOf p ∙ unsigned-values vs)

@@ -14,7 +14,7 @@ use Rattle.protocol.specs.declared.SyncBurst.the-variants.{Frame}
 use Rattle.protocol.specs.Bursts.{signsOf, spelled, wordOf, signOf}
 use Rattle.decode.specs.declared.Correlation.{Correlation}
 use Rattle.decode.specs.Slicer.{sliced, outer, outerBelow}
-use Rattle.decode.specs.Correlator.{farthest, heard, highest, lowest, gainOf, shiftOf, symbolOf, distanceOf, distances, summed, diffOf, correlation, matches}
+use Rattle.decode.specs.Correlator.{farthest, zeroUnsigned, highest, lowest, gainOf, shiftOf, symbolOf, distanceOf, distances, summed, diffOf, correlation, matches}
 
 -- a whole number as f32
 abbrev whole : ℕ → Float
@@ -26,7 +26,7 @@ signal k j i = add binary32 (mul binary32 (ofInt binary32 (getD (signsOf (Frame 
 
 -- what they are answered, with all that the answer is computed by
 unfoldable pub answer : Float → Float → Correlation
-unfolding signal correlation heard highest lowest gainOf shiftOf diffOf summed distanceOf symbolOf larger smaller sizeOf anyBelow sumTo signsOf spelled wordOf signOf add mul sub div lt eq ofInt ofBits
+unfolding signal correlation zeroUnsigned highest lowest gainOf shiftOf diffOf summed distanceOf symbolOf larger smaller sizeOf anyBelow sumTo signsOf spelled wordOf signOf add mul sub div lt eq ofInt ofBits
 answer k j = correlation (Frame Lsf) (signal k j)
 
 unfoldable pub found : Float → Float → Bool

@@ -35,8 +35,8 @@ abbrev pub noMatch : Float
 noMatch = ofBits binary32 0x7f7f_ffff
 
 -- "The correlator reads -0.0 as 0.0"
-unfoldable pub heard : Float → Float
-heard value = add binary32 value zero32
+unfoldable pub zeroUnsigned : Float → Float
+zeroUnsigned value = add binary32 value zero32
 
 -- max and min: of v 0, v 1, .. v n
 unfoldable pub highest : (ℕ → Float) → ℕ → Float
@@ -74,14 +74,14 @@ diffOf gain distance = cond (lt gain leastGain) noMatch (summed distance)
 abbrev pub distances : List ℤ → Float → Float → (ℕ → Float) → ℕ → Float
 distances signs gain shift v i = distanceOf gain shift (getD signs i (pos 0)) (v i)
 
--- the answer for eight values as they are heard
+-- the answer for eight values with their zeros unsigned
 abbrev pub compared : List ℤ → (ℕ → Float) → Float → Float → Correlation
 compared signs v gain shift = record { diff = diffOf gain (distances signs gain shift v); gain = gain; shift = shift }
 
 -- ".. still with gain and shift": the whole answer
 unfoldable pub correlation : SyncBurst → (ℕ → Float) → Correlation
 correlation burst v =
-    let u : ℕ → Float = λ i. heard (v i) in
+    let u : ℕ → Float = λ i. zeroUnsigned (v i) in
     compared (signsOf burst) u (gainOf (highest u 7) (lowest u 7)) (shiftOf (highest u 7) (lowest u 7))
 
 -- "The 100.0 threshold shuts out only that value."

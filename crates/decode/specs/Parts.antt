@@ -11,7 +11,7 @@ use Rattle.protocol.specs.Bursts.{signsOf}
 use Rattle.decode.specs.declared.Correlation.{Correlation}
 use Rattle.decode.specs.declared.Spread.{Spread}
 use Rattle.decode.specs.declared.correlator.Span.{Span}
-use Rattle.decode.specs.Correlator.{heard, inRange, highest, lowest, gainOf, shiftOf, compared}
+use Rattle.decode.specs.Correlator.{zeroUnsigned, inRange, highest, lowest, gainOf, shiftOf, compared}
 
 -- the values of a list by their places; beyond its end, not a number
 abbrev pub valuesOf : List Float → ℕ → Float
@@ -29,13 +29,13 @@ spreadFrom e = record { gain = gainOf (e .high) (e .low); shift = shiftOf (e .hi
 abbrev pub spreadOf : (ℕ → Float) → Spread
 spreadOf v = spreadFrom (extremesOf v)
 
--- the answer for eight values that are heard already
+-- the answer for eight values whose zeros have no sign
 abbrev pub answerFrom : SyncBurst → (ℕ → Float) → Spread → Correlation
 answerFrom burst v s = compared (signsOf burst) v (s .gain) (s .shift)
 
 -- ---- what the functions promise
-abbrev pub hear-says : List Float → List Float → Type 0
-hear-says vs r = r ≡ map heard vs
+abbrev pub unsign-zeros-says : List Float → List Float → Type 0
+unsign-zeros-says vs r = r ≡ map zeroUnsigned vs
 
 abbrev pub spread-of-says : List Float → Spread → Type 0
 spread-of-says vs r = r ≡ spreadOf (valuesOf vs)

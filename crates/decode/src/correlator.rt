@@ -7,8 +7,8 @@ use protocol::SyncBurst;
 ghost use mathlib.Core.Path.{_≡_};
 ghost use mathlib.Core.List.{map};
 ghost use lib.ListN.{length};
-ghost use Rattle.decode.specs.Correlator.{heard, distanceOf, summed, distances, in-range-says, sync-burst-correlation-says};
-ghost use Rattle.decode.specs.Parts.{valuesOf, eightInRange, extremesOf, hear-says, spread-of-says, compare-says};
+ghost use Rattle.decode.specs.Correlator.{zeroUnsigned, distanceOf, summed, distances, in-range-says, sync-burst-correlation-says};
+ghost use Rattle.decode.specs.Parts.{valuesOf, eightInRange, extremesOf, unsign-zeros-says, spread-of-says, compare-says};
 
 // No burst matches below it.
 pub const SYNC_MIN_GAIN: f32 = 16.0;
@@ -47,9 +47,9 @@ fn eight_in_range(samples: &[f32]) -> bool
 }
 
 // Document 01 reads -0.0 as 0.0: adding 0.0 does that, and changes no other value.
-fn heard(samples: &[f32]) -> [f32; 8]
+fn unsign_slice(samples: &[f32]) -> [f32; 8]
     requires { ⌜ length (now samples) ≡ 8 ⌝ }
-    ensures { λ r. ⌜ r ≡ map heard (now (samples .entry)) ⌝ }
+    ensures { λ r. ⌜ r ≡ map zeroUnsigned (now (samples .entry)) ⌝ }
 {
     let mut values = [0.0f32; 8];
     let mut i: usize = 0;
@@ -60,11 +60,11 @@ fn heard(samples: &[f32]) -> [f32; 8]
     values
 }
 
-// The eight values as the correlator hears them.
-pub fn hear(values: [f32; 8]) -> [f32; 8]
-    ensures { λ r. ⌜ hear-says values r ⌝ }
+// The eight values as the correlator reads them.
+pub fn unsign_zeros(values: [f32; 8]) -> [f32; 8]
+    ensures { λ r. ⌜ unsign-zeros-says values r ⌝ }
 {
-    heard(&values)
+    unsign_slice(&values)
 }
 
 // The Rust begins with the ends of f32's range, and this with the first value: for values in range that is the same.
@@ -107,7 +107,7 @@ fn summed(target: [i8; 8], values: [f32; 8], gain: f32, shift: f32) -> f32
     diff
 }
 
-// The gain and the shift of eight values as they are heard: the same for every burst.
+// The gain and the shift of eight values with their zeros unsigned: the same for every burst.
 pub fn spread_of(values: [f32; 8]) -> Spread
     ensures { λ r. ⌜ spread-of-says values r ⌝ }
 {
@@ -118,7 +118,7 @@ pub fn spread_of(values: [f32; 8]) -> Spread
     }
 }
 
-// Eight values as they are heard, against one burst, once their gain and shift are known.
+// Eight values with their zeros unsigned, against one burst, once their gain and shift are known.
 pub fn compare(burst: SyncBurst, values: [f32; 8], spread: Spread) -> Correlation
     ensures { λ r. ⌜ compare-says burst values spread r ⌝ }
 {
@@ -146,7 +146,7 @@ pub fn sync_burst_correlation(burst: SyncBurst, samples: &[f32]) -> Correlated
     if !eight_in_range(samples) {
         return Correlated::Refused(Refusal::ValueOutside);
     }
-    let values = heard(samples);
+    let values = unsign_slice(samples);
     let answer = compare(burst, values, spread_of(values));
     Correlated::Answered(answer)
 }

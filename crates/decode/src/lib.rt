@@ -6,10 +6,10 @@ mod slicer;
 
 pub use correlator::SYNC_MIN_GAIN;
 pub use correlator::compare;
-pub use correlator::hear;
 pub use correlator::in_range;
 pub use correlator::spread_of;
 pub use correlator::sync_burst_correlation;
+pub use correlator::unsign_zeros;
 pub use slicer::decode_sample;
 
 pub struct Correlation {

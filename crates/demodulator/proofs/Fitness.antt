@@ -2,7 +2,7 @@
 use mathlib.Core.List.{List, []}
 use mathlib.Core.Path.{_≡_, sym, _∙_}
 use mathlib.Core.Bool.{Bool, true, false, not, cond}
-use Prim.Native.Nat.{ℕ, _+_, _*_, _≤_, _<_}
+use Prim.Native.Nat.{ℕ, _+_, _-_, _*_, _≤_, _<_}
 use native.Mathlib.Nat.{lt-of-lt-of-le}
 use lib.Dec.{T, ltb, eqb, ltb→lt, lit≤}
 use borrow.Author.Tests.{not-true, not-false}
@@ -12,6 +12,7 @@ use lib.Ieee.Bits.{is-true}
 use Rattle.numbers.specs.Below.{allBelow}
 use Rattle.numbers.proofs.Tests.{holds}
 use Rattle.numbers.proofs.Below.{all-below}
+use Rattle.shaping.specs.Rate.{tapCount, ringPlaces}
 use Rattle.decode.specs.Correlator.{inRange}
 use Rattle.search.specs.declared.Waiting.{Waiting}
 use Rattle.search.specs.declared.Wait.{Wait}
@@ -25,32 +26,32 @@ use Rattle.demodulator.specs.Fit.{cursorsFit, recordFit, placesRead, fit
 use Rattle.demodulator.specs.Parts.{TestsRecord}
 
 -- ---- the facts
-pub record RecordFacts (m : SoftDemodulator) : Type 0 where
-  pub window-cursor : m .«filter_cursor» < 81
-  pub ring-cursor : m .«rx_cursor» < 1920
-  pub control : ControlFacts (m .control)
+pub record RecordFacts (p : ℕ) (m : SoftDemodulator) : Type 0 where
+  pub window-cursor : m .«filter_cursor» < tapCount p
+  pub ring-cursor : m .«rx_cursor» < ringPlaces p
+  pub control : ControlFacts p (m .control)
 
-pub record-facts : (m : SoftDemodulator) → recordFit m ≡ true → RecordFacts m
+pub record-facts : (p : ℕ) (m : SoftDemodulator) → recordFit p m ≡ true → RecordFacts p m
 unfolding recordFit
-record-facts m e =
-    let all = both (cursorsFit m) (controlFit 10 (m .control)) (holds e) in
-    let cursors = both (ltb (m .«filter_cursor») 81) (ltb (m .«rx_cursor») 1920) (all .0) in
+record-facts p m e =
+    let all = both (cursorsFit p m) (controlFit p (m .control)) (holds e) in
+    let cursors = both (ltb (m .«filter_cursor») (tapCount p)) (ltb (m .«rx_cursor») (ringPlaces p)) (all .0) in
     record {
-      window-cursor = ltb→lt (m .«filter_cursor») 81 (cursors .0);
-      ring-cursor = ltb→lt (m .«rx_cursor») 1920 (cursors .1);
-      control = control-facts (m .control) (all .1);
+      window-cursor = ltb→lt (m .«filter_cursor») (tapCount p) (cursors .0);
+      ring-cursor = ltb→lt (m .«rx_cursor») (ringPlaces p) (cursors .1);
+      control = control-facts p (m .control) (all .1);
     }
 
 -- ---- what code knows once it has tested a record by its parts
 module _ (windowCursor ringCursor : ℕ) (c : Control) (r : Bool) (tests : TestsRecord windowCursor ringCursor c r) where
-  pub tested-unfit : not r ≡ true → (window : List ℤ) (ring : List Float) → recordFit (assembled window windowCursor ring ringCursor c) ≡ false
+  pub tested-unfit : not r ≡ true → (window : List ℤ) (ring : List Float) → recordFit 10 (assembled window windowCursor ring ringCursor c) ≡ false
   tested-unfit e window ring = sym (tests window ring) ∙ not-true r e
 
-  pub tested-fit : not r ≡ false → (window : List ℤ) (ring : List Float) → recordFit (assembled window windowCursor ring ringCursor c) ≡ true
+  pub tested-fit : not r ≡ false → (window : List ℤ) (ring : List Float) → recordFit 10 (assembled window windowCursor ring ringCursor c) ≡ true
   tested-fit e window ring = sym (tests window ring) ∙ not-false r e
 
   pub tested-inside : not r ≡ false → ringCursor < 1920
-  tested-inside e = record-facts (assembled [] windowCursor [] ringCursor c) (tested-fit e [] []) .ring-cursor
+  tested-inside e = record-facts 10 (assembled [] windowCursor [] ringCursor c) (tested-fit e [] []) .ring-cursor
 
 -- ---- the values that a call would read
 either : (b : Bool) → (7 ≤ cond b 191 7) × (cond b 191 7 ≤ 191)
@@ -62,40 +63,40 @@ places-between Free = (lit≤ tt, lit≤ tt)
 places-between (Due w) = either (eqb (w .left) 1)
 
 -- the tests that a sample's value and a reply's must pass, by the value's place in their order
-abbrev sampleTest : SoftDemodulator → ℕ → Bool
-sampleTest m j = inRange (back m (10 * j + 9))
+abbrev sampleTest : ℕ → SoftDemodulator → ℕ → Bool
+sampleTest p m j = inRange (back p m (p * j + (p - 1)))
 
-abbrev replyTest : SoftDemodulator → ℕ → Bool
-replyTest m j = inRange (back m (10 * j))
+abbrev replyTest : ℕ → SoftDemodulator → ℕ → Bool
+replyTest p m j = inRange (back p m (p * j))
 
-module _ (m : SoftDemodulator) (fit : fitForSample m ≡ true) where
-  sample-both : T (recordFit m) × T (allBelow (placesRead (m .control .wait)) (sampleTest m))
+module _ (p : ℕ) (m : SoftDemodulator) (fit : fitForSample p m ≡ true) where
+  sample-both : T (recordFit p m) × T (allBelow (placesRead (m .control .wait)) (sampleTest p m))
   unfolding fitForSample
-  sample-both = both (recordFit m) (allBelow (placesRead (m .control .wait)) (sampleTest m)) (holds fit)
+  sample-both = both (recordFit p m) (allBelow (placesRead (m .control .wait)) (sampleTest p m)) (holds fit)
 
-  pub sample-record : recordFit m ≡ true
-  sample-record = is-true (recordFit m) (sample-both .0)
+  pub sample-record : recordFit p m ≡ true
+  sample-record = is-true (recordFit p m) (sample-both .0)
 
-  pub sample-places : (j : ℕ) → j < placesRead (m .control .wait) → T (inRange (back m (10 * j + 9)))
-  sample-places = all-below (placesRead (m .control .wait)) (sampleTest m) (sample-both .1)
+  pub sample-places : (j : ℕ) → j < placesRead (m .control .wait) → T (inRange (back p m (p * j + (p - 1))))
+  sample-places = all-below (placesRead (m .control .wait)) (sampleTest p m) (sample-both .1)
 
   -- the seven of a search
-  pub sample-seven : (j : ℕ) → j < 7 → T (inRange (back m (10 * j + 9)))
+  pub sample-seven : (j : ℕ) → j < 7 → T (inRange (back p m (p * j + (p - 1))))
   sample-seven j l = sample-places j (lt-of-lt-of-le l (places-between (m .control .wait) .0))
 
   -- and all the others of a window that is due
-  pub sample-window : (w : Waiting) → m .control .wait ≡ Due w → w .left ≡ 1 → (j : ℕ) → j < 191 → T (inRange (back m (10 * j + 9)))
+  pub sample-window : (w : Waiting) → m .control .wait ≡ Due w → w .left ≡ 1 → (j : ℕ) → j < 191 → T (inRange (back p m (p * j + (p - 1))))
   sample-window w due one j l =
       let n : placesRead (m .control .wait) ≡ 191 = rw (due, one) in
       sample-places j (rw n l)
 
-module _ (m : SoftDemodulator) (fit : fitForReply m ≡ true) where
-  reply-both : T (recordFit m) × T (allBelow 8 (replyTest m))
+module _ (p : ℕ) (m : SoftDemodulator) (fit : fitForReply p m ≡ true) where
+  reply-both : T (recordFit p m) × T (allBelow 8 (replyTest p m))
   unfolding fitForReply
-  reply-both = both (recordFit m) (allBelow 8 (replyTest m)) (holds fit)
+  reply-both = both (recordFit p m) (allBelow 8 (replyTest p m)) (holds fit)
 
-  pub reply-record : recordFit m ≡ true
-  reply-record = is-true (recordFit m) (reply-both .0)
+  pub reply-record : recordFit p m ≡ true
+  reply-record = is-true (recordFit p m) (reply-both .0)
 
-  pub reply-eight : (j : ℕ) → j < 8 → T (inRange (back m (10 * j)))
-  reply-eight = all-below 8 (replyTest m) (reply-both .1)
+  pub reply-eight : (j : ℕ) → j < 8 → T (inRange (back p m (p * j)))
+  reply-eight = all-below 8 (replyTest p m) (reply-both .1)

@@ -4,14 +4,14 @@ pub mod Readers
 -- what a fit record is known to be
 pub mod Fitness
 -- a call by what applies
-pub mod Demodulating
+pub mod CallCases
 -- what a step leaves
-pub mod Stepping
+pub mod StepTurn
 -- what a reply hands to a search
-pub mod Replying
+pub mod ReplySearch
 -- each promise fixes its answer
 pub mod OnlyAnswer
 -- a stretch of samples, one by one
-pub mod Feeding
+pub mod FeedSteps
 -- small instances of the laws of the step: what they ask can be met
 pub mod StepInstances

@@ -26,7 +26,7 @@ once paper unwritten back r s e = sym (back r) ∙ ap unwritten e ∙ back s
 pub heard : Paper → Heard
 heard (refusal n) = HeardRefused (numbered n)
 heard nothing = Quiet
-heard (frame kind d) = Offered (record { kind = kind; sample = d })
+heard (frame o) = Offered o
 heard done = Quiet
 heard (carrier there) = Quiet
 
@@ -39,7 +39,7 @@ heard-back (Offered o) = refl
 replied : Paper → Replied
 replied (refusal n) = ReplyRefused (numbered n)
 replied nothing = Done
-replied (frame kind d) = Done
+replied (frame o) = Done
 replied done = Done
 replied (carrier there) = Done
 
@@ -51,7 +51,7 @@ replied-back Done = refl
 detected : Paper → Carrier
 detected (refusal n) = CarrierRefused (numbered n)
 detected nothing = Detected false
-detected (frame kind d) = Detected false
+detected (frame o) = Detected false
 detected done = Detected false
 detected (carrier there) = Detected there
 

@@ -1,51 +1,36 @@
--- The ring's reader: once a value is stored it is the newest, and each other value is one sample older. Assumes nothing.
+-- The ring's reader: once a value is stored it is the newest, and each other value is one sample older. At every rate. Assumes nothing.
 use mathlib.Core.Path.{_≡_, ap, _∙_}
 use mathlib.Core.List.{List}
-use Prim.Native.Nat.{ℕ, suc, _+_, _-_, _*_, _%_, _<_}
+use Prim.Native.Nat.{ℕ, suc, _+_, _-_, _*_, _≤_, _<_}
+use native.Mathlib.Nat.{mul-le-mul-left}
 use native.Mathlib.Omega.{arith}
 use lib.IntN.{ℤ}
-use lib.ListN.{length, getD, set}
-use lib.Seq.{getD-set-same, getD-set-other}
+use lib.ListN.{length, getD}
 use lib.Ieee.{Float, nan}
 use Rattle.numbers.specs.Firsts.{firsts}
 use Rattle.numbers.proofs.Firsts.{firsts-at}
+use Rattle.numbers.proofs.Ring.{newest-back, older-back}
+use Rattle.shaping.specs.Rate.{Rate, ringPlaces}
 use Rattle.demodulator.specs.declared.SoftDemodulator.{SoftDemodulator}
 use Rattle.demodulator.specs.Spans.{eight}
-use Rattle.demodulator.specs.Record.{ringBack, back, filteredAfter, stored}
+use Rattle.demodulator.specs.Record.{back, filteredAfter, stored}
 
--- ---- places
-newest-place : (cursor : ℕ) → cursor < 1920 → ((cursor + 1) % 1920 + 1919) % 1920 ≡ cursor
-newest-place cursor h = omega arith
-
-older-place : (cursor j : ℕ) → cursor < 1920 → j < 1919 → ((cursor + 1) % 1920 + (1919 - suc j)) % 1920 ≡ (cursor + (1919 - j)) % 1920
-older-place cursor j h l = omega arith
-
-other-place : (cursor j : ℕ) → cursor < 1920 → j < 1919 → (cursor + (1919 - j)) % 1920 ≡ cursor → ⊥
-other-place cursor j h l e = omega arith
-
--- ---- values
-module _ (ring : List Float) (cursor : ℕ) (x : Float) (inside : cursor < 1920) where
-  pub newest : length ring ≡ 1920 → ringBack (set ring cursor x) ((cursor + 1) % 1920) 0 ≡ x
-  newest full = rw (newest-place cursor inside) (getD-set-same ring cursor x nan (omega arith))
-
-  pub older : (j : ℕ) → j < 1919 → ringBack (set ring cursor x) ((cursor + 1) % 1920) (suc j) ≡ ringBack ring cursor j
-  older j l = rw (older-place cursor j inside l) (getD-set-other ring cursor ((cursor + (1919 - j)) % 1920) x nan (other-place cursor j inside l))
-
-module _ (m : SoftDemodulator) (x : ℤ) (inside : m .«rx_cursor» < 1920) where
-  pub stored-newest : length (m .«rx_win») ≡ 1920 → back (stored m x) 0 ≡ filteredAfter m x
+module _ (R : Rate) (m : SoftDemodulator) (x : ℤ) (inside : m .«rx_cursor» < ringPlaces (R .p)) where
+  pub stored-newest : ringPlaces (R .p) ≤ length (m .«rx_win») → back (R .p) (stored R m x) 0 ≡ filteredAfter R m x
   unfolding stored
-  stored-newest full = newest (m .«rx_win») (m .«rx_cursor») (filteredAfter m x) inside full
+  stored-newest long = newest-back (ringPlaces (R .p)) nan (m .«rx_win») (m .«rx_cursor») (filteredAfter R m x) inside long
 
-  pub stored-older : (j : ℕ) → j < 1919 → back (stored m x) (suc j) ≡ back m j
+  pub stored-older : (j : ℕ) → j + 1 < ringPlaces (R .p) → back (R .p) (stored R m x) (j + 1) ≡ back (R .p) m j
   unfolding stored
-  stored-older j l = older (m .«rx_win») (m .«rx_cursor») (filteredAfter m x) inside j l
+  stored-older j l = older-back (ringPlaces (R .p)) nan (m .«rx_win») (m .«rx_cursor») (filteredAfter R m x) inside j l
 
-  -- the values that are 10, 20, .. samples old then are 9, 19, .. samples old now
-  pub stored-tens : (j : ℕ) → j < 191 → back (stored m x) (10 * suc j) ≡ back m (10 * j + 9)
-  stored-tens j l =
-      let e : 10 * suc j ≡ suc (10 * j + 9) = omega arith in
-      ap (back (stored m x)) e ∙ stored-older (10 * j + 9) (omega arith)
+  -- the values that are p, 2p, .. samples old then are p - 1, 2p - 1, .. samples old now
+  pub stored-symbols : 0 < R .p → (j : ℕ) → j < 191 → back (R .p) (stored R m x) (R .p * suc j) ≡ back (R .p) m (R .p * j + (R .p - 1))
+  stored-symbols some j l =
+      let u : R .p * suc j ≤ R .p * 191 = mul-le-mul-left (R .p) l in
+      let e : R .p * suc j ≡ (R .p * j + (R .p - 1)) + 1 = omega arith in
+      ap (back (R .p) (stored R m x)) e ∙ stored-older (R .p * j + (R .p - 1)) (omega arith)
 
 -- ---- the eight values, as a list holds them
-pub eight-at : (values : List Float) (v : ℕ → Float) → values ≡ firsts (eight 10 v) 8 → (i : ℕ) → i < 8 → getD values i nan ≡ eight 10 v i
-eight-at values v e i l = ap (λ (vs : List Float). getD vs i nan) e ∙ firsts-at (eight 10 v) 8 i nan l
+pub eight-at : (p : ℕ) (values : List Float) (v : ℕ → Float) → values ≡ firsts (eight p v) 8 → (i : ℕ) → i < 8 → getD values i nan ≡ eight p v i
+eight-at p values v e i l = ap (λ (vs : List Float). getD vs i nan) e ∙ firsts-at (eight p v) 8 i nan l

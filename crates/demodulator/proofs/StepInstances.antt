@@ -10,13 +10,13 @@ use lib.ListN.{length, replicate, length-replicate}
 use lib.Ieee.{Float, nan, ofBits, lt, le}
 use Rattle.numbers.specs.Below.{allBelow}
 use Rattle.numbers.specs.Firsts.{firsts}
+use Rattle.shaping.specs.Rate.{at48}
 use Rattle.decode.specs.Correlator.{inRange}
 use Rattle.decode.specs.Parts.{valuesOf}
 use Rattle.search.specs.declared.Turn.the-variants.{Look}
 use Rattle.search.specs.Search.{searched}
-use Rattle.search.specs.Turn.{counted}
+use Rattle.search.specs.Turn.{counted, waitedTurn}
 use Rattle.search.specs.Fit.{candidateFit, waitFit, controlFit}
-use Rattle.search.specs.Turns.{waitedTurn}
 use Rattle.search.specs.Promises.{turn-of-says}
 use Rattle.demodulator.specs.declared.SoftDemodulator.{SoftDemodulator}
 use Rattle.demodulator.specs.declared.Heard.the-variants.{Quiet}
@@ -27,10 +27,10 @@ use Rattle.demodulator.specs.Fit.{recordFit, fitForSample}
 use Rattle.demodulator.specs.Calls.{demod-says}
 use Rattle.demodulator.specs.Parts.{Stores}
 use Rattle.demodulator.specs.Steps.{Accepts}
-use Rattle.demodulator.proofs.Stepping.{accepts-inside, seen, looks}
+use Rattle.demodulator.proofs.StepTurn.{accepts-inside, seen, looks}
 
 -- ---- a fresh record, a room and a sample
-pub fresh-for-sample : fitForSample fresh ≡ true
+pub fresh-for-sample : fitForSample 10 fresh ≡ true
 unfolding fresh fitForSample recordFit controlFit candidateFit waitFit allBelow inRange ofBits le lt
 fresh-for-sample = refl
 
@@ -49,23 +49,23 @@ accepts-inside-meets : (0 < 81) × (0 < 1920)
 accepts-inside-meets = accepts-inside fresh-accepts
 
 abbrev after : SoftDemodulator
-after = stored fresh (pos 1)
+after = stored at48 fresh (pos 1)
 
 fresh-stores : Stores (fresh .«filter_win») 0 (fresh .«rx_win») 0 (pos 1) (after .«filter_win») (after .«rx_win»)
 unfolding fresh stored
 fresh-stores c = refl
 
 abbrev values : List Float
-values = firsts (eight 10 (back after)) 8
+values = firsts (eight 10 (back 10 after)) 8
 
 abbrev start : Places
 start = record { «filter_cursor» = 0; «rx_cursor» = 0 }
 
-values-held : values ≡ firsts (eight 10 (back (assembled (after .«filter_win») 1 (after .«rx_win») 1 freshControl))) 8
+values-held : values ≡ firsts (eight 10 (back 10 (assembled (after .«filter_win») 1 (after .«rx_win») 1 freshControl))) 8
 unfolding fresh stored
 values-held = refl
 
-seen-meets : valuesOf values 7 ≡ back after 0
+seen-meets : valuesOf values 7 ≡ back 10 after 0
 unfolding fresh
 seen-meets = seen (fresh .«filter_win») (after .«filter_win») (fresh .«rx_win») (after .«rx_win») start freshControl (pos 1) fresh-stores values values-held 7 (lit< tt)
 

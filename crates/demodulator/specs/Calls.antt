@@ -1,4 +1,4 @@
--- What each call answers, and what it leaves: the record, and the room for symbols. Assumes nothing.
+-- What each call answers at a rate, and what it leaves: the record, and the room for symbols. Assumes nothing.
 use mathlib.Core.Path.{_≡_}
 use mathlib.Core.Bool.{Bool, true, false, not, cond}
 use mathlib.Core.List.{List, []}
@@ -8,13 +8,15 @@ use lib.IntN.{ℤ}
 use lib.ListN.{length}
 use lib.Ieee.{Float}
 use Rattle.numbers.specs.Firsts.{written}
-use Rattle.protocol.specs.declared.Kind.{Kind}
+use Rattle.shaping.specs.Rate.{Rate, at48}
 use Rattle.protocol.specs.Refusals.{paperNumber}
 use Rattle.search.specs.declared.Timer.{Timer}
 use Rattle.search.specs.declared.Timer.the-variants.{Off, Until}
+use Rattle.search.specs.declared.Shown.{Shown}
 use Rattle.search.specs.declared.Reply.{Reply}
 use Rattle.search.specs.Turn.{Outcome, quiet, offer, sampled, replied}
 use Rattle.demodulator.specs.declared.SoftDemodulator.{SoftDemodulator}
+use Rattle.demodulator.specs.declared.Offer.{Offer}
 use Rattle.demodulator.specs.declared.Heard.{Heard}
 use Rattle.demodulator.specs.declared.Heard.the-variants.{Refused as HeardRefused, Quiet, Offered}
 use Rattle.demodulator.specs.declared.Replied.{Replied}
@@ -31,14 +33,22 @@ use Rattle.demodulator.specs.Fit.{recordFit, fitForSample, fitForReply}
 pub data Paper : Type 0 where
   refusal : ℕ → Paper
   nothing : Paper
-  frame : Kind → ℕ → Paper
+  frame : Offer → Paper
   done : Paper
   carrier : Bool → Paper
+
+-- "Every refusal returns its number only"
+abbrev pub isRefusal : Paper → Bool
+isRefusal (refusal number) = true
+isRefusal nothing = false
+isRefusal (frame o) = false
+isRefusal done = false
+isRefusal (carrier held) = false
 
 abbrev pub heardPaper : Heard → Paper
 heardPaper (HeardRefused why) = refusal (paperNumber why)
 heardPaper Quiet = nothing
-heardPaper (Offered o) = frame (o .kind) (o .sample)
+heardPaper (Offered o) = frame o
 
 abbrev pub repliedPaper : Replied → Paper
 repliedPaper (ReplyRefused why) = refusal (paperNumber why)
@@ -59,37 +69,37 @@ abbrev pub refused : ℕ → SoftDemodulator → List Float → Left
 refused number m room = record { answer = refusal number; demodulator = m; room = room }
 
 -- ---- a sample
--- "the kind, the sample number d, and symbol i": "Symbol room is written only by an offer, first 192 places only"
-abbrev pub finished : SoftDemodulator → List Float → Outcome → Left
-finished m room (quiet c) = record { answer = nothing; demodulator = withControl c m; room = room }
-finished m room (offer kind gain shift c) = record {
-  answer = frame kind (c .sample);
-  demodulator = withControl c m;
-  room = written (symbolAt 10 gain shift (back m)) 192 room;
-}
+-- "the kind, the sample number d"
+abbrev pub offerOf : Shown → ℕ → Offer
+offerOf shown d = record { kind = shown .kind; sample = d }
 
-unfoldable pub taken : SoftDemodulator → ℤ → List Float → Left
-taken m x room = finished (stored m x) room (sampled 10 (eight 10 (back (stored m x))) (m .control))
+-- ".. and symbol i": "Symbol room is written only by an offer, first 192 places only"
+abbrev pub finished : ℕ → SoftDemodulator → List Float → Outcome → Left
+finished p m room (quiet c) = record { answer = nothing; demodulator = withControl c m; room = room }
+finished p m room (offer shown c) = record { answer = frame (offerOf shown (c .sample)); demodulator = withControl c m; room = written (symbolAt p shown (back p m)) 192 room }
+
+unfoldable pub admittedBy : Rate → SoftDemodulator → ℤ → List Float → Left
+admittedBy R m x room = finished (R .p) (stored R m x) room (sampled (R .p) (eight (R .p) (back (R .p) (stored R m x))) (m .control))
 
 -- 1 "record unfit"; 2 "sample given while a reply is owed"; 4 "room for symbols below 192 (checked on every sample)"; 5 "sample given at count 2^63"; the smallest first
-unfoldable pub demodulated : SoftDemodulator → ℤ → List Float → Left
-demodulated m x room =
-    cond (not (fitForSample m)) (refused 1 m room)
+unfoldable pub demodulated : Rate → SoftDemodulator → ℤ → List Float → Left
+demodulated R m x room =
+    cond (not (fitForSample (R .p) m)) (refused 1 m room)
     (cond (m .control .owed) (refused 2 m room)
     (cond (ltb (length room) 192) (refused 4 m room)
     (cond (eqb (m .control .sample) (2 ^ 63)) (refused 5 m room)
-    (taken m x room))))
+    (admittedBy R m x room))))
 
 -- ---- a reply
-abbrev pub settled : SoftDemodulator → Reply → SoftDemodulator
-settled m reply = withControl (replied 10 (eight 10 (back m)) reply (m .control)) m
+abbrev pub replyLeaves : ℕ → SoftDemodulator → Reply → SoftDemodulator
+replyLeaves p m reply = withControl (replied p (eight p (back p m)) reply (m .control)) m
 
 -- 1 "record unfit"; 3 "reply given while none is owed"
-unfoldable pub answered : SoftDemodulator → Reply → List Float → Left
-answered m reply room =
-    cond (not (fitForReply m)) (refused 1 m room)
+unfoldable pub answered : ℕ → SoftDemodulator → Reply → List Float → Left
+answered p m reply room =
+    cond (not (fitForReply p m)) (refused 1 m room)
     (cond (not (m .control .owed)) (refused 3 m room)
-    (record { answer = done; demodulator = settled m reply; room = room }))
+    (record { answer = done; demodulator = replyLeaves p m reply; room = room }))
 
 -- ---- the carrier
 -- "Carrier detect is yes exactly while the timer is held."
@@ -97,21 +107,21 @@ abbrev pub timerHeld : Timer → Bool
 timerHeld Off = false
 timerHeld (Until end) = true
 
-unfoldable pub detected : SoftDemodulator → Paper
-detected m = cond (not (recordFit m)) (refusal 1) (carrier (timerHeld (m .control .dcd)))
+unfoldable pub detected : ℕ → SoftDemodulator → Paper
+detected p m = cond (not (recordFit p m)) (refusal 1) (carrier (timerHeld (m .control .dcd)))
 
--- ---- what the functions promise
+-- ---- what the functions promise, at 48 kHz
 abbrev pub new-says : SoftDemodulator → Type 0
 new-says r = r ≡ fresh
 
 pub record demod-says (m : SoftDemodulator) (x : ℤ) (room : List Float) (r : AfterSample) (after : List Float) : Type 0 where
-  pub answers : heardPaper (r .answer) ≡ demodulated m x room .answer
-  pub leaves : r .demodulator ≡ demodulated m x room .demodulator
-  pub writes : after ≡ demodulated m x room .room
+  pub answers : heardPaper (r .answer) ≡ demodulated at48 m x room .answer
+  pub leaves : r .demodulator ≡ demodulated at48 m x room .demodulator
+  pub writes : after ≡ demodulated at48 m x room .room
 
 pub record reply-says (m : SoftDemodulator) (reply : Reply) (r : AfterReply) : Type 0 where
-  pub answers : repliedPaper (r .answer) ≡ answered m reply [] .answer
-  pub leaves : r .demodulator ≡ answered m reply [] .demodulator
+  pub answers : repliedPaper (r .answer) ≡ answered (at48 .p) m reply [] .answer
+  pub leaves : r .demodulator ≡ answered (at48 .p) m reply [] .demodulator
 
 abbrev pub data-carrier-detect-says : SoftDemodulator → Carrier → Type 0
-data-carrier-detect-says m r = carrierPaper r ≡ detected m
+data-carrier-detect-says m r = carrierPaper r ≡ detected (at48 .p) m

@@ -6,6 +6,7 @@ use Prim.Native.Nat.{ℕ, _+_}
 use lib.Dec.{eqb}
 use lib.IntN.{ℤ}
 use lib.Ieee.{Float}
+use Rattle.shaping.specs.Rate.{Rate, at48}
 use Rattle.demodulator.specs.declared.SoftDemodulator.{SoftDemodulator}
 use Rattle.demodulator.specs.declared.Heard.{Heard}
 use Rattle.demodulator.specs.declared.Heard.the-variants.{Refused, Quiet, Offered}
@@ -29,7 +30,7 @@ stopsBefore why n s room = record { answer = cond (eqb n 0) why nothing; fed = n
 -- one that would be refused does not go in (and a sample is never answered as a reply or a carrier query is)
 unfoldable pub goesOn : {S : Type 0} → Paper → (before last rest : Stretch S) → Stretch S
 goesOn nothing before last rest = rest
-goesOn (frame kind d) before last rest = last
+goesOn (frame o) before last rest = last
 goesOn (refusal number) before last rest = before
 goesOn done before last rest = before
 goesOn (carrier there) before last rest = before
@@ -51,17 +52,17 @@ module _ (S : Type 0) (said : S → ℤ → List Float → Paper) (next : S → 
   fed fit s (x ∷ xs) room = fedFrom 0 s (x ∷ xs) room
 
 -- ---- the record
-abbrev pub sampleSaid : SoftDemodulator → ℤ → List Float → Paper
-sampleSaid m x room = demodulated m x room .answer
+abbrev pub sampleSaid : Rate → SoftDemodulator → ℤ → List Float → Paper
+sampleSaid R m x room = demodulated R m x room .answer
 
-abbrev pub sampleNext : SoftDemodulator → ℤ → List Float → SoftDemodulator
-sampleNext m x room = demodulated m x room .demodulator
+abbrev pub sampleNext : Rate → SoftDemodulator → ℤ → List Float → SoftDemodulator
+sampleNext R m x room = demodulated R m x room .demodulator
 
-abbrev pub sampleRoom : SoftDemodulator → ℤ → List Float → List Float
-sampleRoom m x room = demodulated m x room .room
+abbrev pub sampleRoom : Rate → SoftDemodulator → ℤ → List Float → List Float
+sampleRoom R m x room = demodulated R m x room .room
 
-abbrev pub fedInto : SoftDemodulator → List ℤ → List Float → Stretch SoftDemodulator
-fedInto = fed SoftDemodulator sampleSaid sampleNext sampleRoom recordFit
+abbrev pub fedInto : Rate → SoftDemodulator → List ℤ → List Float → Stretch SoftDemodulator
+fedInto R = fed SoftDemodulator (sampleSaid R) (sampleNext R) (sampleRoom R) (recordFit (R .p))
 
 -- ---- an answer, as the code looks at it
 abbrev pub isQuiet : Heard → Bool
@@ -81,10 +82,10 @@ toldAfter n (Offered o) = Offered o
 
 -- ---- what the function promises
 pub record feed-says (m : SoftDemodulator) (xs : List ℤ) (room : List Float) (r : AfterStretch) (after : List Float) : Type 0 where
-  pub answers : heardPaper (r .answer) ≡ fedInto m xs room .answer
-  pub counts : r .fed ≡ fedInto m xs room .fed
-  pub leaves : r .demodulator ≡ fedInto m xs room .state
-  pub writes : after ≡ fedInto m xs room .room
+  pub answers : heardPaper (r .answer) ≡ fedInto at48 m xs room .answer
+  pub counts : r .fed ≡ fedInto at48 m xs room .fed
+  pub leaves : r .demodulator ≡ fedInto at48 m xs room .state
+  pub writes : after ≡ fedInto at48 m xs room .room
 
 abbrev pub FeedsNothing : SoftDemodulator → AfterStretch → Type 0
 FeedsNothing m r = (room : List Float) → feed-says m [] room r room

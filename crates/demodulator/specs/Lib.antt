@@ -4,5 +4,6 @@ pub mod Record
 pub mod Fit
 pub mod Parts
 pub mod Calls
+pub mod Singles
 pub mod Feed
 pub mod Steps

@@ -1,11 +1,11 @@
--- The receiver's record: its two rings, and how the rules read them. Places and cursors are here, and in the first clause of fitness. Assumes nothing.
+-- The receiver's record: its two rings, and how the rules read them at a rate. Places and cursors are here, and in the first clause of fitness. Assumes nothing.
 use mathlib.Core.List.{List}
 use mathlib.Core.Bool.{false}
 use Prim.Native.Nat.{ℕ, _+_, _-_, _%_}
 use lib.IntN.{ℤ, pos}
 use lib.ListN.{getD, set, replicate}
 use lib.Ieee.{Float, nan, binary32, ofBits}
-use Rattle.shaping.specs.Taps.{taps}
+use Rattle.shaping.specs.Rate.{Rate, at48, tapCount, ringPlaces}
 use Rattle.shaping.specs.Sum.{dot, sampleAt}
 use Rattle.search.specs.declared.Candidate.the-variants.{Nothing}
 use Rattle.search.specs.declared.Wait.the-variants.{Free}
@@ -19,9 +19,9 @@ freshControl = record { candidate = Nothing; wait = Free; dcd = Off; owed = fals
 -- "Samples before the first are 0. F(k) is 0.0 for k below 1."
 unfoldable pub fresh : SoftDemodulator
 fresh = record {
-  «filter_win» = replicate 81 (pos 0);
+  «filter_win» = replicate (tapCount (at48 .p)) (pos 0);
   «filter_cursor» = 0;
-  «rx_win» = replicate 1920 (ofBits binary32 0);
+  «rx_win» = replicate (ringPlaces (at48 .p)) (ofBits binary32 0);
   «rx_cursor» = 0;
   control = freshControl;
 }
@@ -45,25 +45,30 @@ assembled window windowCursor ring ringCursor c = record {
   control = c;
 }
 
--- the filtered value j samples ago, 0 the newest, for j below 1,920: the newest lies before the ring's cursor (what `getD` gives past the end is never read)
-abbrev pub ringBack : List Float → ℕ → ℕ → Float
-ringBack ring cursor j = getD ring ((cursor + (1919 - j)) % 1920) nan
+-- ---- the two rings at p samples a symbol
+-- the filtered value j samples ago, 0 the newest, for j below the ring's places: the newest lies before the ring's cursor (what `getD` gives past the end is never read)
+abbrev pub ringBack : ℕ → List Float → ℕ → ℕ → Float
+ringBack p ring cursor j = getD ring ((cursor + (ringPlaces p - 1 - j)) % ringPlaces p) nan
 
-abbrev pub back : SoftDemodulator → ℕ → Float
-back m = ringBack (m .«rx_win») (m .«rx_cursor»)
+abbrev pub back : ℕ → SoftDemodulator → ℕ → Float
+back p m = ringBack p (m .«rx_win») (m .«rx_cursor»)
+
+-- the window's samples by their age, the oldest 0
+abbrev pub view : ℕ → SoftDemodulator → ℕ → ℤ
+view p m i = getD (m .«filter_win») ((m .«filter_cursor» + i) % tapCount p) (pos 0)
 
 -- "store": the sample goes to the window's cursor, and the window's tap sum to the ring's
 abbrev pub windowAfter : SoftDemodulator → ℤ → List ℤ
 windowAfter m x = set (m .«filter_win») (m .«filter_cursor») x
 
-abbrev pub filteredAfter : SoftDemodulator → ℤ → Float
-filteredAfter m x = dot taps (sampleAt (windowAfter m x) ((m .«filter_cursor» + 1) % 81))
+abbrev pub filteredAfter : Rate → SoftDemodulator → ℤ → Float
+filteredAfter R m x = dot (R .taps) (sampleAt (R .p) (windowAfter m x) ((m .«filter_cursor» + 1) % tapCount (R .p)))
 
-unfoldable pub stored : SoftDemodulator → ℤ → SoftDemodulator
-stored m x = record {
+unfoldable pub stored : Rate → SoftDemodulator → ℤ → SoftDemodulator
+stored R m x = record {
   «filter_win» = windowAfter m x;
-  «filter_cursor» = (m .«filter_cursor» + 1) % 81;
-  «rx_win» = set (m .«rx_win») (m .«rx_cursor») (filteredAfter m x);
-  «rx_cursor» = (m .«rx_cursor» + 1) % 1920;
+  «filter_cursor» = (m .«filter_cursor» + 1) % tapCount (R .p);
+  «rx_win» = set (m .«rx_win») (m .«rx_cursor») (filteredAfter R m x);
+  «rx_cursor» = (m .«rx_cursor» + 1) % ringPlaces (R .p);
   control = m .control;
 }

@@ -6,6 +6,7 @@ use Prim.Native.Nat.{_^_, _≤_, _<_}
 use lib.IntN.{ℤ}
 use lib.ListN.{length}
 use lib.Ieee.{Float}
+use Rattle.shaping.specs.Rate.{at48}
 use Rattle.protocol.specs.declared.Refusal.{Refusal}
 use Rattle.search.specs.declared.Control.{Control}
 use Rattle.demodulator.specs.declared.Heard.the-variants.{Refused}
@@ -17,7 +18,7 @@ use Rattle.demodulator.specs.Calls.{demod-says}
 
 -- nothing refuses the sample
 pub record Accepts (window : List ℤ) (ring : List Float) (at : Places) (c : Control) (room : List Float) : Type 0 where
-  pub fit : fitForSample (assembled window (at .«filter_cursor») ring (at .«rx_cursor») c) ≡ true
+  pub fit : fitForSample (at48 .p) (assembled window (at .«filter_cursor») ring (at .«rx_cursor») c) ≡ true
   pub no-reply : c .owed ≡ false
   pub room-enough : 192 ≤ length room
   pub count : c .sample < 2 ^ 63

@@ -1,4 +1,5 @@
 // The receiver's two rings: the window of the filter, and the filtered values.
+use search::Shown;
 ghost use mathlib.Core.Path.{_≡_};
 ghost use Prim.Native.Nat.{_*_, _+_, _%_, _<_, _≤_};
 ghost use lib.ListN.{length};
@@ -20,7 +21,7 @@ fn wrapped(place: usize) -> usize
 // The filtered value of so many samples ago, 0 for the newest, which lies before the cursor.
 fn value_back(ring: &[f32; 1920], cursor: usize, ago: usize) -> f32
     requires { ⌜ (cursor < 1920) × (ago < 1920) ⌝ }
-    ensures { λ r. ⌜ r ≡ ringBack (now (ring .entry)) cursor ago ⌝ }
+    ensures { λ r. ⌜ r ≡ ringBack 10 (now (ring .entry)) cursor ago ⌝ }
 {
     let at = wrapped(cursor + (1919 - ago));
     ring[at]
@@ -29,7 +30,7 @@ fn value_back(ring: &[f32; 1920], cursor: usize, ago: usize) -> f32
 // The eight values of the correlator, the oldest first.
 pub(crate) fn eight(ring: &[f32; 1920], cursor: usize) -> [f32; 8]
     requires { ⌜ cursor < 1920 ⌝ }
-    ensures { λ r. ⌜ r ≡ firsts (eight 10 (ringBack (now (ring .entry)) cursor)) 8 ⌝ }
+    ensures { λ r. ⌜ r ≡ firsts (eight 10 (ringBack 10 (now (ring .entry)) cursor)) 8 ⌝ }
 {
     let mut values = [0.0f32; 8];
     let mut i: usize = 0;
@@ -49,7 +50,7 @@ pub(crate) fn places_in_range(
     count: usize,
 ) -> bool
     requires { ⌜ (cursor < 1920) × (newest ≤ 9) × (count ≤ 191) ⌝ }
-    ensures { λ r. ⌜ r ≡ allBelow count (λ j. inRange (ringBack (now (ring .entry)) cursor (10 * j + newest))) ⌝ }
+    ensures { λ r. ⌜ r ≡ allBelow count (λ j. inRange (ringBack 10 (now (ring .entry)) cursor (10 * j + newest))) ⌝ }
 {
     let mut all = true;
     let mut j: usize = 0;
@@ -62,20 +63,14 @@ pub(crate) fn places_in_range(
 }
 
 // The symbols of a due frame.
-pub(crate) fn write_window(
-    ring: &[f32; 1920],
-    cursor: usize,
-    gain: f32,
-    shift: f32,
-    room: &mut [f32],
-)
+pub(crate) fn write_window(ring: &[f32; 1920], cursor: usize, shown: Shown, room: &mut [f32])
     requires { ⌜ (cursor < 1920) × (192 ≤ length (now room)) ⌝ }
-    ensures { λ _. ⌜ now (room .exit) ≡ written (symbolAt 10 gain shift (ringBack (now (ring .entry)) cursor)) 192 (now (room .entry)) ⌝ }
+    ensures { λ _. ⌜ now (room .exit) ≡ written (symbolAt 10 shown (ringBack 10 (now (ring .entry)) cursor)) 192 (now (room .entry)) ⌝ }
 {
     let mut i: usize = 0;
     while i < 192 {
         let ago = 10 * (191 - i);
-        room[i] = (value_back(ring, cursor, ago) - shift) / gain;
+        room[i] = (value_back(ring, cursor, ago) - shown.shift) / shown.gain;
         i += 1;
     }
 }

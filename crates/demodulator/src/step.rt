@@ -53,12 +53,11 @@ fn advance(
             control: rested,
         },
         Turn::Offer {
-            kind,
-            gain,
-            shift,
+            shown,
             control: owing,
         } => {
-            ring::write_window(&*rx_win, rx_next, gain, shift, room);
+            ring::write_window(&*rx_win, rx_next, shown, room);
+            let kind = shown.kind;
             Stepped {
                 answer: Heard::Offered(Offer {
                     kind,

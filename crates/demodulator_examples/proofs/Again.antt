@@ -12,6 +12,8 @@ use lib.Ieee.{Float, binary32, ofBits, ofInt, add, mul}
 use Rattle.numbers.specs.Sum.{nought, sumTo}
 use Rattle.numbers.proofs.Tests.{lt-or-le}
 use Rattle.numbers.proofs.Firsts.{firsts-at}
+use Rattle.shaping.specs.Rate.{at48}
+use Rattle.shaping.proofs.RateFacts.{facts48}
 use Rattle.shaping.specs.Taps.{taps}
 use Rattle.shaping.specs.Sum.{dot}
 use Rattle.shaping.proofs.Dot.{dot-same}
@@ -20,7 +22,7 @@ use Rattle.protocol.specs.declared.SyncBurst.the-variants.{Frame}
 use Rattle.decode.proofs.Same.{matches-same}
 use Rattle.demodulator_run.specs.Filter.{sampleNo, filtered}
 use Rattle.demodulator_run.specs.Demands.{earOf}
-use Rattle.demodulator_run.proofs.Hearing.{filtered-taken}
+use Rattle.demodulator_run.proofs.EarLaws.{filtered-taken}
 use Rattle.demodulator_run.proofs.Sixteen.{taps-size}
 use Rattle.demodulator_examples.proofs.Steps.{Hits}
 use Rattle.demodulator_examples.proofs.Table.{pause, listed}
@@ -85,7 +87,7 @@ module _ (S : Sketch) where
   still : (m : ℕ) → 153 ≤ m → m ≤ 1972 → filtered taps 10 twice m ≡ nought
   unfolding filtered
   still zero a b = refl
-  still (suc k) a b = dot-same taps _ _ (λ i l. ap (ofInt binary32) (sample-zero ((suc k + i) - 8 * 10) (omega arith) (let t = taps-size in omega arith))) ∙ silence
+  still (suc k) a b = dot-same taps _ _ (λ i l. ap (ofInt binary32) (sample-zero ((suc k + i) - 8 * 10) (omega arith) (let t = (taps-size at48 facts48) in omega arith))) ∙ silence
 
   moved : (m k : ℕ) → 1972 < m → m ≤ 2045 → k ≡ m - 1972 → filtered taps 10 twice m ≡ filtered taps 10 begun k
   unfolding filtered
@@ -93,7 +95,7 @@ module _ (S : Sketch) where
   moved (suc m) zero a b e = absurd (omega arith)
   moved (suc m) (suc k) a b e =
       dot-same taps _ _ λ i l. ap (ofInt binary32)
-      (sample-again ((suc m + i) - 8 * 10) (omega arith) (let t = taps-size in omega arith)
+      (sample-again ((suc m + i) - 8 * 10) (omega arith) (let t = (taps-size at48 facts48) in omega arith)
       ∙ ap (sampleNo begun) {x = ((suc m + i) - 8 * 10) - 1972} {y = (suc k + i) - 8 * 10} (omega arith))
 
   start-value : filtered taps 10 begun 0 ≡ nought
@@ -109,7 +111,7 @@ module _ (S : Sketch) where
   -- ---- what is heard
   hears-again : (n : ℕ) → 223 ≤ n → n ≤ 2045 → (i : ℕ) → earOf taps 10 twice n i ≡ listed (S .table) (n - 1972) i
   hears-again n a b i =
-      filtered-taken taps 10 taps-size n twice (n - 10 * (7 - i)) (omega arith)
+      filtered-taken taps 10 (taps-size at48 facts48) n twice (n - 10 * (7 - i)) (omega arith)
       ∙ again (n - 10 * (7 - i)) (omega arith) (omega arith)
       ∙ ap (filtered taps 10 begun) {x = (n - 10 * (7 - i)) - 1972} {y = (n - 1972) - 10 * (7 - i)} (omega arith)
       ∙ sym (firsts-at (filtered taps 10 begun) 74 ((n - 1972) - 10 * (7 - i)) nought (omega arith))

@@ -16,9 +16,11 @@ use Rattle.protocol.specs.declared.SyncBurst.the-variants.{Frame}
 use Rattle.decode.specs.declared.Correlation.{Correlation}
 use Rattle.decode.specs.Correlator.{correlation}
 use Rattle.search.specs.declared.Timer.the-variants.{Until}
-use Rattle.demodulator_run.specs.Marks.{logAll}
-use Rattle.demodulator_run.specs.Demands.{at, In, Started, DueAt, Shown, shownAt, dueMark, Cause, Corner, Replaces, Ear, DueBy, LiesAt}
-use Rattle.demodulator_run.proofs.Listing.{no→⊥}
+use Rattle.search.specs.declared.Shown.{Shown}
+use Rattle.search.specs.TakenBurst.{aged}
+use Rattle.demodulator_run.specs.Marks.{logAll, FellDue}
+use Rattle.demodulator_run.specs.Demands.{at, In, Started, DueAt, shownAt, Cause, Corner, Replaces, Ear, DueBy, LiesAt, takenAt}
+use Rattle.demodulator_run.proofs.KindOrder.{no→⊥}
 use Rattle.demodulator_run.proofs.Demand48.{due-once-48, due-from-48, symbol-zero-48}
 use Rattle.demodulator_run.proofs.Pass.{Step, pass-lost, pass-hit}
 use Rattle.demodulator_examples.proofs.Table.{listed}
@@ -37,18 +39,17 @@ one-burst-span = spans oneBurst
 pub one-burst-span-sharp : (d : ℕ) × DueAt (logAll taps 10 (calls oneBurst)) d × (71 + 1839 ≤ d) × (d ≤ 71 + 1849)
 one-burst-span-sharp = spans-sharp oneBurst
 
-pub one-burst-due : In (dueMark 1911 (shownAt (shaped oneBurst) Stream 71)) (logAll taps 10 (calls oneBurst))
+pub one-burst-due : In (FellDue 1911 (shownAt (shaped oneBurst) Stream 71)) (logAll taps 10 (calls oneBurst))
 one-burst-due =
-    let m : Correlation = at (shaped oneBurst) Stream 71 in
-    due-mark oneBurst Stream 1 (m .diff) (m .gain) (m .shift) 1839 (lit≤ tt) (lit≤ tt)
-    (λ t. (Until (72 + 384 * 10), ap (λ (s : Step). s .control) (pass-lost 10 (λ i. at (shaped oneBurst) i 72) t false 72 1 (m .diff) (m .gain) (m .shift) Stream)))
+    due-mark oneBurst (takenAt (shaped oneBurst) Stream 71) 1839 (lit≤ tt) (lit≤ tt)
+    (λ t. (Until (72 + 384 * 10), ap (λ (s : Step). s .control) (pass-lost 10 (λ i. at (shaped oneBurst) i 72) t false 72 (takenAt (shaped oneBurst) Stream 71))))
 
 -- it is the only one of the span, and comes from that candidate
 pub one-burst-once : (d : ℕ) → DueAt (logAll taps 10 (calls oneBurst)) d → 71 + 1839 ≤ d → d ≤ 71 + 1879 → d ≡ 1911
-one-burst-once d i a b = due-once-48 (calls oneBurst) (sampled oneBurst) 71 d 1911 i (Stream, _, _, one-burst-due) a b (lit≤ tt) (lit≤ tt)
+one-burst-once d i a b = due-once-48 (calls oneBurst) (sampled oneBurst) 71 d 1911 i (_, one-burst-due) a b (lit≤ tt) (lit≤ tt)
 
 pub one-burst-from : (n : ℕ) × Started (logAll taps 10 (calls oneBurst)) n × (n + 1839 ≤ 1911) × (1911 ≤ n + 1849)
-one-burst-from = due-from-48 (calls oneBurst) (sampled oneBurst) 1911 (Stream, _, _, one-burst-due)
+one-burst-from = due-from-48 (calls oneBurst) (sampled oneBurst) 1911 (_, one-burst-due)
 
 module _ (S : Sketch) (d : ℕ) (w : Shown) where
   -- the candidate of the frame, as the rule gives it
@@ -58,7 +59,7 @@ module _ (S : Sketch) (d : ℕ) (w : Shown) where
     pub kind : from .kind ≡ S .kind
     pub s : from .s ≡ 72
 
-  pub known : d ≤ 1911 → In (dueMark d w) (logAll taps 10 (calls S)) → Known
+  pub known : d ≤ 1911 → In (FellDue d w) (logAll taps 10 (calls S)) → Known
   known l i =
       let C = cause S d w i in
       record { from = C; b = taken-at-71 S d w l C; kind = sym (of-kind S d w l C); s = failed-at-72 S d w l C }
@@ -91,11 +92,10 @@ earlier-above =
     ∙ ap (λ (c : Correlation). lt (correlation (Frame Stream) (listed (earlierLarger .table) 71) .diff) (c .diff)) (correlates earlierLarger 72 (lit≤ tt) Lsf)
     ∙ larger-diff
 
-pub corner-due : In (dueMark 1910 (shownAt (shaped earlierLarger) Stream 71)) (logAll taps 10 (calls earlierLarger))
+pub corner-due : In (FellDue 1910 (shownAt (shaped earlierLarger) Stream 71)) (logAll taps 10 (calls earlierLarger))
 corner-due =
-    let m : Correlation = at (shaped earlierLarger) Stream 71 in
-    due-mark earlierLarger Stream 2 (m .diff) (m .gain) (m .shift) 1838 (lit≤ tt) (lit≤ tt)
-    (λ t. (Until (72 + 384 * 10), ap (λ (s : Step). s .control) (pass-hit 10 (λ i. at (shaped earlierLarger) i 72) t false 72 1 (m .diff) (m .gain) (m .shift) Lsf Stream true earlier-above)))
+    due-mark earlierLarger (aged (takenAt (shaped earlierLarger) Stream 71)) 1838 (lit≤ tt) (lit≤ tt)
+    (λ t. (Until (72 + 384 * 10), ap (λ (s : Step). s .control) (pass-hit 10 (λ i. at (shaped earlierLarger) i 72) t false 72 (takenAt (shaped earlierLarger) Stream 71) Lsf true earlier-above)))
 
 pub corner-rule : (K : Known earlierLarger 1910 (shownAt (shaped earlierLarger) Stream 71)) × Corner (shaped earlierLarger) (K .from .b) (K .from .kind) (K .from .s)
 corner-rule =
@@ -117,12 +117,10 @@ later-not-above =
     ∙ ap (λ (c : Correlation). lt (correlation (Frame Lsf) (listed (laterSmaller .table) 71) .diff) (c .diff)) (correlates laterSmaller 72 (lit≤ tt) Stream)
     ∙ smaller-diff
 
-pub replaced-due : In (dueMark 1911 (shownAt (shaped laterSmaller) Stream 72)) (logAll taps 10 (calls laterSmaller))
+pub replaced-due : In (FellDue 1911 (shownAt (shaped laterSmaller) Stream 72)) (logAll taps 10 (calls laterSmaller))
 replaced-due =
-    let m : Correlation = at (shaped laterSmaller) Lsf 71 in
-    let w : Correlation = at (shaped laterSmaller) Stream 72 in
-    due-mark laterSmaller Stream 1 (w .diff) (w .gain) (w .shift) 1839 (lit≤ tt) (lit≤ tt)
-    (λ t. (Until (72 + 384 * 10), ap (λ (s : Step). s .control) (pass-hit 10 (λ i. at (shaped laterSmaller) i 72) t false 72 1 (m .diff) (m .gain) (m .shift) Stream Lsf false later-not-above)))
+    due-mark laterSmaller (takenAt (shaped laterSmaller) Stream 72) 1839 (lit≤ tt) (lit≤ tt)
+    (λ t. (Until (72 + 384 * 10), ap (λ (s : Step). s .control) (pass-hit 10 (λ i. at (shaped laterSmaller) i 72) t false 72 (takenAt (shaped laterSmaller) Lsf 71) Stream false later-not-above)))
 
 pub replaced-rule : (K : Known laterSmaller 1911 (shownAt (shaped laterSmaller) Stream 72)) × Replaces (shaped laterSmaller) 71 Lsf 72 Stream
 replaced-rule =

@@ -14,7 +14,7 @@ use Rattle.shaping.specs.Sum.{dot}
 use Rattle.protocol.specs.Bursts.{signsOf}
 use Rattle.protocol.specs.declared.Kind.the-variants.{Lsf, Stream}
 use Rattle.protocol.specs.declared.SyncBurst.the-variants.{Frame}
-use Rattle.decode.specs.Correlator.{heard, highest, lowest, gainOf, shiftOf, symbolOf, distanceOf, summed, diffOf, correlation, matches}
+use Rattle.decode.specs.Correlator.{zeroUnsigned, highest, lowest, gainOf, shiftOf, symbolOf, distanceOf, summed, diffOf, correlation, matches}
 use Rattle.search.specs.Search.{sameKind}
 use Rattle.demodulator_run.specs.Filter.{sampleNo, filtered}
 use Rattle.demodulator_examples.proofs.Table.{allSixteen, listed, matched, silent}
@@ -46,19 +46,19 @@ unfolding front table firsts filtered sampleNo dot sumTo taps ofBits ofInt add m
 tabled = refl
 
 passes : T (tested front (negsuc 66) (pos 195) table Stream (sameKind Lsf))
-unfolding tested front allSixteen allBelow matched table ofBits matches correlation diffOf summed sumTo distanceOf symbolOf shiftOf gainOf highest lowest heard larger smaller sizeOf add sub mul div lt eq neg ofInt signsOf anyBelow
+unfolding tested front allSixteen allBelow matched table ofBits matches correlation diffOf summed sumTo distanceOf symbolOf shiftOf gainOf highest lowest zeroUnsigned larger smaller sizeOf add sub mul div lt eq neg ofInt signsOf anyBelow
 passes = tt
 
 pub facts : Fits front (negsuc 66) (pos 195) table Stream (sameKind Lsf)
 facts = fits front (negsuc 66) (pos 195) table Stream (sameKind Lsf) passes
 
 pub over : T (silent table 73)
-unfolding matched table ofBits matches correlation diffOf summed sumTo distanceOf symbolOf shiftOf gainOf highest lowest heard larger smaller sizeOf add sub mul div lt eq neg ofInt signsOf anyBelow
+unfolding matched table ofBits matches correlation diffOf summed sumTo distanceOf symbolOf shiftOf gainOf highest lowest zeroUnsigned larger smaller sizeOf add sub mul div lt eq neg ofInt signsOf anyBelow
 over = tt
 
 -- the second diff is above the first
 pub diffs : lt (correlation (Frame Stream) (listed table 71) .diff) (correlation (Frame Lsf) (listed table 72) .diff) ≡ true
-unfolding table ofBits matches correlation diffOf summed sumTo distanceOf symbolOf shiftOf gainOf highest lowest heard larger smaller sizeOf add sub mul div lt eq neg ofInt signsOf anyBelow
+unfolding table ofBits matches correlation diffOf summed sumTo distanceOf symbolOf shiftOf gainOf highest lowest zeroUnsigned larger smaller sizeOf add sub mul div lt eq neg ofInt signsOf anyBelow
 diffs = refl
 
 abbrev pub earlierLarger : Sketch

@@ -9,6 +9,7 @@ use lib.IntN.{ℤ}
 use lib.ListN.{length}
 use lib.Ieee.{Float}
 use lib.Ieee.Bits.{is-false}
+use Rattle.machine.specs.Runs.{run, Each}
 use Rattle.shaping.specs.Taps.{taps}
 use Rattle.search.specs.declared.Reply.the-variants.{Accepted}
 use Rattle.search.specs.Turn.{Outcome, quiet, offer, owing, sampled, replied}
@@ -16,8 +17,8 @@ use Rattle.demodulator.specs.Spans.{eight}
 use Rattle.demodulator.specs.Calls.{done}
 use Rattle.demodulator_laws.proofs.SampleFits.{controlOf}
 use Rattle.demodulator_run.specs.Filter.{ago}
-use Rattle.demodulator_run.specs.Rules.{Single, sample, reply, Heard, After, refused, settled, accepted, given, answered, single, heardFrom}
-use Rattle.demodulator_run.specs.Run.{Callable, Sampled}
+use Rattle.demodulator_run.specs.Rules.{Single, sample, reply, History, After, refused, settled, admitted, given, answered, single, singleRules}
+use Rattle.demodulator_run.specs.Run.{Callable}
 use Rattle.demodulator_run.specs.Stretch.{Sixteen}
 use Rattle.demodulator_run.proofs.Count.{sampled-count}
 use Rattle.demodulator_run.proofs.Worked.{room}
@@ -37,14 +38,14 @@ unfolding fed
 fed-split xs x ys = fed-append xs (x ∷ ys)
 
 -- ---- i16s
-pub fed-sampled : (xs : List ℤ) → Sixteen xs → Sampled (fed xs)
-unfolding fed Sixteen Sampled Callable
+pub fed-sampled : (xs : List ℤ) → Sixteen xs → Each Callable (fed xs)
+unfolding fed Sixteen Each Callable
 fed-sampled [] s = tt
 fed-sampled (x ∷ xs) s = (s .0, (tt, fed-sampled xs (s .1)))
 
 -- ---- one sample and its reply
-abbrev pub next : Heard → ℤ → Heard
-next h x = single taps 10 (single taps 10 h (sample x room) .heard) (reply Accepted) .heard
+abbrev pub next : History → ℤ → History
+next h x = single taps 10 (single taps 10 h (sample x room) .history) (reply Accepted) .history
 
 -- what is heard when the newest is x
 abbrev pub eightAt : List ℤ → ℕ → Float
@@ -53,47 +54,42 @@ eightAt xs = eight 10 (ago taps 10 xs)
 pub not-full : (n : ℕ) → n < 2 ^ 63 → eqb n (2 ^ 63) ≡ false
 not-full n l = is-false (eqb n (2 ^ 63)) (not-T (eqb n (2 ^ 63)) (λ u. let e : n ≡ 2 ^ 63 = eqb→eq n (2 ^ 63) u in omega arith))
 
-pub taken-in : (h : Heard) (x : ℤ) → h .control .owed ≡ false → h .control .sample < 2 ^ 63 → single taps 10 h (sample x room) ≡ accepted taps 10 h x room
+pub taken-in : (h : History) (x : ℤ) → h .control .owed ≡ false → h .control .sample < 2 ^ 63 → single taps 10 h (sample x room) ≡ admitted taps 10 h x room
 unfolding single given
 taken-in h x o l = rw (o, not-full (h .control .sample) l)
 
-replied-in : (h : Heard) → single taps 10 h (reply Accepted) .heard ≡ record { samples = h .samples; control = owing false (h .control) }
+replied-in : (h : History) → single taps 10 h (reply Accepted) .history ≡ record { samples = h .samples; control = owing false (h .control) }
 unfolding single answered replied
 replied-in h = go (h .control .owed) refl
   where
     go : (b : Bool) → h .control .owed ≡ b
         → (cond (not b) (refused 3 [] h) (record {
           said = record { answer = done; room = [] };
-          heard = record { samples = h .samples; control = owing false (h .control) };
-        })) .heard ≡ record { samples = h .samples; control = owing false (h .control) }
+          history = record { samples = h .samples; control = owing false (h .control) };
+        })) .history ≡ record { samples = h .samples; control = owing false (h .control) }
     go true e = refl
     go false e = ap (λ (b : Bool). record { samples = h .samples; control = owing b (h .control) }) e
 
-pub settled-heard : (xs : List ℤ) (o : Outcome) → settled taps 10 xs room o .heard ≡ record { samples = xs; control = controlOf o }
+pub settled-heard : (xs : List ℤ) (o : Outcome) → settled taps 10 xs room o .history ≡ record { samples = xs; control = controlOf o }
 unfolding settled
 settled-heard xs (quiet c) = refl
-settled-heard xs (offer kind gain shift c) = refl
+settled-heard xs (offer shown c) = refl
 
-pub next-is : (h : Heard) (x : ℤ) → h .control .owed ≡ false → h .control .sample < 2 ^ 63
+pub next-is : (h : History) (x : ℤ) → h .control .owed ≡ false → h .control .sample < 2 ^ 63
     → next h x ≡ record { samples = h .samples ++ (x ∷ []); control = owing false (controlOf (sampled 10 (eightAt (h .samples ++ (x ∷ []))) (h .control))) }
 next-is h x o l =
-    replied-in (single taps 10 h (sample x room) .heard)
-    ∙ ap (λ (g : Heard). record { samples = g .samples; control = owing false (g .control) })
-    (ap (λ (a : After). a .heard) (taken-in h x o l) ∙ settled-heard (h .samples ++ (x ∷ [])) (sampled 10 (eightAt (h .samples ++ (x ∷ []))) (h .control)))
+    replied-in (single taps 10 h (sample x room) .history)
+    ∙ ap (λ (g : History). record { samples = g .samples; control = owing false (g .control) })
+    (ap (λ (a : After). a .history) (taken-in h x o l) ∙ settled-heard (h .samples ++ (x ∷ [])) (sampled 10 (eightAt (h .samples ++ (x ∷ []))) (h .control)))
 
 -- ---- all of them
-pub heard-append : (cs ds : List Single) (h : Heard) → heardFrom taps 10 h (cs ++ ds) ≡ heardFrom taps 10 (heardFrom taps 10 h cs) ds
-unfolding heardFrom
-heard-append [] ds h = refl
-heard-append (c ∷ cs) ds h = heard-append cs ds (single taps 10 h c .heard)
-
-pub fed-heard : (xs : List ℤ) (h : Heard) → h .control .owed ≡ false → h .control .sample + length xs ≤ 2 ^ 63 → heardFrom taps 10 h (fed xs) .samples ≡ h .samples ++ xs
-unfolding heardFrom fed
+pub fed-heard : (xs : List ℤ) (h : History) → h .control .owed ≡ false → h .control .sample + length xs ≤ 2 ^ 63 → run (singleRules taps 10) h (fed xs) .samples ≡ h .samples ++ xs
+unfolding run fed
 fed-heard [] h o l = sym (append-nil (h .samples))
 fed-heard (x ∷ xs) h o l =
     let e = next-is h x o (omega arith) in
     let count : next h x .control .sample ≡ h .control .sample + 1 =
-    ap (λ (g : Heard). g .control .sample) e ∙ sampled-count 10 (eightAt (h .samples ++ (x ∷ []))) (h .control) in
-    fed-heard xs (next h x) (ap (λ (g : Heard). g .control .owed) e) (omega arith)
-    ∙ ap (λ (g : Heard). g .samples ++ xs) e
+    ap (λ (g : History). g .control .sample) e ∙ sampled-count 10 (eightAt (h .samples ++ (x ∷ []))) (h .control) in
+    fed-heard xs (next h x) (ap (λ (g : History). g .control .owed) e) (omega arith)
+    ∙ ap (λ (g : History). g .samples ++ xs) e
     ∙ append-assoc (h .samples) (x ∷ []) xs

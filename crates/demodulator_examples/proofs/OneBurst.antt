@@ -12,7 +12,7 @@ use Rattle.shaping.specs.Taps.{taps}
 use Rattle.shaping.specs.Sum.{dot}
 use Rattle.protocol.specs.Bursts.{signsOf}
 use Rattle.protocol.specs.declared.Kind.the-variants.{Stream}
-use Rattle.decode.specs.Correlator.{heard, highest, lowest, gainOf, shiftOf, symbolOf, distanceOf, summed, diffOf, correlation, matches}
+use Rattle.decode.specs.Correlator.{zeroUnsigned, highest, lowest, gainOf, shiftOf, symbolOf, distanceOf, summed, diffOf, correlation, matches}
 use Rattle.demodulator_run.specs.Filter.{sampleNo, filtered}
 use Rattle.demodulator_examples.proofs.Steps.{none}
 use Rattle.demodulator_examples.proofs.Table.{allSixteen, matched, silent}
@@ -44,14 +44,14 @@ unfolding front table firsts filtered sampleNo dot sumTo taps ofBits ofInt add m
 tabled = refl
 
 passes : T (tested front (negsuc 0) (pos 0) table Stream none)
-unfolding tested front allSixteen allBelow matched table ofBits matches correlation diffOf summed sumTo distanceOf symbolOf shiftOf gainOf highest lowest heard larger smaller sizeOf add sub mul div lt eq neg ofInt signsOf anyBelow
+unfolding tested front allSixteen allBelow matched table ofBits matches correlation diffOf summed sumTo distanceOf symbolOf shiftOf gainOf highest lowest zeroUnsigned larger smaller sizeOf add sub mul div lt eq neg ofInt signsOf anyBelow
 passes = tt
 
 pub facts : Fits front (negsuc 0) (pos 0) table Stream none
 facts = fits front (negsuc 0) (pos 0) table Stream none passes
 
 pub over : T (silent table 73)
-unfolding matched table ofBits matches correlation diffOf summed sumTo distanceOf symbolOf shiftOf gainOf highest lowest heard larger smaller sizeOf add sub mul div lt eq neg ofInt signsOf anyBelow
+unfolding matched table ofBits matches correlation diffOf summed sumTo distanceOf symbolOf shiftOf gainOf highest lowest zeroUnsigned larger smaller sizeOf add sub mul div lt eq neg ofInt signsOf anyBelow
 over = tt
 
 abbrev pub oneBurst : Sketch

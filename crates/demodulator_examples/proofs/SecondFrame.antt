@@ -12,27 +12,30 @@ use lib.ListN.{length, length-append}
 use lib.Ieee.Bits.{is-true}
 use Rattle.numbers.proofs.Tests.{holds, lt-or-le}
 use Rattle.numbers.proofs.Below.{all-below}
+use Rattle.machine.specs.Runs.{run, Each}
+use Rattle.machine.proofs.Parts.{run-joined}
 use Rattle.shaping.specs.Taps.{taps}
 use Rattle.protocol.specs.declared.Kind.{Kind}
-use Rattle.decode.specs.declared.Correlation.{Correlation}
-use Rattle.search.specs.declared.Candidate.the-variants.{Nothing, Held}
+use Rattle.search.specs.declared.Candidate.the-variants.{Nothing}
 use Rattle.search.specs.declared.Wait.the-variants.{Free}
 use Rattle.search.specs.declared.Timer.{Timer}
 use Rattle.search.specs.declared.Timer.the-variants.{Until}
+use Rattle.search.specs.declared.Shown.{Shown}
+use Rattle.search.specs.TakenBurst.{TakenBurst, heldAs}
 use Rattle.search.specs.Search.{sameKind}
 use Rattle.search.specs.Turn.{counted, offered}
-use Rattle.demodulator_run.specs.Rules.{Heard, start, heardFrom, heardAll}
-use Rattle.demodulator_run.specs.Run.{Sampled}
-use Rattle.demodulator_run.specs.Marks.{First, logAll}
-use Rattle.demodulator_run.specs.Demands.{Ear, earOf, at, In, Shown, shownAt, dueMark, Cause, Matches}
+use Rattle.demodulator_run.specs.Rules.{History, start, historyAll, singleRules}
+use Rattle.demodulator_run.specs.Marks.{First, logAll, FellDue}
+use Rattle.demodulator_run.specs.Demands.{Ear, earOf, at, In, shownAt, Cause, Matches, takenAt}
 use Rattle.demodulator_run.specs.Exact.{OfferedAt, lastSample}
 use Rattle.demodulator_run.specs.Stretch.{Sixteen}
-use Rattle.demodulator_run.proofs.Listing.{no→⊥, same-self, same→≡}
+use Rattle.demodulator_run.specs.Run.{Callable}
+use Rattle.demodulator_run.proofs.KindOrder.{no→⊥, same-self, same→≡}
 use Rattle.demodulator_run.proofs.Demand.{fedAll}
 use Rattle.demodulator_run.proofs.Demand48.{due-cause-48, due-offered-48}
 use Rattle.demodulator_run.proofs.Pass.{Step, controlled, pass-lost}
 use Rattle.demodulator_run.proofs.Sixteen.{sixteen-append}
-use Rattle.demodulator_examples.proofs.Fed.{fed, fed-append, fed-sampled, next, heard-append}
+use Rattle.demodulator_examples.proofs.Fed.{fed, fed-append, fed-sampled, next}
 use Rattle.demodulator_examples.proofs.Steps.{standing, Hits, none, next-due, quiet-run}
 use Rattle.demodulator_examples.proofs.Table.{pause, pause-split, pause-suc, pause-length, listed, silent, hits-matched, hits-listed, silent-listed}
 use Rattle.demodulator_examples.proofs.Burst.{one-more, ear-all, fed-all, marked-after, part72, length71, before-due, falls-due}
@@ -53,7 +56,7 @@ module _ (S : Sketch) (gives : offered (S .kind) ≡ true) (fades : Hits (listed
   both-sixteen : Sixteen both
   both-sixteen = subst Sixteen (sym same) (sixteen-append (samples S) (samples S) (sixteen S) (sixteen S))
 
-  pub both-sampled : Sampled (fed both)
+  pub both-sampled : Each Callable (fed both)
   both-sampled = fed-sampled both both-sixteen
 
   both-number : length both ≡ 3944
@@ -78,8 +81,8 @@ module _ (S : Sketch) (gives : offered (S .kind) ≡ true) (fades : Hits (listed
   goes : pause 1900 ++ samples S ≡ pause 1838 ++ (pos 0 ∷ (pause 61 ++ samples S))
   goes = ap (λ (l : List ℤ). l ++ samples S) (pause-split 1838 62 ∙ ap (λ (l : List ℤ). pause 1838 ++ l) (pause-suc 61)) ∙ append-assoc (pause 1838) (pos 0 ∷ pause 61) (samples S)
 
-  abbrev m : Correlation
-  m = at hear (S .kind) 71
+  abbrev held71 : TakenBurst
+  held71 = takenAt hear (S .kind) 71
 
   abbrev first72 : List ℤ
   first72 = (S .front ++ (S .x ∷ [])) ++ (S .y ∷ [])
@@ -87,20 +90,20 @@ module _ (S : Sketch) (gives : offered (S .kind) ≡ true) (fades : Hits (listed
   abbrev upToDue : List ℤ
   upToDue = first72 ++ pause 1838
 
-  waits : (t : Timer) × (heardAll taps 10 (fed upToDue) ≡ standing upToDue (Held (S .kind) 1 (m .diff) (m .gain) (m .shift)) lastSample t 1910)
+  waits : (t : Timer) × (historyAll taps 10 (fed upToDue) ≡ standing upToDue (heldAs held71) lastSample t 1910)
   waits =
-      before-due (S .front) (S .x) (S .y) (pause 1900 ++ samples S) (S .facts .seventy) both-sixteen few none-before (S .kind) at-71 none at-72 (Held (S .kind) 1 (m .diff) (m .gain) (m .shift)) 1839
-      (λ t. (Until (72 + 384 * 10), ap (λ (s : Step). s .control) (pass-lost 10 (λ i. at hear i 72) t false 72 1 (m .diff) (m .gain) (m .shift) (S .kind))))
+      before-due (S .front) (S .x) (S .y) (pause 1900 ++ samples S) (S .facts .seventy) both-sixteen few none-before (S .kind) at-71 none at-72 (heldAs held71) 1839
+      (λ t. (Until (72 + 384 * 10), ap (λ (s : Step). s .control) (pass-lost 10 (λ i. at hear i 72) t false 72 held71)))
       (pause 1838) (pos 0) (pause 61 ++ samples S) goes (let n = pause-length 1838 in omega arith) (lit≤ tt)
 
   -- ---- the frame is offered and accepted; nothing is held until the burst comes again
   abbrev offered1911 : List ℤ
   offered1911 = upToDue ++ (pos 0 ∷ [])
 
-  after-offer : (t : Timer) × (heardAll taps 10 (fed offered1911) ≡ standing offered1911 Nothing Free t 1911)
+  after-offer : (t : Timer) × (historyAll taps 10 (fed offered1911) ≡ standing offered1911 Nothing Free t 1911)
   after-offer =
       let (t, e) = waits in
-      (_, one-more upToDue (pos 0) ∙ ap (λ (h : Heard). next h (pos 0)) e ∙ next-due upToDue (pos 0) 1910 (lit< tt) (S .kind) 1 (m .diff) (m .gain) (m .shift) t gives)
+      (_, one-more upToDue (pos 0) ∙ ap (λ (h : History). next h (pos 0)) e ∙ next-due upToDue (pos 0) 1910 (lit< tt) held71 t gives)
 
   length-offered : length offered1911 ≡ 1911
   length-offered =
@@ -132,12 +135,12 @@ module _ (S : Sketch) (gives : offered (S .kind) ≡ true) (fades : Hits (listed
   abbrev upTo2042 : List ℤ
   upTo2042 = offered1911 ++ between
 
-  rests : (t : Timer) × (heardAll taps 10 (fed upTo2042) ≡ standing upTo2042 Nothing Free t 2042)
+  rests : (t : Timer) × (historyAll taps 10 (fed upTo2042) ≡ standing upTo2042 Nothing Free t 2042)
   rests =
       let (t, e) = after-offer in
       let (u, f) = quiet-run both between offered1911 (S .x ∷ S .y ∷ pause 1900) t 1911 length-offered rest-split (let n = length-between in omega arith) (λ n a b. silent-again n a (let l = length-between in omega arith)) in (
         u,
-        ap (heardFrom taps 10 start) (fed-append offered1911 between) ∙ heard-append (fed offered1911) (fed between) start ∙ ap (λ (h : Heard). heardFrom taps 10 h (fed between)) e ∙ f
+        ap (run (singleRules taps 10) start) (fed-append offered1911 between) ∙ run-joined (singleRules taps 10) (fed offered1911) (fed between) start ∙ ap (λ (h : History). run (singleRules taps 10) h (fed between)) e ∙ f
             ∙ ap (λ (n : ℕ). standing upTo2042 Nothing Free u (1911 + n)) length-between,
       )
 
@@ -162,9 +165,9 @@ module _ (S : Sketch) (gives : offered (S .kind) ≡ true) (fades : Hits (listed
   pub first-frame : OfferedAt taps 10 1911 (shownAt hear (S .kind) 71) (fed both)
   first-frame =
       due-offered-48 (fed both) both-sampled 1911 (shownAt hear (S .kind) 71) gives
-      (falls-due (S .front) (S .x) (S .y) (pause 1900 ++ samples S) (S .facts .seventy) both-sixteen few none-before (S .kind) at-71 none at-72 (Held (S .kind) 1 (m .diff) (m .gain) (m .shift)) 1839
-      (λ t. (Until (72 + 384 * 10), ap (λ (s : Step). s .control) (pass-lost 10 (λ i. at hear i 72) t false 72 1 (m .diff) (m .gain) (m .shift) (S .kind))))
-      (pause 1838) (pos 0) (pause 61 ++ samples S) goes (let n = pause-length 1838 in omega arith) (lit≤ tt) (S .kind) 1 (m .diff) (m .gain) (m .shift) refl)
+      (falls-due (S .front) (S .x) (S .y) (pause 1900 ++ samples S) (S .facts .seventy) both-sixteen few none-before (S .kind) at-71 none at-72 (heldAs held71) 1839
+      (λ t. (Until (72 + 384 * 10), ap (λ (s : Step). s .control) (pass-lost 10 (λ i. at hear i 72) t false 72 held71)))
+      (pause 1838) (pos 0) (pause 61 ++ samples S) goes (let n = pause-length 1838 in omega arith) (lit≤ tt) held71 refl)
 
   module _ (d : ℕ) (w : Shown) (C : Cause hear 10 (logAll taps 10 (fed both)) d w) (late : 2043 ≤ C .b) (lasts : (j : ℕ) → 2043 ≤ j → j < C .s → (k : Kind) × Matches hear k j) where
     fails-2044 : C .s ≡ 2044
@@ -193,7 +196,7 @@ module _ (S : Sketch) (gives : offered (S .kind) ≡ true) (fades : Hits (listed
 
   pub second-frame : (w : Shown) × (w .kind ≡ S .kind) × OfferedAt taps 10 3883 w (fed both)
   second-frame =
-      let (d, w, i, C, late, lasts) = subst (λ (e : Ear). (d : ℕ) × (w : Shown) × In (dueMark d w) (logAll taps 10 (fed both)) × (C : Cause e 10 (logAll taps 10 (fed both)) d w) × (2043 ≤ C .b)
+      let (d, w, i, C, late, lasts) = subst (λ (e : Ear). (d : ℕ) × (w : Shown) × In (FellDue d w) (logAll taps 10 (fed both)) × (C : Cause e 10 (logAll taps 10 (fed both)) d w) × (2043 ≤ C .b)
       × ((j : ℕ) → 2043 ≤ j → j < C .s → (k : Kind) × Matches e k j)) (sym (ear-all both both-sixteen few))
       (due-cause-48 (fed both) both-sampled 2043 (S .kind, takes-again) (let n = both-fed in omega arith)) in
       let k : w .kind ≡ S .kind = shows d w C late lasts in

@@ -4,6 +4,8 @@ use mathlib.Core.List.{List, map, List·Memᴰ}
 use Prim.Native.Nat.{ℕ, _+_, _≤_}
 use native.Mathlib.Omega.{arith}
 use Rattle.machine.specs.Runs.{run, answers, Each}
+use Rattle.shaping.specs.Rate.{at48}
+use Rattle.shaping.proofs.RateFacts.{facts48}
 use Rattle.protocol.specs.declared.Kind.the-variants.{Stream}
 use Rattle.demodulator.specs.declared.SoftDemodulator.{SoftDemodulator}
 use Rattle.demodulator.specs.Record.{fresh}
@@ -22,27 +24,27 @@ abbrev seen : List Call
 seen = map one (calls oneBurst)
 
 seen-given : Each Given seen
-seen-given = one-given (calls oneBurst) (sampled oneBurst)
+seen-given = one-given at48 (calls oneBurst) (sampled oneBurst)
 
-same : singlesFrom fresh seen ≡ calls oneBurst
-same = singles-one (calls oneBurst) fresh
+same : singlesFrom at48 fresh seen ≡ calls oneBurst
+same = singles-one at48 (calls oneBurst) fresh
 
-pub taken-at-71 : TakenSeen (singlesFrom fresh seen) 71
-taken-at-71 = subst (λ (l : List Single). TakenSeen l 71) (sym same) (taken-exactly (calls oneBurst) (sampled oneBurst) 71 .1 one-burst-started)
+pub taken-at-71 : TakenSeen at48 (singlesFrom at48 fresh seen) 71
+taken-at-71 = subst (λ (l : List Single). TakenSeen at48 l 71) (sym same) (taken-exactly at48 facts48 (calls oneBurst) (sampled oneBurst) 71 .1 one-burst-started)
 
-enough : 71 + 1879 ≤ run receiver fresh seen .control .sample
+enough : 71 + 1879 ≤ run (receiver at48) fresh seen .control .sample
 enough =
-    let r = singles-run (calls oneBurst) (sampled oneBurst) .0 in
-    let m = singles-record seen fresh in
-    let n : run receiver fresh seen .control .sample ≡ 1972 =
-    sym (ap (λ (o : SoftDemodulator). o .control .sample) m) ∙ ap (λ (l : List Single). recordAfter l .control .sample) same ∙ r .count ∙ fed-number oneBurst in
+    let r = singles-run at48 facts48 (calls oneBurst) (sampled oneBurst) .0 in
+    let m = singles-record at48 seen fresh in
+    let n : run (receiver at48) fresh seen .control .sample ≡ 1972 =
+    sym (ap (λ (o : SoftDemodulator). o .control .sample) m) ∙ ap (λ (l : List Single). recordAfter at48 l .control .sample) same ∙ r .count ∙ fed-number oneBurst in
     omega arith
 
-pub one-due : (d : ℕ) × SomeDue (singlesFrom fresh seen) d × (71 + 1839 ≤ d) × (d ≤ 71 + 1879) × ((e : ℕ) → SomeDue (singlesFrom fresh seen) e → 71 + 1839 ≤ e → e ≤ 71 + 1879 → e ≡ d)
-one-due = demand-three seen seen-given .due-one 71 taken-at-71 enough
+pub one-due : (d : ℕ) × SomeDue at48 (singlesFrom at48 fresh seen) d × (71 + 1839 ≤ d) × (d ≤ 71 + 1879) × ((e : ℕ) → SomeDue at48 (singlesFrom at48 fresh seen) e → 71 + 1839 ≤ e → e ≤ 71 + 1879 → e ≡ d)
+one-due = demand-three at48 facts48 seen seen-given .due-one 71 taken-at-71 enough
 
 -- and the offer among the answers
-pub offered-at-1911 : List·Memᴰ (record { kind = Stream; sample = 1911 }) (offersIn (answers receiver fresh seen))
+pub offered-at-1911 : List·Memᴰ (record { kind = Stream; sample = 1911 }) (offersIn (answers (receiver at48) fresh seen))
 offered-at-1911 =
-    demand-three seen seen-given .offers Stream 1911 .1
-    (refl, subst (λ (l : List Single). DueSeen l Stream 1911) (sym same) (due-exactly (calls oneBurst) (sampled oneBurst) 1911 Stream .1 (_, _, one-burst-due)))
+    demand-three at48 facts48 seen seen-given .offers (record { kind = Stream; sample = 1911 }) .1
+    (refl, subst (λ (l : List Single). DueSeen at48 l Stream 1911) (sym same) (due-exactly at48 facts48 (calls oneBurst) (sampled oneBurst) 1911 Stream .1 (_, refl, one-burst-due)))

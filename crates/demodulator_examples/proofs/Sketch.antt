@@ -12,21 +12,23 @@ use lib.ListN.{length, length-append}
 use lib.Ieee.{Float}
 use Rattle.numbers.specs.Firsts.{firsts}
 use Rattle.numbers.proofs.Tests.{lt-or-le}
+use Rattle.machine.specs.Runs.{Each}
 use Rattle.shaping.specs.Taps.{taps}
 use Rattle.protocol.specs.declared.Kind.{Kind}
 use Rattle.protocol.specs.declared.SyncBurst.the-variants.{Frame}
 use Rattle.decode.specs.Correlator.{correlation}
-use Rattle.search.specs.declared.Candidate.the-variants.{Held}
 use Rattle.search.specs.declared.Wait.the-variants.{Free}
 use Rattle.search.specs.declared.Timer.{Timer}
-use Rattle.search.specs.Search.{sameKind, taken}
+use Rattle.search.specs.declared.Shown.{Shown}
+use Rattle.search.specs.TakenBurst.{TakenBurst, heldAs, shownOf}
+use Rattle.search.specs.Search.{sameKind}
 use Rattle.demodulator_run.specs.Filter.{filtered}
-use Rattle.demodulator_run.specs.Rules.{Single, heardAll}
-use Rattle.demodulator_run.specs.Run.{Sampled}
+use Rattle.demodulator_run.specs.Rules.{Single, historyAll}
 use Rattle.demodulator_run.specs.Marks.{FellDue, logAll}
-use Rattle.demodulator_run.specs.Demands.{Ear, earOf, at, In, Started, DueAt, Shown, dueMark, Cause, Matches}
+use Rattle.demodulator_run.specs.Demands.{Ear, earOf, at, In, Started, DueAt, Cause, Matches, takenAt}
 use Rattle.demodulator_run.specs.Stretch.{Sixteen}
-use Rattle.demodulator_run.proofs.Listing.{same→≡, no→⊥}
+use Rattle.demodulator_run.specs.Run.{Callable}
+use Rattle.demodulator_run.proofs.KindOrder.{same→≡, no→⊥}
 use Rattle.demodulator_run.proofs.Demand.{earAll, fedAll}
 use Rattle.demodulator_run.proofs.Demand48.{due-span-48, due-span-sharp-48, due-rule-48}
 use Rattle.demodulator_run.proofs.Pass.{controlled, passBy}
@@ -63,7 +65,7 @@ module _ (S : Sketch) where
   pub sixteen : Sixteen samples
   sixteen = subst Sixteen (append-assoc (S .front) (S .x ∷ S .y ∷ []) (pause 1900)) (sixteen-append (S .front ++ (S .x ∷ S .y ∷ [])) (pause 1900) (sixteen-test _ (S .facts .small)) (sixteen-pause 1900))
 
-  pub sampled : Sampled calls
+  pub sampled : Each Callable calls
   sampled = fed-sampled samples sixteen
 
   pub number : length samples ≡ 1972
@@ -72,7 +74,7 @@ module _ (S : Sketch) where
   few : length samples ≤ 2 ^ 63
   few = let e = number in omega arith
 
-  pub heard-samples : heardAll taps 10 calls .samples ≡ samples
+  pub heard-samples : historyAll taps 10 calls .samples ≡ samples
   heard-samples = heard-all samples sixteen few
 
   pub fed-number : fedAll taps 10 calls ≡ 1972
@@ -121,21 +123,21 @@ module _ (S : Sketch) where
   spans-sharp = due-span-sharp-48 calls sampled 71 started (let e = fed-number in omega arith)
 
   -- ---- the due frame
-  module _ (j : Kind) (age : ℕ) (diff gain shift : Float) (left : ℕ) (some : 1 ≤ left) (short : left ≤ 1900)
-      (leaves : (t : Timer) → (u : Timer) × (passBy 10 (S .hit) (λ i. at shaped i 72) (controlled (taken (S .kind) (at shaped (S .kind) 71)) Free t false 72) .control ≡ controlled (Held j age diff gain shift) (waiting left) u false 72)) where
-    pub due-mark : In (FellDue (72 + left) j gain shift) (logAll taps 10 calls)
+  module _ (now : TakenBurst) (left : ℕ) (some : 1 ≤ left) (short : left ≤ 1900)
+      (leaves : (t : Timer) → (u : Timer) × (passBy 10 (S .hit) (λ i. at shaped i 72) (controlled (heldAs (takenAt shaped (S .kind) 71)) Free t false 72) .control ≡ controlled (heldAs now) (waiting left) u false 72)) where
+    pub due-mark : In (FellDue (72 + left) (shownOf now)) (logAll taps 10 calls)
     due-mark =
         let goes : pause 1900 ≡ pause (left - 1) ++ (pos 0 ∷ pause (1900 - left)) =
         ap pause {x = 1900} {y = (left - 1) + suc (1900 - left)} (omega arith) ∙ pause-split (left - 1) (suc (1900 - left)) ∙ ap (λ (l : List ℤ). pause (left - 1) ++ l) (pause-suc (1900 - left)) in
         let enough : length (pause (left - 1)) + 1 ≡ left = let e = pause-length (left - 1) in omega arith in
-        falls-due (S .front) (S .x) (S .y) (pause 1900) (S .facts .seventy) sixteen few none-before (S .kind) at-71 (S .hit) at-72 (Held j age diff gain shift) left leaves
-        (pause (left - 1)) (pos 0) (pause (1900 - left)) goes enough (omega arith) j age diff gain shift refl
+        falls-due (S .front) (S .x) (S .y) (pause 1900) (S .facts .seventy) sixteen few none-before (S .kind) at-71 (S .hit) at-72 (heldAs now) left leaves
+        (pause (left - 1)) (pos 0) (pause (1900 - left)) goes enough (omega arith) now refl
 
   -- ---- where it comes from
   pub ear-same : shaped ≡ earAll taps 10 calls
   ear-same = ear-all samples sixteen few
 
-  pub cause : (d : ℕ) (w : Shown) → In (dueMark d w) (logAll taps 10 calls) → Cause shaped 10 (logAll taps 10 calls) d w
+  pub cause : (d : ℕ) (w : Shown) → In (FellDue d w) (logAll taps 10 calls) → Cause shaped 10 (logAll taps 10 calls) d w
   cause d w i = subst (λ (e : Ear). Cause e 10 (logAll taps 10 calls) d w) (sym ear-same) (due-rule-48 calls sampled .exact d w .0 i .1)
 
   module _ (d : ℕ) (w : Shown) (soon : d ≤ 1911) (C : Cause shaped 10 (logAll taps 10 calls) d w) where

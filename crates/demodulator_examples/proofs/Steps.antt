@@ -9,27 +9,29 @@ use lib.IntN.{ℤ}
 use lib.ListN.{length, length-append}
 use lib.Ieee.{Float}
 use lib.Ieee.Bits.{is-true}
+use Rattle.machine.specs.Runs.{run}
 use Rattle.shaping.specs.Taps.{taps}
 use Rattle.protocol.specs.declared.Kind.{Kind}
 use Rattle.protocol.specs.declared.SyncBurst.the-variants.{Frame}
 use Rattle.decode.specs.Correlator.{correlation, matches}
 use Rattle.search.specs.declared.Candidate.{Candidate}
-use Rattle.search.specs.declared.Candidate.the-variants.{Nothing, Held}
+use Rattle.search.specs.declared.Candidate.the-variants.{Nothing}
 use Rattle.search.specs.declared.Wait.{Wait}
 use Rattle.search.specs.declared.Wait.the-variants.{Free, Due}
 use Rattle.search.specs.declared.Timer.{Timer}
 use Rattle.search.specs.declared.Control.{Control}
-use Rattle.search.specs.Search.{withTimer, sameKind, taken, searched}
-use Rattle.search.specs.Turn.{counted, cleared, offered, owing, due, waited, sampled}
-use Rattle.demodulator_run.specs.Rules.{Heard, heardFrom}
-use Rattle.demodulator_run.specs.Demands.{earOf}
+use Rattle.search.specs.TakenBurst.{TakenBurst, heldAs}
+use Rattle.search.specs.Search.{withTimer, sameKind, searched}
+use Rattle.search.specs.Turn.{counted, cleared, offered, owing, dueTurn, waitedTurn, sampled}
+use Rattle.demodulator_run.specs.Rules.{History, singleRules}
+use Rattle.demodulator_run.specs.Demands.{earOf, takenAt}
 use Rattle.demodulator_run.specs.Exact.{lastSample}
-use Rattle.demodulator_run.proofs.Calling.{ear-now}
+use Rattle.demodulator_run.proofs.CallKeeps.{ear-now}
 use Rattle.demodulator_run.proofs.Pass.{Step, controlled, passBy, search-pass, pass-quiet, pass-first}
 use Rattle.demodulator_examples.proofs.Fed.{fed, next, next-is, eightAt}
 
 -- n samples have come, and no reply is owed
-abbrev pub standing : List ℤ → Candidate → Wait → Timer → ℕ → Heard
+abbrev pub standing : List ℤ → Candidate → Wait → Timer → ℕ → History
 standing xs held wait t n = record { samples = xs; control = controlled held wait t false n }
 
 abbrev pub waiting : ℕ → Wait
@@ -65,7 +67,7 @@ module _ (all : List ℤ) (xs : List ℤ) (x : ℤ) (more : List ℤ) (n : ℕ) 
         samples = xs ++ (x ∷ []);
         control = owing false (passBy 10 hit (λ k. correlation (Frame k) (earOf taps 10 all (n + 1))) (controlled held Free u false (n + 1)) .control);
       })
-  unfolding sampled waited
+  unfolding sampled waitedTurn
   next-search held t hit h =
       let (u, e) = searched-as (earOf taps 10 all (n + 1)) (counted (controlled held Free t false n)) hit h in (
         u,
@@ -83,7 +85,7 @@ module _ (all : List ℤ) (xs : List ℤ) (x : ℤ) (more : List ℤ) (n : ℕ) 
       )
 
   pub next-first : (t : Timer) (j : Kind) → Hits (earOf taps 10 all (n + 1)) (sameKind j)
-      → (u : Timer) × (next (standing xs Nothing Free t n) x ≡ standing (xs ++ (x ∷ [])) (taken j (correlation (Frame j) (earOf taps 10 all (n + 1)))) Free u (n + 1))
+      → (u : Timer) × (next (standing xs Nothing Free t n) x ≡ standing (xs ++ (x ∷ [])) (heldAs (takenAt (earOf taps 10 all) j (n + 1))) Free u (n + 1))
   next-first t j h =
       let (u, e) = next-search Nothing t (sameKind j) h in (
         u,
@@ -95,20 +97,20 @@ module _ (all : List ℤ) (xs : List ℤ) (x : ℤ) (more : List ℤ) (n : ℕ) 
 module _ (xs : List ℤ) (x : ℤ) (n : ℕ) (few : n < 2 ^ 63) where
   next-waits : (held : Candidate) (t : Timer) (left : ℕ) → 1 < left
       → next (standing xs held (waiting left) t n) x ≡ standing (xs ++ (x ∷ [])) held (waiting (left - 1)) (cleared (n + 1) t) (n + 1)
-  unfolding sampled waited
+  unfolding sampled waitedTurn
   next-waits held t left l = rw (is-true (ltb 1 left) (lt→ltb 1 left l)) at (next-is (standing xs held (waiting left) t n) x refl few)
 
   -- a frame is due, is offered, and is accepted
-  pub next-due : (kind : Kind) (age : ℕ) (diff gain shift : Float) (t : Timer) → offered kind ≡ true
-      → next (standing xs (Held kind age diff gain shift) lastSample t n) x ≡ standing (xs ++ (x ∷ [])) Nothing Free (cleared (n + 1) t) (n + 1)
-  unfolding sampled waited due
-  next-due kind age diff gain shift t o = rw o at (next-is (standing xs (Held kind age diff gain shift) lastSample t n) x refl few)
+  pub next-due : (held : TakenBurst) (t : Timer) → offered (held .kind) ≡ true
+      → next (standing xs (heldAs held) lastSample t n) x ≡ standing (xs ++ (x ∷ [])) Nothing Free (cleared (n + 1) t) (n + 1)
+  unfolding sampled waitedTurn dueTurn
+  next-due held t o = rw o at (next-is (standing xs (heldAs held) lastSample t n) x refl few)
 
 -- ---- many
 pub quiet-run : (all zs xs more : List ℤ) (t : Timer) (n : ℕ) → length xs ≡ n → all ≡ xs ++ (zs ++ more) → n + length zs ≤ 2 ^ 63
     → ((m : ℕ) → n < m → m ≤ n + length zs → Hits (earOf taps 10 all m) none)
-    → (u : Timer) × (heardFrom taps 10 (standing xs Nothing Free t n) (fed zs) ≡ standing (xs ++ zs) Nothing Free u (n + length zs))
-unfolding heardFrom fed
+    → (u : Timer) × (run (singleRules taps 10) (standing xs Nothing Free t n) (fed zs) ≡ standing (xs ++ zs) Nothing Free u (n + length zs))
+unfolding run fed
 quiet-run all [] xs more t n l p f s =
     let count : n ≡ n + 0 = omega arith in
     (t, ap (λ (ys : List ℤ). standing ys Nothing Free t n) (sym (append-nil xs)) ∙ ap (standing (xs ++ []) Nothing Free t) count)
@@ -117,14 +119,14 @@ quiet-run all (x ∷ zs) xs more t n l p f s =
     let (w, g) = quiet-run all zs (xs ++ (x ∷ [])) more u (n + 1) (length-append xs (x ∷ []) ∙ omega arith) (p ∙ sym (append-assoc xs (x ∷ []) (zs ++ more))) (omega arith) (λ m a b. s m (omega arith) (omega arith)) in
     let count : (n + 1) + length zs ≡ n + length (x ∷ zs) = omega arith in (
       w,
-      ap (λ (h : Heard). heardFrom taps 10 h (fed zs)) e ∙ g
+      ap (λ (h : History). run (singleRules taps 10) h (fed zs)) e ∙ g
           ∙ ap (λ (ys : List ℤ). standing ys Nothing Free w ((n + 1) + length zs)) (append-assoc xs (x ∷ []) zs)
           ∙ ap (standing (xs ++ (x ∷ zs)) Nothing Free w) count,
     )
 
 pub wait-run : (zs xs : List ℤ) (held : Candidate) (t : Timer) (n left : ℕ) → n + length zs ≤ 2 ^ 63 → length zs < left
-    → (u : Timer) × (heardFrom taps 10 (standing xs held (waiting left) t n) (fed zs) ≡ standing (xs ++ zs) held (waiting (left - length zs)) u (n + length zs))
-unfolding heardFrom fed
+    → (u : Timer) × (run (singleRules taps 10) (standing xs held (waiting left) t n) (fed zs) ≡ standing (xs ++ zs) held (waiting (left - length zs)) u (n + length zs))
+unfolding run fed
 wait-run [] xs held t n left f l =
     let count : n ≡ n + 0 = omega arith in
     let rest : left ≡ left - 0 = omega arith in (
@@ -138,7 +140,7 @@ wait-run (x ∷ zs) xs held t n left f l =
     let count : (n + 1) + length zs ≡ n + length (x ∷ zs) = omega arith in
     let rest : (left - 1) - length zs ≡ left - length (x ∷ zs) = omega arith in (
       w,
-      ap (λ (h : Heard). heardFrom taps 10 h (fed zs)) e ∙ g
+      ap (λ (h : History). run (singleRules taps 10) h (fed zs)) e ∙ g
           ∙ ap (λ (ys : List ℤ). standing ys held (waiting ((left - 1) - length zs)) w ((n + 1) + length zs)) (append-assoc xs (x ∷ []) zs)
           ∙ ap (λ (m : ℕ). standing (xs ++ (x ∷ zs)) held (waiting m) w ((n + 1) + length zs)) rest
           ∙ ap (standing (xs ++ (x ∷ zs)) held (waiting (left - length (x ∷ zs))) w) count,

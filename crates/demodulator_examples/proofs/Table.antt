@@ -18,6 +18,8 @@ use Rattle.numbers.specs.Firsts.{firsts}
 use Rattle.numbers.specs.Below.{allBelow}
 use Rattle.numbers.proofs.Firsts.{firsts-at}
 use Rattle.numbers.proofs.Below.{all-below}
+use Rattle.shaping.specs.Rate.{at48}
+use Rattle.shaping.proofs.RateFacts.{facts48}
 use Rattle.shaping.specs.Taps.{taps}
 use Rattle.protocol.specs.declared.Kind.{Kind}
 use Rattle.protocol.specs.declared.Kind.the-variants.{Lsf, Bert, Stream, Packet}
@@ -27,7 +29,7 @@ use Rattle.decode.proofs.Same.{correlation-same, matches-same}
 use Rattle.demodulator_run.specs.Filter.{filtered}
 use Rattle.demodulator_run.specs.Demands.{earOf, at}
 use Rattle.demodulator_run.specs.Stretch.{Sixteen}
-use Rattle.demodulator_run.proofs.Hearing.{filtered-taken}
+use Rattle.demodulator_run.proofs.EarLaws.{filtered-taken}
 use Rattle.demodulator_run.proofs.Sixteen.{taps-size}
 use Rattle.demodulator_examples.proofs.Steps.{Hits, none}
 
@@ -99,9 +101,9 @@ module _ (all ys more : List ℤ) (part : all ≡ ys ++ more) (n : ℕ) (long : 
   pub listens : (k : ℕ) → k ≤ n → (i : ℕ) → earOf taps 10 all k i ≡ listed table k i
   listens k l i =
       let m : ℕ = k - 10 * (7 - i) in
-      filtered-taken taps 10 taps-size k all m (omega arith)
+      filtered-taken taps 10 (taps-size at48 facts48) k all m (omega arith)
       ∙ ap (λ (zs : List ℤ). filtered taps 10 zs m) part
-      ∙ sym (filtered-taken taps 10 taps-size n (ys ++ more) m (omega arith))
+      ∙ sym (filtered-taken taps 10 (taps-size at48 facts48) n (ys ++ more) m (omega arith))
       ∙ ap (λ (zs : List ℤ). filtered taps 10 zs m) (take-at ys more n long)
       ∙ sym (firsts-at (filtered taps 10 ys) (suc n) m nought (omega arith))
       ∙ ap (λ (t : List Float). getD t m nought) tabled

@@ -8,36 +8,37 @@ use lib.Dec.{T, lit<, lit≤}
 use lib.IntN.{pos}
 use lib.Ieee.{Float, binary32, ofBits, lt, le}
 use Rattle.numbers.specs.Below.{allBelow}
-use Rattle.numbers.specs.Firsts.{firsts}
+use Rattle.shaping.specs.Rate.{at48}
 use Rattle.protocol.specs.declared.Kind.the-variants.{Bert}
 use Rattle.protocol.specs.declared.Refusal.the-variants.{RecordUnfit}
 use Rattle.decode.specs.Correlator.{inRange}
-use Rattle.search.specs.declared.Candidate.the-variants.{Nothing, Held}
+use Rattle.search.specs.declared.Candidate.the-variants.{Nothing}
 use Rattle.search.specs.declared.Wait.the-variants.{Free, Due}
 use Rattle.search.specs.declared.Timer.the-variants.{Off, Until}
 use Rattle.search.specs.declared.Control.{Control}
 use Rattle.search.specs.declared.Reply.the-variants.{Accepted, Rejected}
 use Rattle.search.specs.Search.{searched}
-use Rattle.search.specs.Turn.{quiet, counted, waitingOn, freed, owing, due, sampled, replied}
+use Rattle.search.specs.Turn.{quiet, counted, waitingOn, freed, owing, dueTurn, sampled, replied}
 use Rattle.search.specs.Fit.{candidateFit, waitFit, controlFit}
 use Rattle.search.proofs.TurnFits.{counted-fit, freed-fit}
 use Rattle.demodulator.specs.declared.SoftDemodulator.{SoftDemodulator}
 use Rattle.demodulator.specs.Spans.{eight}
 use Rattle.demodulator.specs.Record.{freshControl, fresh, assembled, withControl, back, stored}
 use Rattle.demodulator.specs.Fit.{recordFit, fitForSample, fitForReply}
-use Rattle.demodulator.specs.Calls.{nothing, done, refusal, carrier, refused, Left, demodulated, settled, answered, detected}
+use Rattle.demodulator.specs.Calls.{nothing, done, refusal, carrier, refused, Left, demodulated, replyLeaves, answered, detected}
 use Rattle.demodulator.specs.Steps.{unmoved, Steps}
 use Rattle.demodulator.proofs.StepInstances.{fresh-for-sample, room, room-enough}
-use Rattle.demodulator_laws.proofs.Turning.{sampled-free, sampled-rest, sampled-due}
+use Rattle.demodulator.proofs.CallCases.{sample-unfit, sample-owed, sample-cramped, sample-last, sample-taken, refuses, reply-unfit, reply-unasked, reply-taken, carrier-unfit, carrier-told}
+use Rattle.demodulator_laws.proofs.ExampleBurst.{heldAt}
+use Rattle.demodulator_laws.proofs.SampleByWait.{sampled-free, sampled-rest, sampled-due}
 use Rattle.demodulator_laws.proofs.RecordInstances.{fresh-for-reply}
-use Rattle.demodulator.proofs.Demodulating.{sample-unfit, sample-owed, sample-cramped, sample-last, sample-taken, refuses, reply-unfit, reply-unasked, reply-taken, carrier-unfit, carrier-told}
 use Rattle.demodulator_laws.proofs.SampleFits.{controlOf, sampled-fits, replied-fits}
 use Rattle.demodulator_laws.proofs.WaitFits.{waiting-fit, settled-fit}
 use Rattle.demodulator_laws.proofs.SearchFits.{Outgrown}
 
 -- ---- controls
 abbrev waiting : ℕ → Control
-waiting left = record { candidate = Held Bert 254 (ofBits binary32 0) (ofBits binary32 0x4180_0000) (ofBits binary32 0); wait = Due (record { left = left }); dcd = Until 3840; owed = false; sample = 1840 }
+waiting left = record { candidate = heldAt Bert 254; wait = Due (record { left = left }); dcd = Until 3840; owed = false; sample = 1840 }
 
 abbrev owed : Control
 owed = owing true freshControl
@@ -65,7 +66,7 @@ sampled-rest-meets = sampled-rest 10 silent (waiting 2) (record { left = 2 }) re
 
 -- a BERT frame is not offered
 sampled-due-meets : sampled 10 silent (waiting 1) ≡ quiet (searched 10 silent (freed (counted (waiting 1))))
-unfolding due
+unfolding dueTurn
 sampled-due-meets = sampled-due 10 silent (waiting 1) (record { left = 1 }) refl (lit≤ tt)
 
 counted-fit-meets : T (controlFit 10 (counted (waiting 2)))
@@ -90,53 +91,53 @@ replied-fits-meets = replied-fits 10 (lit≤ tt) silent silent-range owed owed-f
 past : SoftDemodulator
 past = assembled [] 81 [] 0 freshControl
 
-past-unfit : fitForSample past ≡ false
+past-unfit : fitForSample 10 past ≡ false
 unfolding past fitForSample recordFit
 past-unfit = refl
 
-sample-unfit-meets : demodulated past (pos 1) [] ≡ refused 1 past []
+sample-unfit-meets : demodulated at48 past (pos 1) [] ≡ refused 1 past []
 sample-unfit-meets = sample-unfit past (pos 1) [] past-unfit
 
 abbrev pub debtor : SoftDemodulator
 debtor = withControl owed fresh
 
-debtor-for-sample : fitForSample debtor ≡ true
+debtor-for-sample : fitForSample 10 debtor ≡ true
 unfolding fresh fitForSample recordFit controlFit candidateFit waitFit allBelow inRange ofBits le lt
 debtor-for-sample = refl
 
-debtor-for-reply : fitForReply debtor ≡ true
+debtor-for-reply : fitForReply 10 debtor ≡ true
 unfolding fresh fitForReply recordFit controlFit candidateFit waitFit allBelow inRange ofBits le lt
 debtor-for-reply = refl
 
 -- 2 before 4
-sample-owed-meets : demodulated debtor (pos 1) [] ≡ refused 2 debtor []
+sample-owed-meets : demodulated at48 debtor (pos 1) [] ≡ refused 2 debtor []
 sample-owed-meets = sample-owed debtor (pos 1) [] debtor-for-sample refl
 
 pub fresh-free : fresh .control .owed ≡ false
 unfolding fresh
 fresh-free = refl
 
-sample-cramped-meets : demodulated fresh (pos 1) [] ≡ refused 4 fresh []
+sample-cramped-meets : demodulated at48 fresh (pos 1) [] ≡ refused 4 fresh []
 sample-cramped-meets = sample-cramped fresh (pos 1) [] fresh-for-sample fresh-free (lit< tt)
 
 abbrev last : SoftDemodulator
 last = withControl (record { candidate = Nothing; wait = Free; dcd = Off; owed = false; sample = 2 ^ 63 }) fresh
 
-last-for-sample : fitForSample last ≡ true
+last-for-sample : fitForSample 10 last ≡ true
 unfolding fresh fitForSample recordFit controlFit candidateFit waitFit allBelow inRange ofBits le lt
 last-for-sample = refl
 
-sample-last-meets : demodulated last (pos 1) room ≡ refused 5 last room
+sample-last-meets : demodulated at48 last (pos 1) room ≡ refused 5 last room
 sample-last-meets = sample-last last (pos 1) room last-for-sample refl room-enough refl
 
 fresh-count : fresh .control .sample < 2 ^ 63
 unfolding fresh
 fresh-count = lit< tt
 
-pub fresh-answer : demodulated fresh (pos 1) room .answer ≡ nothing
+pub fresh-answer : demodulated at48 fresh (pos 1) room .answer ≡ nothing
 unfolding fresh
 fresh-answer =
-    let v = eight 10 (back (stored fresh (pos 1))) in
+    let v = eight 10 (back 10 (stored at48 fresh (pos 1))) in
     ap (λ (left : Left). left .answer)
     (sample-taken fresh (pos 1) room fresh-for-sample fresh-free room-enough fresh-count (quiet (searched 10 v (counted freshControl))) (sym (sampled-free 10 v freshControl refl)))
 
@@ -145,24 +146,24 @@ unfolding past
 refuses-meets = refuses [] [] [] (record { «filter_cursor» = 81; «rx_cursor» = 0 }) freshControl (pos 1) RecordUnfit _ refl sample-unfit-meets
 
 -- ---- a reply, and the carrier
-past-for-reply : fitForReply past ≡ false
+past-for-reply : fitForReply 10 past ≡ false
 unfolding past fitForReply recordFit
 past-for-reply = refl
 
-reply-unfit-meets : answered past Accepted [] ≡ refused 1 past []
+reply-unfit-meets : answered 10 past Accepted [] ≡ refused 1 past []
 reply-unfit-meets = reply-unfit past Accepted [] past-for-reply
 
-reply-unasked-meets : answered fresh Accepted [] ≡ refused 3 fresh []
+reply-unasked-meets : answered 10 fresh Accepted [] ≡ refused 3 fresh []
 reply-unasked-meets = reply-unasked fresh Accepted [] fresh-for-reply fresh-free
 
-pub reply-taken-meets : answered debtor Rejected [] ≡ record { answer = done; demodulator = settled debtor Rejected; room = [] }
+pub reply-taken-meets : answered 10 debtor Rejected [] ≡ record { answer = done; demodulator = replyLeaves 10 debtor Rejected; room = [] }
 reply-taken-meets = reply-taken debtor Rejected [] debtor-for-reply refl
 
-carrier-unfit-meets : detected past ≡ refusal 1
+carrier-unfit-meets : detected 10 past ≡ refusal 1
 unfolding past recordFit
 carrier-unfit-meets = carrier-unfit past refl
 
 -- a query is answered while a reply is owed
-carrier-told-meets : detected debtor ≡ carrier false
+carrier-told-meets : detected 10 debtor ≡ carrier false
 unfolding fresh recordFit controlFit candidateFit waitFit
 carrier-told-meets = carrier-told debtor refl

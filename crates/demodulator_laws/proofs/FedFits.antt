@@ -9,14 +9,15 @@ use lib.ListN.{getD}
 use lib.Ieee.{Float}
 use mir.Syntax.{w16}
 use mir.Val.{SFits}
+use Rattle.shaping.specs.Rate.{at48}
 use Rattle.search.specs.Turn.{Outcome, quiet, offer, sampled}
 use Rattle.demodulator.specs.declared.SoftDemodulator.{SoftDemodulator}
 use Rattle.demodulator.specs.Spans.{eight}
 use Rattle.demodulator.specs.Record.{back, stored}
 use Rattle.demodulator.specs.Calls.{Left, finished, demodulated}
 use Rattle.demodulator.specs.Feed.{Stretch, fedFrom, fed, fedInto}
-use Rattle.demodulator.proofs.Demodulating.{sample-taken}
-use Rattle.demodulator.proofs.Feeding.{goes-on, restFrom}
+use Rattle.demodulator.proofs.CallCases.{sample-taken}
+use Rattle.demodulator.proofs.FeedSteps.{goes-on, restFrom}
 use Rattle.demodulator_laws.proofs.FitAgain.{InRange, Fits, Old, Accepted, Given, given-or-refused, fit-again}
 
 -- ---- the statement's words
@@ -25,18 +26,18 @@ pub record Usable (m : SoftDemodulator) : Type 0 where
   pub fit : Fits m ⊎ Old m
 
 -- ---- a sample
-finished-accepted : (m : SoftDemodulator) (room : List Float) (o : Outcome) → Accepted (finished m room o .answer)
+finished-accepted : (m : SoftDemodulator) (room : List Float) (o : Outcome) → Accepted (finished 10 m room o .answer)
 finished-accepted m room (quiet c) n e = let z : _≡_ {A = ℕ} 0 1 = cc in omega arith
-finished-accepted m room (offer kind gain shift c) n e = let z : _≡_ {A = ℕ} 0 1 = cc in omega arith
+finished-accepted m room (offer shown c) n e = let z : _≡_ {A = ℕ} 0 1 = cc in omega arith
 
 module _ (m : SoftDemodulator) (x : ℤ) (room : List Float) where
-  given-accepted : Given m room → Accepted (demodulated m x room .answer)
+  given-accepted : Given m room → Accepted (demodulated at48 m x room .answer)
   given-accepted g =
-      let o = sampled 10 (eight 10 (back (stored m x))) (m .control) in
-      rw (sample-taken m x room (g .fit) (g .free) (g .enough) (g .count) o refl) (finished-accepted (stored m x) room o)
+      let o = sampled 10 (eight 10 (back 10 (stored at48 m x))) (m .control) in
+      rw (sample-taken m x room (g .fit) (g .free) (g .enough) (g .count) o refl) (finished-accepted (stored at48 m x) room o)
 
   -- a refused sample leaves the record
-  sample-usable : SFits w16 x → Usable m → Usable (demodulated m x room .demodulator)
+  sample-usable : SFits w16 x → Usable m → Usable (demodulated at48 m x room .demodulator)
   sample-usable fits u =
       elim (given-or-refused m x room) [
         | inr r ↦ rw (ap (λ (l : Left). l .demodulator) (r .call)) u
@@ -46,15 +47,15 @@ module _ (m : SoftDemodulator) (x : ℤ) (room : List Float) where
       ]
 
 -- ---- the stretch
-rest-usable : (xs : List ℤ) → ((i : ℕ) → SFits w16 (getD xs i (pos 0))) → (n : ℕ) (m : SoftDemodulator) (room : List Float) → Usable m → Usable (restFrom n m xs room .state)
+rest-usable : (xs : List ℤ) → ((i : ℕ) → SFits w16 (getD xs i (pos 0))) → (n : ℕ) (m : SoftDemodulator) (room : List Float) → Usable m → Usable (restFrom at48 n m xs room .state)
 unfolding fedFrom
 rest-usable [] small n m room u = u
 rest-usable (x ∷ xs) small n m room u =
-    let l = demodulated m x room in
+    let l = demodulated at48 m x room in
     let after = sample-usable m x room (small 0) u in
     goes-on (λ (t : Stretch SoftDemodulator). Usable (t .state)) (l .answer) _ _ _ u after (rest-usable xs (λ i. small (suc i)) (n + 1) (l .demodulator) (l .room) after)
 
-pub feed-fit-again : (xs : List ℤ) → ((i : ℕ) → SFits w16 (getD xs i (pos 0))) → (m : SoftDemodulator) (room : List Float) → Usable m → Usable (fedInto m xs room .state)
+pub feed-fit-again : (xs : List ℤ) → ((i : ℕ) → SFits w16 (getD xs i (pos 0))) → (m : SoftDemodulator) (room : List Float) → Usable m → Usable (fedInto at48 m xs room .state)
 unfolding fed
 feed-fit-again [] small m room u = u
 feed-fit-again (x ∷ xs) small m room u = rest-usable (x ∷ xs) small 0 m room u

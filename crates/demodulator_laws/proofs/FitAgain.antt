@@ -17,6 +17,8 @@ use mir.Val.{SFits}
 use Rattle.numbers.specs.Below.{allBelow}
 use Rattle.numbers.proofs.Tests.{holds}
 use Rattle.numbers.proofs.Below.{below-all}
+use Rattle.shaping.specs.Rate.{at48}
+use Rattle.shaping.proofs.RateFacts.{facts48}
 use Rattle.decode.specs.Correlator.{inRange}
 use Rattle.search.specs.declared.Control.{Control}
 use Rattle.search.specs.declared.Reply.{Reply}
@@ -27,23 +29,23 @@ use Rattle.demodulator.specs.declared.SoftDemodulator.{SoftDemodulator}
 use Rattle.demodulator.specs.Spans.{eight}
 use Rattle.demodulator.specs.Record.{back, withControl, filteredAfter, stored}
 use Rattle.demodulator.specs.Fit.{cursorsFit, recordFit, placesRead, fitForSample, fitForReply}
-use Rattle.demodulator.specs.Calls.{Paper, refusal, Left, refused, finished, demodulated, settled, answered}
+use Rattle.demodulator.specs.Calls.{Paper, refusal, Left, refused, finished, demodulated, replyLeaves, answered}
 use Rattle.demodulator.proofs.Fitness.{record-facts, sample-record, reply-record}
+use Rattle.demodulator.proofs.CallCases.{sample-unfit, sample-owed, sample-cramped, sample-last, sample-taken, reply-unfit, reply-unasked, reply-taken}
 use Rattle.demodulator_laws.proofs.Grown.{withAge}
 use Rattle.demodulator_laws.proofs.SampleFits.{either, controlOf, sampled-fits, replied-fits}
 use Rattle.demodulator_laws.proofs.StoredFits.{Rings, set-holds, new-in-range, stored-rings, stored-eight}
-use Rattle.demodulator.proofs.Demodulating.{sample-unfit, sample-owed, sample-cramped, sample-last, sample-taken, reply-unfit, reply-unasked, reply-taken}
 
 -- ---- the statement's words
 -- all of the ring's values are in range; the window's samples are of 16 bits and the ring has 1,920 places, as their types have it
 pub record InRange (m : SoftDemodulator) : Type 0 where
-  pub rings : Rings (m .«filter_win») (m .«rx_win»)
+  pub rings : Rings 10 (m .«filter_win») (m .«rx_win»)
   pub values : (i : ℕ) → i < 1920 → T (inRange (getD (m .«rx_win») i nan))
 
 -- fit for any call
 pub record Fits (m : SoftDemodulator) : Type 0 where
-  pub for-sample : fitForSample m ≡ true
-  pub for-reply : fitForReply m ≡ true
+  pub for-sample : fitForSample 10 m ≡ true
+  pub for-reply : fitForReply 10 m ≡ true
 
 -- an age of 255: with 254 in its place the record is fit
 pub record Old (m : SoftDemodulator) : Type 0 where
@@ -64,17 +66,17 @@ placed : (cursor j : ℕ) → (cursor + (1919 - j)) % 1920 < 1920
 placed cursor j = mod-lt (cursor + (1919 - j)) (lit≤ tt)
 
 module _ (m : SoftDemodulator) (in-range : InRange m) where
-  pub back-in-range : (j : ℕ) → T (inRange (back m j))
+  pub back-in-range : (j : ℕ) → T (inRange (back 10 m j))
   back-in-range j = in-range .values ((m .«rx_cursor» + (1919 - j)) % 1920) (placed (m .«rx_cursor») j)
 
-  fits-by-control : T (cursorsFit m) → T (controlFit 10 (m .control)) → Fits m
+  fits-by-control : T (cursorsFit 10 m) → T (controlFit 10 (m .control)) → Fits m
   unfolding fitForSample fitForReply recordFit
   fits-by-control cursors control =
-      let fit = and-i (cursorsFit m) (controlFit 10 (m .control)) cursors control in
+      let fit = and-i (cursorsFit 10 m) (controlFit 10 (m .control)) cursors control in
       let n = placesRead (m .control .wait) in
       record {
-        for-sample = is-true (fitForSample m) (and-i (recordFit m) (allBelow n (λ (j : ℕ). inRange (back m (10 * j + 9)))) fit (below-all n (λ (j : ℕ). inRange (back m (10 * j + 9))) (λ j l. back-in-range (10 * j + 9))));
-        for-reply = is-true (fitForReply m) (and-i (recordFit m) (allBelow 8 (λ (j : ℕ). inRange (back m (10 * j)))) fit (below-all 8 (λ (j : ℕ). inRange (back m (10 * j))) (λ j l. back-in-range (10 * j))));
+        for-sample = is-true (fitForSample 10 m) (and-i (recordFit 10 m) (allBelow n (λ (j : ℕ). inRange (back 10 m (10 * j + 9)))) fit (below-all n (λ (j : ℕ). inRange (back 10 m (10 * j + 9))) (λ j l. back-in-range (10 * j + 9))));
+        for-reply = is-true (fitForReply 10 m) (and-i (recordFit 10 m) (allBelow 8 (λ (j : ℕ). inRange (back 10 m (10 * j)))) fit (below-all 8 (λ (j : ℕ). inRange (back 10 m (10 * j))) (λ j l. back-in-range (10 * j))));
       }
 
 -- ---- what an accepted call was given
@@ -82,19 +84,19 @@ never : {A : Type 0} (call : Left) → Accepted (call .answer) → (n : ℕ) (m 
 never call accepted n m room e = absurd (accepted n (ap (λ (p : Left). p .answer) e))
 
 pub record Given (m : SoftDemodulator) (room : List Float) : Type 0 where
-  pub fit : fitForSample m ≡ true
+  pub fit : fitForSample 10 m ≡ true
   pub free : m .control .owed ≡ false
   pub enough : 192 ≤ length room
   pub count : m .control .sample < 2 ^ 63
 
 pub record Refused (m : SoftDemodulator) (x : ℤ) (room : List Float) : Type 0 where
   pub number : ℕ
-  pub call : demodulated m x room ≡ refused number m room
+  pub call : demodulated at48 m x room ≡ refused number m room
 
 module _ (m : SoftDemodulator) (x : ℤ) (room : List Float) where
   pub given-or-refused : Given m room ⊎ Refused m x room
   given-or-refused =
-      elim (either (fitForSample m)) [
+      elim (either (fitForSample 10 m)) [
         | inr e ↦ inr (record { number = 1; call = sample-unfit m x room e })
         | inl fit ↦ elim (either (m .control .owed)) [
           | inl e ↦ inr (record { number = 2; call = sample-owed m x room fit e })
@@ -102,7 +104,7 @@ module _ (m : SoftDemodulator) (x : ℤ) (room : List Float) where
             | inl t ↦ inr (record { number = 4; call = sample-cramped m x room fit free (ltb-true (length room) 192 t) })
             | inr t ↦
                 let enough = ltb-false (length room) 192 t in
-                elim (eq-or-lt-of-le (record-facts m (sample-record m fit) .control .count)) [
+                elim (eq-or-lt-of-le (record-facts 10 m (sample-record 10 m fit) .control .count)) [
                   | inl e ↦ inr (record { number = 5; call = sample-last m x room fit free enough e })
                   | inr l ↦ inl (record { fit = fit; free = free; enough = enough; count = l })
                 ]
@@ -110,64 +112,64 @@ module _ (m : SoftDemodulator) (x : ℤ) (room : List Float) where
         ]
       ]
 
-  pub given : Accepted (demodulated m x room .answer) → Given m room
+  pub given : Accepted (demodulated at48 m x room .answer) → Given m room
   given accepted = elim given-or-refused [ inl g ↦ g | inr r ↦ never _ accepted (r .number) m room (r .call) ]
 
 -- ---- what a sample leaves
-finished-leaves : (m : SoftDemodulator) (room : List Float) (o : Outcome) → finished m room o .demodulator ≡ withControl (controlOf o) m
+finished-leaves : (m : SoftDemodulator) (room : List Float) (o : Outcome) → finished 10 m room o .demodulator ≡ withControl (controlOf o) m
 finished-leaves m room (quiet c) = refl
-finished-leaves m room (offer kind gain shift c) = refl
+finished-leaves m room (offer shown c) = refl
 
 module _ (m : SoftDemodulator) (x : ℤ) (fits : SFits w16 x) (in-range : InRange m) where
-  pub stored-in-range : (c : Control) → InRange (withControl c (stored m x))
+  pub stored-in-range : (c : Control) → InRange (withControl c (stored at48 m x))
   unfolding stored
   stored-in-range c =
       let rings = in-range .rings in
       record {
-        rings = stored-rings m x (rings .samples) fits (rings .places);
-        values = λ i l. set-holds (λ (value : Float). T (inRange value)) (m .«rx_win») (m .«rx_cursor») i (filteredAfter m x) nan (new-in-range m x (rings .samples) fits) (in-range .values i l);
+        rings = stored-rings at48 facts48 m x rings fits;
+        values = λ i l. set-holds (λ (value : Float). T (inRange value)) (m .«rx_win») (m .«rx_cursor») i (filteredAfter at48 m x) nan (new-in-range at48 facts48 m x rings fits) (in-range .values i l);
       }
 
-  stored-cursors : (c : Control) → T (cursorsFit (withControl c (stored m x)))
+  stored-cursors : (c : Control) → T (cursorsFit 10 (withControl c (stored at48 m x)))
   unfolding stored
   stored-cursors c =
       let w = (m .«filter_cursor» + 1) % 81 in
       let r = (m .«rx_cursor» + 1) % 1920 in
       and-i (ltb w 81) (ltb r 1920) (lt→ltb w 81 (mod-lt (m .«filter_cursor» + 1) (lit≤ tt))) (lt→ltb r 1920 (mod-lt (m .«rx_cursor» + 1) (lit≤ tt)))
 
-  stored-fits : (c : Control) → T (controlFit 10 c) → Fits (withControl c (stored m x))
-  stored-fits c = fits-by-control (withControl c (stored m x)) (stored-in-range c) (stored-cursors c)
+  stored-fits : (c : Control) → T (controlFit 10 c) → Fits (withControl c (stored at48 m x))
+  stored-fits c = fits-by-control (withControl c (stored at48 m x)) (stored-in-range c) (stored-cursors c)
 
-  module _ (room : List Float) (accepted : Accepted (demodulated m x room .answer)) where
+  module _ (room : List Float) (accepted : Accepted (demodulated at48 m x room .answer)) where
     abbrev comesTo : Outcome
-    comesTo = sampled 10 (eight 10 (back (stored m x))) (m .control)
+    comesTo = sampled 10 (eight 10 (back 10 (stored at48 m x))) (m .control)
 
-    leaves : demodulated m x room .demodulator ≡ withControl (controlOf comesTo) (stored m x)
+    leaves : demodulated at48 m x room .demodulator ≡ withControl (controlOf comesTo) (stored at48 m x)
     leaves =
         let g = given m x room accepted in
-        ap (λ (p : Left). p .demodulator) (sample-taken m x room (g .fit) (g .free) (g .enough) (g .count) comesTo refl) ∙ finished-leaves (stored m x) room comesTo
+        ap (λ (p : Left). p .demodulator) (sample-taken m x room (g .fit) (g .free) (g .enough) (g .count) comesTo refl) ∙ finished-leaves (stored at48 m x) room comesTo
 
-    pub fit-again : InRange (demodulated m x room .demodulator) × (Fits (demodulated m x room .demodulator) ⊎ Aged m (demodulated m x room .demodulator))
+    pub fit-again : InRange (demodulated at48 m x room .demodulator) × (Fits (demodulated at48 m x room .demodulator) ⊎ Aged m (demodulated at48 m x room .demodulator))
     unfolding recordFit
     fit-again =
         let g = given m x room accepted in
         let rings = in-range .rings in
-        let range = stored-eight m x (rings .samples) fits (g .fit) (rings .places) in
-        let control = and-r (cursorsFit m) (controlFit 10 (m .control)) (holds (sample-record m (g .fit))) in
+        let range = stored-eight m x rings fits (g .fit) in
+        let control = and-r (cursorsFit 10 m) (controlFit 10 (m .control)) (holds (sample-record 10 m (g .fit))) in
         let c = controlOf comesTo in
         rw leaves (
           stored-in-range c,
-          elim (sampled-fits 10 (lit≤ tt) (eight 10 (back (stored m x))) range (m .control) control (g .count) (g .free)) [
+          elim (sampled-fits 10 (lit≤ tt) (eight 10 (back 10 (stored at48 m x))) range (m .control) control (g .count) (g .free)) [
             | inl t ↦ inl (stored-fits c t)
             | inr o ↦ inr (record { was = o .was; old = record { is = o .is; else-fit = stored-fits (withCandidate (withAge 254 (c .candidate)) c) (o .else-fit) } })
           ],
         )
 
 -- ---- what a reply leaves
-module _ (m : SoftDemodulator) (reply : Reply) (room : List Float) (in-range : InRange m) (accepted : Accepted (answered m reply room .answer)) where
-  reply-given : (fitForReply m ≡ true) × (m .control .owed ≡ true)
+module _ (m : SoftDemodulator) (reply : Reply) (room : List Float) (in-range : InRange m) (accepted : Accepted (answered 10 m reply room .answer)) where
+  reply-given : (fitForReply 10 m ≡ true) × (m .control .owed ≡ true)
   reply-given =
-      elim (either (fitForReply m)) [
+      elim (either (fitForReply 10 m)) [
         | inr e ↦ never _ accepted 1 m room (reply-unfit m reply room e)
         | inl fit ↦ elim (either (m .control .owed)) [
           | inr e ↦ never _ accepted 3 m room (reply-unasked m reply room fit e)
@@ -175,18 +177,18 @@ module _ (m : SoftDemodulator) (reply : Reply) (room : List Float) (in-range : I
         ]
       ]
 
-  pub reply-fit-again : InRange (answered m reply room .demodulator) × Fits (answered m reply room .demodulator)
+  pub reply-fit-again : InRange (answered 10 m reply room .demodulator) × Fits (answered 10 m reply room .demodulator)
   unfolding recordFit
   reply-fit-again =
       let fit = reply-given .0 in
       let owed = reply-given .1 in
-      let both = holds (reply-record m fit) in
-      let control = and-r (cursorsFit m) (controlFit 10 (m .control)) both in
-      let none = record-facts m (reply-record m fit) .control .reply owed in
-      let range : (i : ℕ) → i < 8 → T (inRange (eight 10 (back m) i)) = λ i l. back-in-range m in-range (10 * (7 - i)) in
-      let after : SoftDemodulator = settled m reply in
+      let both = holds (reply-record 10 m fit) in
+      let control = and-r (cursorsFit 10 m) (controlFit 10 (m .control)) both in
+      let none = record-facts 10 m (reply-record 10 m fit) .control .reply owed in
+      let range : (i : ℕ) → i < 8 → T (inRange (eight 10 (back 10 m) i)) = λ i l. back-in-range m in-range (10 * (7 - i)) in
+      let after : SoftDemodulator = replyLeaves 10 m reply in
       let kept : InRange after = record { rings = in-range .rings; values = in-range .values } in
       rw (reply-taken m reply room fit owed) (
         kept,
-        fits-by-control after kept (and-l (cursorsFit m) (controlFit 10 (m .control)) both) (replied-fits 10 (lit≤ tt) (eight 10 (back m)) range (m .control) control none reply),
+        fits-by-control after kept (and-l (cursorsFit 10 m) (controlFit 10 (m .control)) both) (replied-fits 10 (lit≤ tt) (eight 10 (back 10 m)) range (m .control) control none reply),
       )

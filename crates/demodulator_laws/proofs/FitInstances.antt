@@ -1,7 +1,7 @@
 -- Small instances of the laws of a call that leaves a fit record, at a fresh record and at one that owes a reply: what the laws ask can be met. Assumes nothing.
 use mathlib.Core.Path.{_≡_, refl, sym, ap, _∙_}
 use mathlib.Core.Logic.{_⊎_, inl, inr}
-use mathlib.Core.Bool.{true, false}
+use mathlib.Core.Bool.{false}
 use mathlib.Core.List.{[], _∷_}
 use Prim.Native.Nat.{ℕ, zero, suc}
 use native.Mathlib.Omega.{arith}
@@ -12,9 +12,10 @@ use lib.Ieee.{nan, binary32, ofBits, lt, le}
 use mir.Syntax.{w16}
 use mir.Val.{SFits}
 use Rattle.numbers.specs.Below.{allBelow}
+use Rattle.shaping.specs.Rate.{at48}
+use Rattle.shaping.proofs.RateFacts.{facts48}
 use Rattle.protocol.specs.declared.Kind.the-variants.{Bert}
 use Rattle.decode.specs.Correlator.{inRange}
-use Rattle.search.specs.declared.Candidate.the-variants.{Held}
 use Rattle.search.specs.declared.Wait.the-variants.{Free}
 use Rattle.search.specs.declared.Timer.the-variants.{Off}
 use Rattle.search.specs.declared.Reply.the-variants.{Rejected}
@@ -25,6 +26,7 @@ use Rattle.demodulator.specs.Fit.{recordFit, fitForSample, fitForReply}
 use Rattle.demodulator.specs.Calls.{nothing, done, refusal, Left, demodulated, answered}
 use Rattle.demodulator.specs.Feed.{fedInto}
 use Rattle.demodulator.proofs.StepInstances.{fresh-for-sample, room}
+use Rattle.demodulator_laws.proofs.ExampleBurst.{heldAt}
 use Rattle.demodulator_laws.proofs.StoredFits.{Rings, window-fits, new-in-range, stored-eight}
 use Rattle.demodulator_laws.proofs.FitAgain.{InRange, Fits, Old, Aged, Accepted, Given, back-in-range, given, stored-in-range, fit-again, reply-fit-again}
 use Rattle.demodulator_laws.proofs.FedFits.{Usable, feed-fit-again}
@@ -40,18 +42,18 @@ same-all zero i x = refl
 same-all (suc n) zero x = refl
 same-all (suc n) (suc i) x = same-all n i x
 
-pub fresh-rings : Rings (fresh .«filter_win») (fresh .«rx_win»)
+pub fresh-rings : Rings 10 (fresh .«filter_win») (fresh .«rx_win»)
 unfolding fresh
-fresh-rings = record { samples = λ i. rw (same-all 81 i (pos 0)) (record { sfits = lit< tt }); places = length-replicate 1920 (ofBits binary32 0) }
+fresh-rings = record { samples = λ i. rw (same-all 81 i (pos 0)) (record { sfits = lit< tt }); places = omega (arith, length-replicate 1920 (ofBits binary32 0)) }
 
 window-fits-meets : SFits w16 (getD (windowAfter fresh (pos 1)) 80 (pos 0))
-window-fits-meets = window-fits fresh (pos 1) (fresh-rings .samples) one-fits 80
+window-fits-meets = window-fits at48 facts48 fresh (pos 1) fresh-rings one-fits 80
 
-new-in-range-meets : T (inRange (filteredAfter fresh (pos 1)))
-new-in-range-meets = new-in-range fresh (pos 1) (fresh-rings .samples) one-fits
+new-in-range-meets : T (inRange (filteredAfter at48 fresh (pos 1)))
+new-in-range-meets = new-in-range at48 facts48 fresh (pos 1) fresh-rings one-fits
 
-stored-eight-meets : T (inRange (back (stored fresh (pos 1)) 70))
-stored-eight-meets = stored-eight fresh (pos 1) (fresh-rings .samples) one-fits fresh-for-sample (fresh-rings .places) 0 (lit< tt)
+stored-eight-meets : T (inRange (back 10 (stored at48 fresh (pos 1)) 70))
+stored-eight-meets = stored-eight fresh (pos 1) fresh-rings one-fits fresh-for-sample 0 (lit< tt)
 
 -- ---- a fresh record
 silent-in-range : T (inRange (ofBits binary32 0))
@@ -63,29 +65,29 @@ unfolding fresh
 fresh-in-range = record { rings = fresh-rings; values = λ i l. rw (getD-replicate 1920 i (ofBits binary32 0) nan l) silent-in-range }
 
 -- ---- a fit record left fit
-fresh-accepted : Accepted (demodulated fresh (pos 1) room .answer)
+fresh-accepted : Accepted (demodulated at48 fresh (pos 1) room .answer)
 fresh-accepted n e = let other : nothing ≡ refusal n = sym fresh-answer ∙ e in let z : _≡_ {A = ℕ} 0 1 = cc in omega arith
 
 given-meets : Given fresh room
 given-meets = given fresh (pos 1) room fresh-accepted
 
-stored-in-range-meets : InRange (stored fresh (pos 1))
+stored-in-range-meets : InRange (stored at48 fresh (pos 1))
 unfolding stored
 stored-in-range-meets = stored-in-range fresh (pos 1) one-fits fresh-in-range (fresh .control)
 
-fit-again-meets : InRange (demodulated fresh (pos 1) room .demodulator) × (Fits (demodulated fresh (pos 1) room .demodulator) ⊎ Aged fresh (demodulated fresh (pos 1) room .demodulator))
+fit-again-meets : InRange (demodulated at48 fresh (pos 1) room .demodulator) × (Fits (demodulated at48 fresh (pos 1) room .demodulator) ⊎ Aged fresh (demodulated at48 fresh (pos 1) room .demodulator))
 fit-again-meets = fit-again fresh (pos 1) one-fits fresh-in-range room fresh-accepted
 
 debtor-in-range : InRange debtor
 debtor-in-range = record { rings = fresh-in-range .rings; values = fresh-in-range .values }
 
-debtor-accepted : Accepted (answered debtor Rejected [] .answer)
+debtor-accepted : Accepted (answered 10 debtor Rejected [] .answer)
 debtor-accepted n e = let other : done ≡ refusal n = sym (ap (λ (left : Left). left .answer) reply-taken-meets) ∙ e in let z : _≡_ {A = ℕ} 0 1 = cc in omega arith
 
-back-in-range-meets : T (inRange (back debtor 1919))
+back-in-range-meets : T (inRange (back 10 debtor 1919))
 back-in-range-meets = back-in-range debtor debtor-in-range 1919
 
-reply-fit-again-meets : InRange (answered debtor Rejected [] .demodulator) × Fits (answered debtor Rejected [] .demodulator)
+reply-fit-again-meets : InRange (answered 10 debtor Rejected [] .demodulator) × Fits (answered 10 debtor Rejected [] .demodulator)
 reply-fit-again-meets = reply-fit-again debtor Rejected [] debtor-in-range debtor-accepted
 
 -- ---- a stretch
@@ -93,16 +95,16 @@ small : (i : ℕ) → SFits w16 (getD (pos 1 ∷ []) i (pos 0))
 small zero = one-fits
 small (suc i) = record { sfits = lit< tt }
 
-feed-fit-again-meets : Usable (fedInto fresh (pos 1 ∷ []) room .state)
+feed-fit-again-meets : Usable (fedInto at48 fresh (pos 1 ∷ []) room .state)
 feed-fit-again-meets = feed-fit-again (pos 1 ∷ []) small fresh room (record { in-range = fresh-in-range; fit = inl (record { for-sample = fresh-for-sample; for-reply = fresh-for-reply }) })
 
 -- one whose age is 255
 abbrev old : SoftDemodulator
-old = withControl (record { candidate = Held Bert 255 (ofBits binary32 0) (ofBits binary32 0x4180_0000) (ofBits binary32 0); wait = Free; dcd = Off; owed = false; sample = 1 }) fresh
+old = withControl (record { candidate = heldAt Bert 255; wait = Free; dcd = Off; owed = false; sample = 1 }) fresh
 
 old-is : Old old
 unfolding fresh fitForSample fitForReply recordFit controlFit candidateFit waitFit allBelow inRange ofBits le lt
 old-is = record { is = refl; else-fit = record { for-sample = refl; for-reply = refl } }
 
-feed-old-meets : Usable (fedInto old (pos 1 ∷ []) room .state)
+feed-old-meets : Usable (fedInto at48 old (pos 1 ∷ []) room .state)
 feed-old-meets = feed-fit-again (pos 1 ∷ []) small old room (record { in-range = record { rings = fresh-in-range .rings; values = fresh-in-range .values }; fit = inr old-is })

@@ -1,6 +1,7 @@
 -- A candidate that is fit but for the upper end of its age: what a match makes of one, and what a wait asks of one. Assumes nothing.
 use mathlib.Core.Bool.{Bool, true, false, _&&_}
-use Prim.Native.Nat.{ℕ, _+_, _*_, _≤_, _<_}
+use mathlib.Core.Option.{none, some}
+use Prim.Native.Nat.{ℕ, _*_, _≤_, _<_}
 use native.Mathlib.Omega.{arith}
 use lib.Dec.{T, leb, ltb, le→leb, lt→ltb}
 use lib.Ieee.{Float, binary32, ofBits, lt, le}
@@ -10,18 +11,19 @@ use Rattle.decode.specs.declared.Correlation.{Correlation}
 use Rattle.decode.specs.Correlator.{zero32, leastGain, threshold}
 use Rattle.decode.proofs.MatchFacts.{MatchFacts}
 use Rattle.search.specs.declared.Candidate.{Candidate}
-use Rattle.search.specs.declared.Candidate.the-variants.{Nothing, Held}
+use Rattle.search.specs.declared.Candidate.the-variants.{Nothing}
 use Rattle.search.specs.declared.Wait.{Wait}
 use Rattle.search.specs.declared.Wait.the-variants.{Free, Due}
-use Rattle.search.specs.Search.{ageOf, older, taken, heldAfter}
+use Rattle.search.specs.TakenBurst.{TakenBurst, heldAs, heldIn, taken, atAge, aged}
+use Rattle.search.specs.Search.{ageOf, heldAfter}
 use Rattle.search.specs.Fit.{ageFit, diffFit, gainFit, shiftFit, candidateFit, held, waitFit}
+use Rattle.search.proofs.HeldOrNot.{HeldOrNot, not-held, is-held}
 use Rattle.search.proofs.Fitness.{held-facts}
-use Rattle.search.proofs.Passing.{by-test}
+use Rattle.search.proofs.AgeInPass.{by-test}
 
 -- a candidate as it would be at another age
 abbrev pub withAge : ℕ → Candidate → Candidate
-withAge n Nothing = Nothing
-withAge n (Held kind age diff gain shift) = Held kind n diff gain shift
+withAge n candidate = elim (heldIn candidate) [ none ↦ Nothing | some t ↦ heldAs (atAge n t) ]
 
 -- ---- a candidate's clauses, its age first
 first-anew : (a a′ b c d : Bool) → T a′ → T (a && b && c && d) → T (a′ && b && c && d)
@@ -32,29 +34,28 @@ first-anew true true b c d u t = t
 age-fit : (n : ℕ) → 1 ≤ n → n ≤ 254 → T (ageFit n)
 age-fit n a b = and-i (leb 1 n) (leb n 254) (le→leb 1 n a) (le→leb n 254 b)
 
-pub at-age : (m n : ℕ) (candidate : Candidate) → T (ageFit n) → T (candidateFit (withAge m candidate)) → T (candidateFit (withAge n candidate))
+pub at-age : (m n : ℕ) {candidate : Candidate} → HeldOrNot candidate → T (ageFit n) → T (candidateFit (withAge m candidate)) → T (candidateFit (withAge n candidate))
 unfolding candidateFit
-at-age m n Nothing a t = tt
-at-age m n (Held kind age diff gain shift) a t = first-anew (ageFit m) (ageFit n) (diffFit diff) (gainFit gain) (shiftFit shift) a t
+at-age m n not-held a t = tt
+at-age m n (is-held u) a t = first-anew (ageFit m) (ageFit n) (diffFit (u .diff)) (gainFit (u .gain)) (shiftFit (u .shift)) a t
 
 -- all but the upper end of the age
 pub record Grown (candidate : Candidate) : Type 0 where
   pub values : T (candidateFit (withAge 1 candidate))
   pub born : T (held candidate) → 1 ≤ ageOf candidate
 
-pub fit-grown : (candidate : Candidate) → T (candidateFit candidate) → Grown candidate
-fit-grown Nothing t = record { values = t; born = λ h. absurd h }
-fit-grown (Held kind age diff gain shift) t =
-    record { values = at-age age 1 (Held kind age diff gain shift) tt t; born = λ h. held-facts kind age diff gain shift t .age-from }
+pub fit-grown : {candidate : Candidate} → HeldOrNot candidate → T (candidateFit candidate) → Grown candidate
+fit-grown not-held t = record { values = t; born = λ h. absurd h }
+fit-grown (is-held u) t = record { values = at-age (u .age) 1 (is-held u) tt t; born = λ h. held-facts u t .age-from }
 
-pub grown-fit : (candidate : Candidate) → Grown candidate → ageOf candidate ≤ 254 → T (candidateFit candidate)
+pub grown-fit : {candidate : Candidate} → HeldOrNot candidate → Grown candidate → ageOf candidate ≤ 254 → T (candidateFit candidate)
 unfolding candidateFit
-grown-fit Nothing g l = tt
-grown-fit (Held kind age diff gain shift) g l = at-age 1 age (Held kind age diff gain shift) (age-fit age (g .born tt) l) (g .values)
+grown-fit not-held g l = tt
+grown-fit (is-held u) g l = at-age 1 (u .age) (is-held u) (age-fit (u .age) (g .born tt) l) (g .values)
 
 -- ---- after a match
 module _ (m : Correlation) {low high : Float} (facts : MatchFacts m low high) where
-  taken-grown : (kind : Kind) → Grown (taken kind m)
+  pub taken-grown : (kind : Kind) → Grown (heldAs (taken kind m))
   unfolding candidateFit
   taken-grown kind =
       record {
@@ -67,18 +68,11 @@ module _ (m : Correlation) {low high : Float} (facts : MatchFacts m low high) wh
         born = λ h. omega arith;
       }
 
-  pub held-grown : (candidate : Candidate) (kind : Kind) → Grown candidate → Grown (heldAfter candidate kind m)
-  unfolding heldAfter
-  held-grown Nothing kind g = taken-grown kind
-  held-grown (Held k age diff gain shift) kind g =
-      by-test Grown (lt diff (m .diff)) (Held k (older age) diff gain shift) (taken kind m)
-      (λ e. record { values = g .values; born = λ h. omega arith })
-      (λ e. taken-grown kind)
-
-pub match-held : (candidate : Candidate) (kind : Kind) (m : Correlation) → T (held (heldAfter candidate kind m))
+pub held-grown : {candidate : Candidate} → HeldOrNot candidate → (new : TakenBurst) → Grown (heldAs new) → Grown candidate → Grown (heldAs (heldAfter (heldIn candidate) new))
 unfolding heldAfter
-match-held Nothing kind m = tt
-match-held (Held k age diff gain shift) kind m = by-test (λ (d : Candidate). T (held d)) (lt diff (m .diff)) _ _ (λ e. tt) (λ e. tt)
+held-grown not-held new young g = young
+held-grown (is-held t) new young g =
+    by-test (λ (u : TakenBurst). Grown (heldAs u)) (lt (t .diff) (new .diff)) (aged t) new (λ e. record { values = g .values; born = λ h. omega arith }) (λ e. young)
 
 -- ---- the wait
 pub due-fit : (p left : ℕ) (candidate : Candidate) → 1 ≤ left → left < 184 * p → T (held candidate) → T (waitFit p (Due (record { left = left })) candidate false)
@@ -98,6 +92,6 @@ wait-stays p (Due w) candidate other h t =
     (and-i (leb 1 (w .left) && ltb (w .left) (184 * p)) (held other) (and-l (leb 1 (w .left) && ltb (w .left) (184 * p)) (held candidate) three) h)
     tt
 
-pub wait-at-age : (p n : ℕ) (wait : Wait) (candidate : Candidate) → T (waitFit p wait candidate false) → T (waitFit p wait (withAge n candidate) false)
-wait-at-age p n wait Nothing t = t
-wait-at-age p n wait (Held kind age diff gain shift) t = wait-stays p wait (Held kind age diff gain shift) (Held kind n diff gain shift) tt t
+pub wait-at-age : (p n : ℕ) (wait : Wait) {candidate : Candidate} → HeldOrNot candidate → T (waitFit p wait candidate false) → T (waitFit p wait (withAge n candidate) false)
+wait-at-age p n wait not-held t = t
+wait-at-age p n wait (is-held u) t = wait-stays p wait (heldAs u) (heldAs (atAge n u)) tt t

@@ -1,6 +1,6 @@
 -- What follows from the receiver's calls, taken one by one. Assumes nothing.
 -- what a sample comes to, by the wait
-pub mod Turning
+pub mod SampleByWait
 -- a candidate fit but for its age
 pub mod Grown
 -- a search leaves a fit control fit, but for one age
@@ -18,6 +18,7 @@ pub mod SampleComes
 -- a refused stretch changes nothing
 pub mod RefusedFeed
 -- small instances of the laws of the record, of the search and of the calls: what they ask can be met
+pub mod ExampleBurst
 pub mod RecordInstances
 pub mod SearchInstances
 pub mod CallInstances

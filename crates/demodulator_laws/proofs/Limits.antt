@@ -9,20 +9,22 @@ use Rattle.numbers.specs.Below.{allBelow}
 use Rattle.protocol.specs.declared.Kind.the-variants.{Packet}
 use Rattle.decode.specs.Correlator.{inRange}
 use Rattle.search.specs.declared.Candidate.{Candidate}
-use Rattle.search.specs.declared.Candidate.the-variants.{Nothing, Held}
+use Rattle.search.specs.declared.Candidate.the-variants.{Nothing}
 use Rattle.search.specs.declared.Wait.{Wait}
 use Rattle.search.specs.declared.Wait.the-variants.{Free, Due}
 use Rattle.search.specs.declared.Timer.the-variants.{Off, Until}
 use Rattle.search.specs.declared.Control.{Control}
+use Rattle.search.specs.TakenBurst.{heldAs}
 use Rattle.search.specs.Fit.{candidateFit, waitFit, controlFit}
 use Rattle.demodulator.specs.declared.SoftDemodulator.{SoftDemodulator}
 use Rattle.demodulator.specs.Record.{fresh, assembled}
 use Rattle.demodulator.specs.Fit.{recordFit, fitForSample, fitForReply}
+use Rattle.demodulator_laws.proofs.ExampleBurst.{burstAt}
 
 -- ---- the control
 abbrev control : ℕ → ℕ → ℕ → Float → Float → Float → ℕ → Control
 control count end age diff gain shift left = record {
-  candidate = Held Packet age diff gain shift;
+  candidate = heldAs (burstAt Packet age (record { diff = diff; gain = gain; shift = shift }));
   wait = Due (record { left = left });
   dcd = Until end;
   owed = false;
@@ -118,7 +120,7 @@ abbrev bare : Candidate → Wait → Bool → Control
 bare candidate wait owed = record { candidate = candidate; wait = wait; dcd = Off; owed = owed; sample = 0 }
 
 abbrev held : Candidate
-held = Held Packet 1 (ofBits binary32 0) sixteen million
+held = heldAs (burstAt Packet 1 (record { diff = ofBits binary32 0; gain = sixteen; shift = million }))
 
 wait-alone : fits (bare Nothing (Due (record { left = 1 })) false) false
 unfolding controlFit candidateFit waitFit
@@ -139,7 +141,7 @@ owed-held = refl
 
 -- ---- the cursors: "a cursor at or past its ring's length (81, 1,920)"
 abbrev placed : ℕ → ℕ → Bool → Type 0
-placed windowCursor ringCursor answer = recordFit (assembled (fresh .«filter_win») windowCursor (fresh .«rx_win») ringCursor (fresh .control)) ≡ answer
+placed windowCursor ringCursor answer = recordFit 10 (assembled (fresh .«filter_win») windowCursor (fresh .«rx_win») ringCursor (fresh .control)) ≡ answer
 
 cursors-last : placed 80 1919 true
 unfolding fresh recordFit controlFit candidateFit waitFit
@@ -161,44 +163,44 @@ abbrev with-value : Control → ℕ → Float → SoftDemodulator
 with-value c place value = assembled (fresh .«filter_win») 0 (set (fresh .«rx_win») place value) 0 c
 
 -- "a filtered value not within ±1,000,000 in one of the seven ring places this sample's search would read besides the new value": 1910, 1900, .. 1850
-sample-value-last : fitForSample (with-value (fresh .control) 1850 million) ≡ true
+sample-value-last : fitForSample 10 (with-value (fresh .control) 1850 million) ≡ true
 unfolding fresh fitForSample recordFit controlFit candidateFit waitFit allBelow inRange ofBits le lt
 sample-value-last = refl
 
-sample-value-past : fitForSample (with-value (fresh .control) 1850 pastMillion) ≡ false
+sample-value-past : fitForSample 10 (with-value (fresh .control) 1850 pastMillion) ≡ false
 unfolding fresh fitForSample recordFit controlFit candidateFit waitFit allBelow inRange ofBits le lt
 sample-value-past = refl
 
-sample-value-below : fitForSample (with-value (fresh .control) 1910 (ofBits binary32 0xc974_2401)) ≡ false
+sample-value-below : fitForSample 10 (with-value (fresh .control) 1910 (ofBits binary32 0xc974_2401)) ≡ false
 unfolding fresh fitForSample recordFit controlFit candidateFit waitFit allBelow inRange ofBits le lt
 sample-value-below = refl
 
-sample-value-untested : fitForSample (with-value (fresh .control) 1840 nan) ≡ true
+sample-value-untested : fitForSample 10 (with-value (fresh .control) 1840 nan) ≡ true
 unfolding fresh fitForSample recordFit controlFit candidateFit waitFit allBelow inRange ofBits le lt
 sample-value-untested = refl
 
 -- "or, where the wait is 1, in one of the other places the window reads": down to 10
-window-value-last : fitForSample (with-value (waiting 1) 10 million) ≡ true
+window-value-last : fitForSample 10 (with-value (waiting 1) 10 million) ≡ true
 unfolding fresh fitForSample recordFit controlFit candidateFit waitFit allBelow inRange ofBits le lt
 window-value-last = refl
 
-window-value-past : fitForSample (with-value (waiting 1) 10 pastMillion) ≡ false
+window-value-past : fitForSample 10 (with-value (waiting 1) 10 pastMillion) ≡ false
 unfolding fresh fitForSample recordFit controlFit candidateFit waitFit allBelow inRange ofBits le lt
 window-value-past = refl
 
-window-value-untested : fitForSample (with-value (waiting 2) 10 nan) ≡ true
+window-value-untested : fitForSample 10 (with-value (waiting 2) 10 nan) ≡ true
 unfolding fresh fitForSample recordFit controlFit candidateFit waitFit allBelow inRange ofBits le lt
 window-value-untested = refl
 
 -- "on a reply: in one of the eight places": 1919, 1909, .. 1849
-reply-value-last : fitForReply (with-value (fresh .control) 1849 million) ≡ true
+reply-value-last : fitForReply 10 (with-value (fresh .control) 1849 million) ≡ true
 unfolding fresh fitForReply recordFit controlFit candidateFit waitFit allBelow inRange ofBits le lt
 reply-value-last = refl
 
-reply-value-past : fitForReply (with-value (fresh .control) 1849 pastMillion) ≡ false
+reply-value-past : fitForReply 10 (with-value (fresh .control) 1849 pastMillion) ≡ false
 unfolding fresh fitForReply recordFit controlFit candidateFit waitFit allBelow inRange ofBits le lt
 reply-value-past = refl
 
-reply-value-untested : fitForReply (with-value (fresh .control) 1850 nan) ≡ true
+reply-value-untested : fitForReply 10 (with-value (fresh .control) 1850 nan) ≡ true
 unfolding fresh fitForReply recordFit controlFit candidateFit waitFit allBelow inRange ofBits le lt
 reply-value-untested = refl

@@ -2,51 +2,51 @@
 use mathlib.Core.Path.{_≡_, refl, ap}
 use mathlib.Core.Logic.{_⊎_, inl, inr}
 use mathlib.Core.Bool.{Bool, true, false}
+use mathlib.Core.Option.{Option, none, some}
 use Prim.Native.Nat.{ℕ, _^_, _≤_, _<_}
 use native.Mathlib.Omega.{arith}
 use lib.Dec.{T, ltb}
 use borrow.Author.Tests.{ltb-true, ltb-false}
 use lib.Ieee.{Float}
 use Rattle.decode.specs.Correlator.{inRange}
-use Rattle.search.specs.declared.Candidate.{Candidate}
-use Rattle.search.specs.declared.Candidate.the-variants.{Nothing, Held}
+use Rattle.search.specs.declared.Candidate.the-variants.{Nothing}
 use Rattle.search.specs.declared.Wait.{Wait}
 use Rattle.search.specs.declared.Wait.the-variants.{Free, Due}
 use Rattle.search.specs.declared.Control.{Control}
+use Rattle.search.specs.declared.Turn.{Turn}
+use Rattle.search.specs.declared.Turn.the-variants.{Offer, Look}
 use Rattle.search.specs.declared.Reply.{Reply}
 use Rattle.search.specs.declared.Reply.the-variants.{Accepted, Rejected}
+use Rattle.search.specs.TakenBurst.{TakenBurst, heldIn, shownOf}
 use Rattle.search.specs.Search.{ageOf, searched}
-use Rattle.search.specs.Turn.{Outcome, quiet, offer, pickOutcome, offered, counted, freed, owing, due, sampled, replied}
+use Rattle.search.specs.Turn.{Outcome, quiet, offer, offered, counted, freed, owing, dueTurn, comesTo, sampled, replied}
 use Rattle.search.specs.Fit.{controlFit}
+use Rattle.search.proofs.AgeInPass.{by-test}
 use Rattle.search.proofs.TurnFits.{counted-fit, freed-fit}
-use Rattle.demodulator_laws.proofs.Turning.{sampled-free, sampled-rest, sampled-due}
+use Rattle.demodulator_laws.proofs.SampleByWait.{sampled-free, sampled-rest, sampled-due}
 use Rattle.demodulator_laws.proofs.WaitFits.{waiting-fit, settled-fit}
 use Rattle.demodulator_laws.proofs.SearchFits.{Outgrown, search-fits}
 
 abbrev pub controlOf : Outcome → Control
 controlOf (quiet c) = c
-controlOf (offer kind gain shift c) = c
+controlOf (offer shown c) = c
 
 pub either : (t : Bool) → (t ≡ true) ⊎ (t ≡ false)
 either true = inl refl
 either false = inr refl
 
-picked : (P : Outcome → Type 0) (t : Bool) (a b : Outcome) → P a → P b → P (pickOutcome t a b)
-picked P true a b p q = p
-picked P false a b p q = q
-
 module _ (p : ℕ) (symbol : 2 ≤ p) (v : ℕ → Float) (range : (i : ℕ) → i < 8 → T (inRange (v i))) where
   -- with no candidate there is no age to outgrow
   unaged : (c : Control) → c .candidate ≡ Nothing → T (controlFit p c) → c .owed ≡ false → T (controlFit p (searched p v c))
-  unaged c none fit free = elim (search-fits p symbol v range c fit free) [ inl t ↦ t | inr o ↦ absurd (omega (arith, o .was, ap ageOf none)) ]
+  unaged c unheld fit free = elim (search-fits p symbol v range c fit free) [ inl t ↦ t | inr o ↦ absurd (omega (arith, o .was, ap ageOf unheld)) ]
 
-  due-fits : (candidate : Candidate) (c : Control) → T (controlFit p c) → c .owed ≡ false → T (controlFit p (controlOf (due p v candidate (freed c))))
-  unfolding due
-  due-fits Nothing c fit free = unaged (freed c) refl (freed-fit p c fit (c .owed)) free
-  due-fits (Held kind age diff gain shift) c fit free =
-      picked (λ (o : Outcome). T (controlFit p (controlOf o))) (offered kind) (offer kind gain shift (owing true (freed c))) (quiet (searched p v (freed c)))
-      (freed-fit p c fit true)
-      (unaged (freed c) refl (freed-fit p c fit (c .owed)) free)
+  due-fits : (held : Option TakenBurst) (c : Control) → T (controlFit p c) → c .owed ≡ false → T (controlFit p (controlOf (comesTo p v (dueTurn held (freed c)))))
+  unfolding dueTurn
+  due-fits none c fit free = unaged (freed c) refl (freed-fit p c fit (c .owed)) free
+  due-fits (some t) c fit free =
+      by-test (λ (o : Turn). T (controlFit p (controlOf (comesTo p v o)))) (offered (t .kind)) (Offer (shownOf t) (owing true (freed c))) (Look (freed c))
+      (λ e. freed-fit p c fit true)
+      (λ e. unaged (freed c) refl (freed-fit p c fit (c .owed)) free)
 
   module _ (c : Control) (fit : T (controlFit p c)) where
     module _ (l : c .sample < 2 ^ 63) (free : c .owed ≡ false) where
@@ -57,7 +57,7 @@ module _ (p : ℕ) (symbol : 2 ≤ p) (v : ℕ → Float) (range : (i : ℕ) →
       by-wait (Due w) e =
           elim (either (ltb 1 (w .left))) [
             | inl t ↦ let k = ltb-true 1 (w .left) t in inl (rw (sampled-rest p v c w e k) (waiting-fit p (counted c) (counted-fit p c fit l) w e k))
-            | inr t ↦ inl (rw (sampled-due p v c w e (ltb-false 1 (w .left) t)) (due-fits (c .candidate) (counted c) (counted-fit p c fit l) free))
+            | inr t ↦ inl (rw (sampled-due p v c w e (ltb-false 1 (w .left) t)) (due-fits (heldIn (c .candidate)) (counted c) (counted-fit p c fit l) free))
           ]
 
       pub sampled-fits : T (controlFit p (controlOf (sampled p v c))) ⊎ Outgrown p c (controlOf (sampled p v c))
@@ -66,5 +66,5 @@ module _ (p : ℕ) (symbol : 2 ≤ p) (v : ℕ → Float) (range : (i : ℕ) →
     -- a reply is owed with no candidate held
     pub replied-fits : c .candidate ≡ Nothing → (reply : Reply) → T (controlFit p (replied p v reply c))
     unfolding replied
-    replied-fits none Accepted = settled-fit p c fit
-    replied-fits none Rejected = unaged (owing false c) none (settled-fit p c fit) refl
+    replied-fits unheld Accepted = settled-fit p c fit
+    replied-fits unheld Rejected = unaged (owing false c) unheld (settled-fit p c fit) refl

@@ -15,15 +15,16 @@ use Rattle.protocol.specs.declared.SyncBurst.the-variants.{Frame, Preamble, End
 use Rattle.decode.specs.Correlator.{correlation, matches, inRange}
 use Rattle.decode.proofs.MatchFacts.{match-facts}
 use Rattle.search.specs.declared.Candidate.{Candidate}
-use Rattle.search.specs.declared.Candidate.the-variants.{Nothing, Held}
 use Rattle.search.specs.declared.Timer.the-variants.{Until}
 use Rattle.search.specs.declared.Control.{Control}
-use Rattle.search.specs.Search.{withTimer, withCandidate, rank, sameKind, ageOf, endAfter, heldAfter, waitAfter, carried, missed, tried, passed, searched}
+use Rattle.search.specs.TakenBurst.{heldIn}
+use Rattle.search.specs.Search.{withTimer, withCandidate, rank, sameKind, ageOf, endAfter, waitAfter, carried, missed, tried, passed, searched}
 use Rattle.search.specs.Fit.{candidateFit, timerFit, held, waitFit, controlFit}
+use Rattle.search.proofs.HeldOrNot.{HeldOrNot, not-held, is-held, held-or-not}
 use Rattle.search.proofs.Fitness.{age-most}
 use Rattle.search.proofs.Clauses.{clauses, joined}
-use Rattle.search.proofs.Passing.{by-test, carried-candidate, carried-sample, Passing, passing, tried-passing}
-use Rattle.demodulator_laws.proofs.Grown.{withAge, at-age, Grown, fit-grown, grown-fit, held-grown, match-held, due-fit, wait-stays, wait-at-age}
+use Rattle.search.proofs.AgeInPass.{by-test, carried-candidate, carried-sample, Passing, passing, tried-passing}
+use Rattle.demodulator_laws.proofs.Grown.{withAge, at-age, Grown, fit-grown, grown-fit, taken-grown, held-grown, due-fit, wait-stays, wait-at-age}
 
 -- fit but for an age of 255, that was 254
 pub record Outgrown (p : ℕ) (before after : Control) : Type 0 where
@@ -55,8 +56,8 @@ sound-aged p c s l =
     (record {
       count = le→leb (c .sample) (2 ^ 63) l;
       timer = s .timer;
-      candidate = at-age 1 254 (c .candidate) tt (s .candidate .values);
-      wait = rw (s .owed) (wait-at-age p 254 (c .wait) (c .candidate) (s .wait));
+      candidate = at-age 1 254 (held-or-not (c .candidate)) tt (s .candidate .values);
+      wait = rw (s .owed) (wait-at-age p 254 (c .wait) (held-or-not (c .candidate)) (s .wait));
       reply = rw (s .owed) tt;
     })
 
@@ -68,18 +69,18 @@ module _ (p : ℕ) (symbol : 2 ≤ p) (v : ℕ → Float) (range : (i : ℕ) →
       (λ e. record { timer = le→leb (endAfter (c .sample) (24 * p)) (2 ^ 63 + 384 * p) (omega arith); candidate = s .candidate; wait = s .wait; owed = s .owed })
       (λ e. s)
 
-  missed-sound : (kind : Kind) (candidate : Candidate) (c : Control) → c .candidate ≡ candidate → c .sample ≤ 2 ^ 63 → ageOf (c .candidate) ≤ 255 → Sound p c → Sound p (missed p kind candidate c)
+  missed-sound : (kind : Kind) {candidate : Candidate} → HeldOrNot candidate → (c : Control) → c .candidate ≡ candidate → c .sample ≤ 2 ^ 63 → ageOf (c .candidate) ≤ 255 → Sound p c → Sound p (missed p kind (heldIn candidate) c)
   unfolding missed
-  missed-sound kind Nothing c e l a s = s
-  missed-sound kind (Held k age diff gain shift) c e l a s =
-      let same : ageOf (c .candidate) ≡ age = ap ageOf e in
+  missed-sound kind not-held c e l a s = s
+  missed-sound kind (is-held u) c e l a s =
+      let same : ageOf (c .candidate) ≡ u .age = ap ageOf e in
       let holding : T (held (c .candidate)) = rw e tt in
-      let born : 1 ≤ age = omega (arith, s .candidate .born holding) in
-      by-test (Sound p) (sameKind k kind) (record { candidate = c .candidate; wait = waitAfter p age; dcd = Until (endAfter (c .sample) (384 * p)); owed = c .owed; sample = c .sample }) c
+      let born : 1 ≤ u .age = omega (arith, s .candidate .born holding) in
+      by-test (Sound p) (sameKind (u .kind) kind) (record { candidate = c .candidate; wait = waitAfter p (u .age); dcd = Until (endAfter (c .sample) (384 * p)); owed = c .owed; sample = c .sample }) c
       (λ t. record {
         timer = le→leb (endAfter (c .sample) (384 * p)) (2 ^ 63 + 384 * p) (omega arith);
         candidate = s .candidate;
-        wait = due-fit p (184 * p - age) (c .candidate) (omega arith) (omega arith) holding;
+        wait = due-fit p (184 * p - u .age) (c .candidate) (omega arith) (omega arith) holding;
         owed = s .owed;
       })
       (λ t. s)
@@ -92,19 +93,17 @@ module _ (p : ℕ) (symbol : 2 ≤ p) (v : ℕ → Float) (range : (i : ℕ) →
   tried-midway : (n : ℕ) → n ≤ 254 → (kind : Kind) (c : Control) → Midway n (rank kind) c → Midway n (rank kind + 1) (tried p v kind c)
   unfolding tried
   tried-midway n small kind c s =
-      let m = correlation (Frame kind) v in
-      let after : Candidate = heldAfter (c .candidate) kind m in
       record {
         ages = tried-passing p v range n kind c (s .ages);
         sound =
-            by-test (Sound p) (matches (Frame kind) v) (withCandidate after c) (missed p kind (c .candidate) c)
+            by-test (Sound p) (matches (Frame kind) v) _ _
             (λ e. record {
               timer = s .sound .timer;
-              candidate = held-grown m (match-facts v range (Frame kind) (holds e)) (c .candidate) kind (s .sound .candidate);
-              wait = wait-stays p (c .wait) (c .candidate) after (match-held (c .candidate) kind m) (s .sound .wait);
+              candidate = held-grown (held-or-not (c .candidate)) _ (taken-grown (correlation (Frame kind) v) (match-facts v range (Frame kind) (holds e)) kind) (s .sound .candidate);
+              wait = wait-stays p (c .wait) (c .candidate) _ tt (s .sound .wait);
               owed = s .sound .owed;
             })
-            (λ e. missed-sound kind (c .candidate) c refl (s .ages .count) (omega (arith, s .ages .most)) (s .sound));
+            (λ e. missed-sound kind (held-or-not (c .candidate)) c refl (s .ages .count) (omega (arith, s .ages .most)) (s .sound));
       }
 
   passed-midway : (n : ℕ) → n ≤ 254 → (c : Control) → Midway n 0 c → Midway n 4 (passed p v c)
@@ -129,12 +128,12 @@ module _ (p : ℕ) (symbol : 2 ≤ p) (v : ℕ → Float) (range : (i : ℕ) →
   pub search-fits : (c : Control) → T (controlFit p c) → c .owed ≡ false → T (controlFit p (searched p v c)) ⊎ Outgrown p c (searched p v c)
   search-fits c fit none =
       let s = clauses p c fit in
-      let young = age-most (c .candidate) (s .candidate) in
-      let start : Sound p c = record { timer = s .timer; candidate = fit-grown (c .candidate) (s .candidate); wait = rw none at (s .wait); owed = none } in
+      let young = age-most (held-or-not (c .candidate)) (s .candidate) in
+      let start : Sound p c = record { timer = s .timer; candidate = fit-grown (held-or-not (c .candidate)) (s .candidate); wait = rw none at (s .wait); owed = none } in
       let d = searched p v c in
       let end = searched-midway c young (leb→le (c .sample) (2 ^ 63) (s .count)) start in
       let most : ageOf (d .candidate) ≤ 255 = omega (arith, end .ages .most, young) in
       elim (eq-or-lt-of-le most) [
         | inl e ↦ inr (record { was = omega (arith, end .ages .most, young); is = e; else-fit = sound-aged p d (end .sound) (end .ages .count) })
-        | inr l ↦ inl (sound-joined p d (end .sound) (end .ages .count) (grown-fit (d .candidate) (end .sound .candidate) (omega arith)))
+        | inr l ↦ inl (sound-joined p d (end .sound) (end .ages .count) (grown-fit (held-or-not (d .candidate)) (end .sound .candidate) (omega arith)))
       ]

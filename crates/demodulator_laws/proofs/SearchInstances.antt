@@ -16,9 +16,8 @@ use Rattle.protocol.specs.declared.Kind.the-variants.{Lsf}
 use Rattle.protocol.specs.declared.SyncBurst.the-variants.{Frame}
 use Rattle.protocol.specs.Bursts.{signsOf, spelled, wordOf, signOf}
 use Rattle.decode.specs.declared.Spread.{Spread}
-use Rattle.decode.specs.Correlator.{leastGain, threshold, heard, highest, lowest, gainOf, shiftOf, symbolOf, distanceOf, summed, diffOf, correlation, matches, inRange}
+use Rattle.decode.specs.Correlator.{leastGain, threshold, zeroUnsigned, highest, lowest, gainOf, shiftOf, symbolOf, distanceOf, summed, diffOf, correlation, matches, inRange}
 use Rattle.decode.specs.Parts.{valuesOf, spreadOf, answerFrom}
-use Rattle.search.specs.declared.Candidate.the-variants.{Held}
 use Rattle.search.specs.declared.Wait.the-variants.{Free}
 use Rattle.search.specs.declared.Timer.the-variants.{Off}
 use Rattle.search.specs.declared.Control.{Control}
@@ -27,12 +26,13 @@ use Rattle.search.specs.Search.{ageOf, heldAfter, carried, missed, tried, passe
 use Rattle.search.specs.Turn.{sampled, replied}
 use Rattle.search.specs.Fit.{candidateFit, waitFit, controlFit}
 use Rattle.search.proofs.Fitness.{ControlFacts, control-facts}
-use Rattle.search.proofs.Searching.{searched-same, replied-same}
-use Rattle.search.proofs.Passing.{Passing, passing, tried-passing}
+use Rattle.search.proofs.SearchSame.{searched-same, replied-same}
+use Rattle.search.proofs.AgeInPass.{Passing, passing, tried-passing}
 use Rattle.search.proofs.Compared.{match-own, Sensed, compared-own}
 use Rattle.search.proofs.Silent.{silent-search, faint}
 use Rattle.demodulator.specs.Record.{freshControl}
-use Rattle.demodulator_laws.proofs.Turning.{sampled-same}
+use Rattle.demodulator_laws.proofs.ExampleBurst.{heldAt}
+use Rattle.demodulator_laws.proofs.SampleByWait.{sampled-same}
 use Rattle.demodulator_laws.proofs.SearchFits.{Outgrown, search-fits}
 
 high : Float
@@ -48,7 +48,7 @@ sixth-range : (i : ℕ) → i < 8 → T (inRange (valuesOf sixth i))
 sixth-range = all-below 8 (λ i. inRange (valuesOf sixth i)) (unfold allBelow inRange high low le lt eq ofInt ofBits in tt)
 
 abbrev oldest : Control
-oldest = record { candidate = Held Lsf 254 (ofBits binary32 0) (ofBits binary32 0x4180_0000) (ofBits binary32 0); wait = Free; dcd = Off; owed = false; sample = 2 ^ 63 }
+oldest = record { candidate = heldAt Lsf 254; wait = Free; dcd = Off; owed = false; sample = 2 ^ 63 }
 
 oldest-fit : T (controlFit 10 oldest)
 unfolding controlFit candidateFit waitFit inRange ofBits le lt
@@ -65,16 +65,16 @@ replied-same-meets : replied 10 (valuesOf sixth) Rejected oldest ≡ replied 10 
 replied-same-meets = replied-same 10 (valuesOf sixth) (λ i. valuesOf sixth i) (λ i l. refl) Rejected oldest
 
 -- ---- one hearing
-abbrev sixth-heard : List Float
-sixth-heard = map heard sixth
+abbrev sixth-unsigned : List Float
+sixth-unsigned = map zeroUnsigned sixth
 
 abbrev sixth-spread : Spread
-sixth-spread = spreadOf (valuesOf sixth-heard)
+sixth-spread = spreadOf (valuesOf sixth-unsigned)
 
-sixth-sensed : Sensed sixth sixth-heard sixth-spread
+sixth-sensed : Sensed sixth sixth-unsigned sixth-spread
 sixth-sensed = record { values = refl; spread = refl }
 
-compared-own-meets : answerFrom (Frame Lsf) (valuesOf sixth-heard) sixth-spread ≡ correlation (Frame Lsf) (valuesOf sixth)
+compared-own-meets : answerFrom (Frame Lsf) (valuesOf sixth-unsigned) sixth-spread ≡ correlation (Frame Lsf) (valuesOf sixth)
 compared-own-meets = compared-own sixth-sensed (Frame Lsf) _ refl
 
 match-own-meets : matches (Frame Lsf) (valuesOf sixth) ≡ lt (correlation (Frame Lsf) (valuesOf sixth) .diff) threshold
@@ -88,26 +88,26 @@ passing-meets : Passing (valuesOf sixth) 254 1 (tried 10 (valuesOf sixth) Lsf ol
 passing-meets = tried-passing 10 (valuesOf sixth) sixth-range 254 Lsf oldest begun
 
 -- ---- fitness
-control-facts-meets : ControlFacts oldest
-control-facts-meets = control-facts oldest oldest-fit
+control-facts-meets : ControlFacts 10 oldest
+control-facts-meets = control-facts 10 oldest oldest-fit
 
 search-fits-meets : T (controlFit 10 (searched 10 (valuesOf sixth) oldest)) ⊎ Outgrown 10 oldest (searched 10 (valuesOf sixth) oldest)
 search-fits-meets = search-fits 10 (lit≤ tt) (valuesOf sixth) sixth-range oldest oldest-fit refl
 
 -- "A made-up age of 254 may come back as 255."
 comes-back : ageOf (searched 10 (valuesOf sixth) oldest .candidate) ≡ 255
-unfolding searched passed tried missed heldAfter carried matches correlation diffOf summed sumTo anyBelow distanceOf symbolOf shiftOf gainOf highest lowest heard larger smaller sizeOf signsOf spelled wordOf signOf high low add sub div lt eq ofInt ofBits
+unfolding searched passed tried missed heldAfter carried matches correlation diffOf summed sumTo anyBelow distanceOf symbolOf shiftOf gainOf highest lowest zeroUnsigned larger smaller sizeOf signsOf spelled wordOf signOf high low add sub div lt eq ofInt ofBits
 comes-back = refl
 
 -- ---- nothing to do: no candidate, and silence
 abbrev zeros : List Float
 zeros = replicate 8 (ofBits binary32 0)
 
-zeros-sensed : Sensed zeros (map heard zeros) (spreadOf (valuesOf (map heard zeros)))
+zeros-sensed : Sensed zeros (map zeroUnsigned zeros) (spreadOf (valuesOf (map zeroUnsigned zeros)))
 zeros-sensed = record { values = refl; spread = refl }
 
-zeros-faint : lt (spreadOf (valuesOf (map heard zeros)) .gain) leastGain ≡ true
-unfolding gainOf highest lowest heard larger smaller add sub div lt eq ofBits
+zeros-faint : lt (spreadOf (valuesOf (map zeroUnsigned zeros)) .gain) leastGain ≡ true
+unfolding gainOf highest lowest zeroUnsigned larger smaller add sub div lt eq ofBits
 zeros-faint = refl
 
 silent-search-meets : searched 10 (valuesOf zeros) freshControl ≡ freshControl

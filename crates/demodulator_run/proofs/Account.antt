@@ -5,10 +5,11 @@ use mathlib.Core.List.{List}
 use Prim.Native.Nat.{ℕ, _+_, _*_, _≤_, _<_}
 use native.Mathlib.Omega.{arith}
 use Rattle.protocol.specs.declared.Kind.{Kind}
+use Rattle.search.specs.declared.Shown.{Shown}
 use Rattle.search.specs.Search.{rank}
-use Rattle.demodulator_run.specs.Marks.{Mark}
-use Rattle.demodulator_run.specs.Demands.{Ear, Matches, In, Started, Taken, Standing, DueAt, Fails, Shown, dueMark, DueBy}
-use Rattle.demodulator_run.proofs.Log.{more, sampleOf, Starts, Takes, Stands, Shows, takes-at, stands-at, due-shown, shown-due}
+use Rattle.demodulator_run.specs.Marks.{Mark, FellDue}
+use Rattle.demodulator_run.specs.Demands.{Ear, Matches, In, Started, Taken, Standing, DueAt, Fails, DueBy}
+use Rattle.demodulator_run.proofs.Log.{more, sampleOf, Starts, Takes, Stands, Shows, takes-at, stands-at}
 use Rattle.demodulator_run.proofs.Log.{old, either, started-old, taken-old, standing-old, started-either, taken-either, standing-either, shown-either}
 
 module _ (ear : Ear) (p : ℕ) where
@@ -33,7 +34,7 @@ module _ (ear : Ear) (p : ℕ) where
     pub s : ℕ
     pub d : ℕ
     pub x : Shown
-    pub fell : In (dueMark d x) l
+    pub fell : In (FellDue d x) l
     pub episode : Episode l n b k s d x
 
   -- the candidate gave way, while no wait was held, to a kind not listed later
@@ -50,7 +51,7 @@ module _ (ear : Ear) (p : ℕ) where
     pub past : (y : Mark) → In y l → sampleOf y ≤ n
     pub genuine : (b : ℕ) (k : Kind) → Taken l b k → Matches ear k b
     pub spaced : (d e : ℕ) → DueAt l d → DueAt l e → d < e → d + 184 * p ≤ e + 1
-    pub told : (d : ℕ) (x : Shown) → In (dueMark d x) l → (m : ℕ) × (b : ℕ) × (k : Kind) × (s : ℕ) × Episode l m b k s d x
+    pub told : (d : ℕ) (x : Shown) → In (FellDue d x) l → (m : ℕ) × (b : ℕ) × (k : Kind) × (s : ℕ) × Episode l m b k s d x
     pub firsts : (m : ℕ) → Started l m → ((b : ℕ) × (k : Kind) × Closed l m b k) ⊎ Now m
     pub fates : (b : ℕ) (k : Kind) → Standing l b k → HandedOn l b k ⊎ (((m : ℕ) × Closed l m b k) ⊎ Here b k)
 
@@ -99,9 +100,9 @@ module _ (ear : Ear) (p : ℕ) where
       past-more z i = elim (either l y i) [ inl j ↦ let u = A .past z j in omega arith | inr e ↦ omega (arith, ap sampleOf e) ]
 
       -- what is over stays over
-      pub over : {m b : ℕ} {k : Kind} {s d : ℕ} {x : Shown} → In (dueMark d x) l → Episode l m b k s d x → Episode (more l y) m b k s d x
+      pub over : {m b : ℕ} {k : Kind} {s d : ℕ} {x : Shown} → In (FellDue d x) l → Episode l m b k s d x → Episode (more l y) m b k s d x
       over {d = d} {x = x} i E =
-          let u : d ≤ n = A .past (dueMark d x) i in
+          let u : d ≤ n = A .past (FellDue d x) i in
           let v = E .before in
           episode-more (omega arith) (λ j h t w. let e = stands-at y j h t in omega arith) E
 
@@ -139,4 +140,4 @@ module _ (ear : Ear) (p : ℕ) where
       }
         where
           before : (d : ℕ) → DueAt (more l y) d → DueAt l d
-          before d i = let (x, j) = due-shown i in elim (shown-either l y x j) [ inl q ↦ shown-due x q | inr q ↦ absurd (plain d x q) ]
+          before d i = let (x, j) = i in elim (shown-either l y x j) [ inl q ↦ (x, q) | inr q ↦ absurd (plain d x q) ]

@@ -5,11 +5,12 @@ use mathlib.Core.List.{List}
 use Prim.Native.Nat.{ℕ, _≤_}
 use native.Mathlib.Nat.{mul-le-mul-left}
 use native.Mathlib.Omega.{arith}
+use Rattle.machine.specs.Runs.{run}
 use Rattle.protocol.specs.declared.Kind.{Kind}
 use Rattle.demodulator_run.specs.Marks.{Mark, First}
-use Rattle.demodulator_run.specs.Demands.{Ear, at, Matches, DueAt}
-use Rattle.demodulator_run.proofs.Listing.{rank-most}
-use Rattle.demodulator_run.proofs.Log.{more, new, taken-either, shown-either, due-shown}
+use Rattle.demodulator_run.specs.Demands.{Ear, Matches, DueAt, takenAt}
+use Rattle.demodulator_run.proofs.KindOrder.{rank-most}
+use Rattle.demodulator_run.proofs.Log.{more, new, taken-either, shown-either}
 use Rattle.demodulator_run.proofs.Account.{account-more}
 use Rattle.demodulator_run.proofs.Phase.{Idle, Holding}
 
@@ -19,10 +20,10 @@ module _ (ear : Ear) (p : ℕ) (l : List Mark) (n : ℕ) (I : Idle ear p l n) (k
 
   begun-frames : (e : ℕ) → DueAt (more l (First n k)) e → e ≤ n
   begun-frames e f =
-      let (x, i) = due-shown f in
+      let (x, i) = f in
       elim (shown-either l (First n k) x i) [ inl j ↦ I .past _ j | inr q ↦ absurd q ]
 
-  pub begun : Holding ear p (more l (First n k)) n k 1 (at ear k n .diff) (at ear k n .gain) (at ear k n .shift)
+  pub begun : Holding ear p (more l (First n k)) n (takenAt ear k n)
   begun = record {
     first = n;
     run = n;

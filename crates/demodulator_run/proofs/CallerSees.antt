@@ -1,165 +1,170 @@
--- Demand 3 by what a caller sees, over every list of calls from a fresh record: samples, stretches, replies and queries in any order. Assumes nothing.
+-- Demand 3 by what a caller sees, at a rate, over every list of calls from a fresh record: samples, stretches, replies and queries in any order. Assumes nothing.
 use mathlib.Core.Path.{_≡_, refl, sym, ap, subst, _∙_}
 use mathlib.Core.Logic.{_↔_}
 use mathlib.Core.Bool.{true, false}
 use mathlib.Core.List.{List, _∷_, List·Memᴰ}
-use Prim.Native.Nat.{ℕ, _+_, _≤_}
-use lib.Ieee.{Float}
-use Rattle.machine.specs.Runs.{run, Each}
-use Rattle.shaping.specs.Taps.{taps}
+use Prim.Native.Nat.{ℕ, _+_, _-_, _*_, _≤_}
+use Rattle.machine.specs.Runs.{run, Each, answers}
+use Rattle.machine.proofs.Parts.{each-front}
+use Rattle.shaping.specs.Rate.{Rate}
+use Rattle.shaping.proofs.RateFacts.{Facts}
 use Rattle.protocol.specs.declared.Kind.{Kind}
 use Rattle.search.specs.declared.Waiting.{Waiting}
 use Rattle.search.specs.declared.Wait.the-variants.{Due}
+use Rattle.search.specs.declared.Shown.{Shown}
 use Rattle.search.specs.declared.Control.{Control}
+use Rattle.search.specs.TakenBurst.{TakenBurst, shownOf}
 use Rattle.search.specs.Turn.{offered}
 use Rattle.search.specs.Fit.{held}
 use Rattle.demodulator.specs.declared.SoftDemodulator.{SoftDemodulator}
+use Rattle.demodulator.specs.declared.Offer.{Offer}
 use Rattle.demodulator.specs.Record.{fresh}
 use Rattle.demodulator.specs.Calls.{frame}
 use Rattle.demodulator.proofs.Fitness.{record-facts}
-use Rattle.demodulator_run.specs.Rules.{Single, Said, single, heardAll}
-use Rattle.demodulator_run.specs.Run.{left, saidBy, recordAfter, answersFrom, Sampled}
+use Rattle.demodulator_run.specs.Rules.{Single, Said, single, historyAll}
+use Rattle.demodulator_run.specs.Run.{left, saidBy, recordAfter, singleReceiver, Callable}
 use Rattle.demodulator_run.specs.Marks.{First, FellDue, isRefusal, logAll}
 use Rattle.demodulator_run.specs.Demands.{In, Started, AgeAtMost}
 use Rattle.demodulator_run.specs.Exact.{HeldOf}
 use Rattle.demodulator_run.specs.Calls.{Call, receiver, Given, singlesFrom}
-use Rattle.demodulator_run.specs.CallerSees.{Moment, controlAt, leftAt, Admitted, NoneHeld, TakenSeen, DueSeen, Offering, DemandThree}
-use Rattle.demodulator_run.proofs.Demand48.{ten, alone-48, again-48, due-span-48, due-once-48, age-limit-48, log-exact-48}
+use Rattle.demodulator_run.specs.CallerSees.{Moment, controlAt, leftAt, Admitted, NoneHeld, TakenSeen, DueSeen, DemandThree}
+use Rattle.demodulator_run.proofs.DemandAt.{size-at, alone-at, again-at, due-span-at, due-once-at, age-limit-at, log-exact-at}
 use Rattle.demodulator_run.proofs.Step.{call-agrees}
-use Rattle.demodulator_run.proofs.SinglesRun.{sampled-front, singles-run, singles-fit, next-single}
+use Rattle.demodulator_run.proofs.SinglesRun.{singles-run, singles-fit, next-single}
 use Rattle.demodulator_run.proofs.Singles.{offersSaid, singles-record, singles-offers, singles-sampled}
 use Rattle.demodulator_run.proofs.OfferSeen.{offer-out, offer-in, sample-only, offers-seen, seen-offers}
 use Rattle.demodulator_run.proofs.TakenSeen.{taken-started, started-taken}
 
--- ---- a list of single calls
-module _ (ss : List Single) (sampled : Sampled ss) where
-  -- the record's moment, as the rules have it
-  module _ (t : Moment ss) where
-    front : Sampled (t .before)
-    front = sampled-front (t .before) (t .call ∷ t .after) (subst Sampled (t .split) sampled)
+module _ (R : Rate) (F : Facts R) where
+  -- ---- a list of single calls
+  module _ (ss : List Single) (sampled : Each Callable ss) where
+    -- the record's moment, as the rules have it
+    module _ (t : Moment ss) where
+      front : Each Callable (t .before)
+      front = each-front Callable (t .before) (t .call ∷ t .after) (subst (Each Callable) (t .split) sampled)
 
-    control-same : controlAt t ≡ heardAll taps 10 (t .before) .control
-    control-same = singles-run (t .before) front .0 .control
+      control-same : controlAt R t ≡ historyAll (R .taps) (R .p) (t .before) .control
+      control-same = singles-run R F (t .before) front .0 .control
 
-    said-same : saidBy (leftAt t) ≡ single taps 10 (heardAll taps 10 (t .before)) (t .call) .said
-    said-same = next-single (t .before) front (t .call)
+      said-same : saidBy (leftAt R t) ≡ single (R .taps) (R .p) (historyAll (R .taps) (R .p) (t .before)) (t .call) .said
+      said-same = next-single R F (t .before) front (t .call)
 
-    accepted : Admitted t → isRefusal (single taps 10 (heardAll taps 10 (t .before)) (t .call) .said .answer) ≡ false
-    accepted e = sym (ap (λ (s : Said). isRefusal (s .answer)) said-same) ∙ e
+      admitted : Admitted R t → isRefusal (single (R .taps) (R .p) (historyAll (R .taps) (R .p) (t .before)) (t .call) .said .answer) ≡ false
+      admitted e = sym (ap (λ (s : Said). isRefusal (s .answer)) said-same) ∙ e
 
-    left-same : leftAt t .demodulator .control ≡ single taps 10 (heardAll taps 10 (t .before)) (t .call) .heard .control
-    left-same = call-agrees _ _ (singles-run (t .before) front .0) (singles-fit (t .before) front) (t .call) .control
+      left-same : leftAt R t .demodulator .control ≡ single (R .taps) (R .p) (historyAll (R .taps) (R .p) (t .before)) (t .call) .history .control
+      left-same = call-agrees R F _ _ (singles-run R F (t .before) front .0) (singles-fit R F (t .before) front) (t .call) .control
 
-    -- a wait has its candidate
-    waits : (w : Waiting) → controlAt t .wait ≡ Due w → held (controlAt t .candidate) ≡ true
-    waits w e = record-facts _ (singles-fit (t .before) front .for-query) .control .wait w e .holding
+      -- a wait has its candidate
+      waits : (w : Waiting) → controlAt R t .wait ≡ Due w → held (controlAt R t .candidate) ≡ true
+      waits w e = record-facts (R .p) _ (singles-fit R F (t .before) front .for-query) .control .wait w e .holding
 
-  -- ---- what is taken
-  started : (n : ℕ) → TakenSeen ss n → Started (logAll taps 10 ss) n
-  started n s =
-      let t = s .moment in
-      let c = control-same t in
-      subst (Started (logAll taps 10 ss)) (sym (ap (λ (d : Control). d .sample) (left-same t)) ∙ s .number)
-      (taken-started taps 10 ten ss (alone-48 ss sampled) (again-48 ss sampled) (t .before) (t .after) (t .call) (t .split) (accepted t (s .admitted))
-      (subst (λ (d : Control). (w : Waiting) → d .wait ≡ Due w → held (d .candidate) ≡ true) c (waits t))
-      (subst (NoneHeld (t .call)) c (s .none))
-      (sym (ap (λ (d : Control). held (d .candidate)) (left-same t)) ∙ s .holds))
+    -- ---- what is taken
+    started : (n : ℕ) → TakenSeen R ss n → Started (logAll (R .taps) (R .p) ss) n
+    started n s =
+        let t = s .moment in
+        let c = control-same t in
+        subst (Started (logAll (R .taps) (R .p) ss)) (sym (ap (λ (d : Control). d .sample) (left-same t)) ∙ s .number)
+        (taken-started (R .taps) (R .p) (size-at R F) ss (alone-at R F ss sampled) (again-at R F ss sampled) (t .before) (t .after) (t .call) (t .split) (admitted t (s .admitted))
+        (subst (λ (d : Control). (w : Waiting) → d .wait ≡ Due w → held (d .candidate) ≡ true) c (waits t))
+        (subst (NoneHeld (t .call)) c (s .none))
+        (sym (ap (λ (d : Control). held (d .candidate)) (left-same t)) ∙ s .holds))
 
-  seen : (n : ℕ) → Started (logAll taps 10 ss) n → TakenSeen ss n
-  seen n (k, i) =
-      let m = log-exact-48 ss sampled (First n k) .0 i in
-      let t : Moment ss = record { before = m .before; call = m .call; after = m .after; split = m .split } in
-      let c = control-same t in
-      let r = m .rules in
-      let s = started-taken taps 10 ten ss (alone-48 ss sampled) (again-48 ss sampled) (m .before) (m .after) (m .call) (m .split) (m .accepted)
-      (subst (λ (d : Control). (w : Waiting) → d .wait ≡ Due w → held (d .candidate) ≡ true) c (waits t)) n (r .0) (r .1) (r .2 .0) (r .2 .1) k (r .2 .2) in
+    seen : (n : ℕ) → Started (logAll (R .taps) (R .p) ss) n → TakenSeen R ss n
+    seen n (k, i) =
+        let m = log-exact-at R F ss sampled (First n k) .0 i in
+        let t : Moment ss = record { before = m .before; call = m .call; after = m .after; split = m .split } in
+        let c = control-same t in
+        let r = m .rules in
+        let s = started-taken (R .taps) (R .p) (size-at R F) ss (alone-at R F ss sampled) (again-at R F ss sampled) (m .before) (m .after) (m .call) (m .split) (m .admitted)
+        (subst (λ (d : Control). (w : Waiting) → d .wait ≡ Due w → held (d .candidate) ≡ true) c (waits t)) n (r .0) (r .1) (r .2 .0) (r .2 .1) k (r .2 .2) in
+        record {
+          moment = t;
+          admitted = ap (λ (o : Said). isRefusal (o .answer)) (said-same t) ∙ m .admitted;
+          none = subst (NoneHeld (m .call)) (sym c) (s .0);
+          holds = ap (λ (d : Control). held (d .candidate)) (left-same t) ∙ s .1;
+          number = ap (λ (d : Control). d .sample) (left-same t) ∙ s .2;
+        }
+
+    -- ---- what is due
+    abbrev Marked : ℕ → Kind → Type 0
+    Marked d kind = (x : Shown) × (x .kind ≡ kind) × In (FellDue d x) (logAll (R .taps) (R .p) ss)
+
+    due-in : (d : ℕ) (kind : Kind) → DueSeen R ss kind d → Marked d kind
+    due-in d kind s =
+        let t = s .moment in
+        let c = control-same t in
+        let h = subst (λ (e : Control). (t : TakenBurst) × HeldOf kind t (e .candidate)) c (s .awaited) in (
+          shownOf (h .0),
+          h .1 .1,
+          log-exact-at R F ss sampled (FellDue d (shownOf (h .0))) .1 (record {
+            before = t .before;
+            call = t .call;
+            after = t .after;
+            split = t .split;
+            admitted = admitted t (s .admitted);
+            rules = (s .value, s .room, s .is-sample, s .number ∙ ap (λ (e : Control). e .sample + 1) c, sym (ap (λ (e : Control). e .wait) c) ∙ s .last, (h .0, h .1 .0, refl));
+          }),
+        )
+
+    due-out : (d : ℕ) (kind : Kind) → Marked d kind → DueSeen R ss kind d
+    due-out d kind (x, same, i) =
+        let m = log-exact-at R F ss sampled (FellDue d x) .0 i in
+        let t : Moment ss = record { before = m .before; call = m .call; after = m .after; split = m .split } in
+        let c = control-same t in
+        record {
+          moment = t;
+          admitted = ap (λ (s : Said). isRefusal (s .answer)) (said-same t) ∙ m .admitted;
+          value = m .rules .0;
+          room = m .rules .1;
+          is-sample = m .rules .2;
+          last = ap (λ (e : Control). e .wait) c ∙ m .rules .4;
+          awaited = (m .rules .5 .0, (ap (λ (e : Control). e .candidate) c ∙ m .rules .5 .1, ap (λ (y : Shown). y .kind) (m .rules .5 .2) ∙ same));
+          number = m .rules .3 ∙ sym (ap (λ (e : Control). e .sample + 1) c);
+        }
+
+    -- ---- what is offered
+    seen-due : (o : Offer) → List·Memᴰ o (offersSaid (answers (singleReceiver R) fresh ss)) → (offered (o .kind) ≡ true) × DueSeen R ss (o .kind) (o .sample)
+    unfolding left
+    seen-due o i =
+        let (b, c, a, e, f) = offers-seen R ss fresh o i in
+        let (x, room, q) = sample-only R (recordAfter R b) c o f in
+        let told = subst (λ (s : Single). left R (recordAfter R b) s .answer ≡ frame o) q f in
+        let w = offer-out R (recordAfter R b) x room o told in
+        let t : Moment ss = record { before = b; call = c; after = a; split = e } in
+        (w .is-offered, record { moment = t; admitted = ap isRefusal f; value = x; room = room; is-sample = q; last = w .last; awaited = w .awaited; number = w .number })
+
+    due-seen : (o : Offer) → (offered (o .kind) ≡ true) × DueSeen R ss (o .kind) (o .sample) → List·Memᴰ o (offersSaid (answers (singleReceiver R) fresh ss))
+    unfolding left
+    due-seen o (w, s) =
+        let t = s .moment in
+        let m = recordAfter R (t .before) in
+        let admitted = subst (λ (c : Single). isRefusal (left R m c .answer) ≡ false) (s .is-sample) (s .admitted) in
+        let told = offer-in R m (s .value) (s .room) o (record { last = s .last; awaited = s .awaited; is-offered = w; number = s .number }) admitted in
+        subst (λ (l : List Single). List·Memᴰ o (offersSaid (answers (singleReceiver R) fresh l))) (sym (t .split))
+        (seen-offers R (t .before) (t .call) (t .after) fresh o (subst (λ (c : Single). left R m c .answer ≡ frame o) (sym (s .is-sample)) told))
+
+  -- the log's takes are those that a caller sees
+  pub taken-exactly : (ss : List Single) → Each Callable ss → (n : ℕ) → TakenSeen R ss n ↔ Started (logAll (R .taps) (R .p) ss) n
+  taken-exactly ss s n = (started ss s n, seen ss s n)
+
+  -- and so are its due frames
+  pub due-exactly : (ss : List Single) → Each Callable ss → (d : ℕ) (kind : Kind) → DueSeen R ss kind d ↔ ((x : Shown) × (x .kind ≡ kind) × In (FellDue d x) (logAll (R .taps) (R .p) ss))
+  due-exactly ss s d kind = (due-in ss s d kind, due-out ss s d kind)
+
+  -- ---- every list of calls
+  pub demand-three : (cs : List Call) → Each Given cs → DemandThree R cs
+  demand-three cs g =
+      let ss = singlesFrom R fresh cs in
+      let s : Each Callable ss = singles-sampled R cs fresh g in
+      let r = singles-run R F ss s .0 in
+      let same : recordAfter R ss ≡ run (receiver R) fresh cs = singles-record R cs fresh in
       record {
-        moment = t;
-        admitted = ap (λ (o : Said). isRefusal (o .answer)) (said-same t) ∙ m .accepted;
-        none = subst (NoneHeld (m .call)) (sym c) (s .0);
-        holds = ap (λ (d : Control). held (d .candidate)) (left-same t) ∙ s .1;
-        number = ap (λ (d : Control). d .sample) (left-same t) ∙ s .2;
+        due-one = λ n t fed.
+            let fed′ = subst (λ (m : SoftDemodulator). n + (188 * R .p - 1) ≤ m .control .sample) (sym same) fed in
+            let (d, due, lo, hi) = due-span-at R F ss s n (started ss s n t) (subst (λ (k : ℕ). n + (188 * R .p - 1) ≤ k) (r .count) fed′) in
+            (d, (due .0 .kind, due-out ss s d (due .0 .kind) (due .0, refl, due .1)), lo, hi, λ e f l u. due-once-at R F ss s n e d (let g = due-in ss s e (f .0) (f .1) in (g .0, g .2)) due l u lo hi);
+        offers = λ o.
+            subst (λ (l : List Offer). List·Memᴰ o l ↔ ((offered (o .kind) ≡ true) × DueSeen R ss (o .kind) (o .sample))) (singles-offers R cs fresh) (seen-due ss s o, due-seen ss s o);
+        ages = subst (λ (m : SoftDemodulator). AgeAtMost (R .p + 1) (m .control .candidate)) same (subst (λ (c : Control). AgeAtMost (R .p + 1) (c .candidate)) (sym (r .control)) (age-limit-at R F ss s));
       }
-
-  -- ---- what is due
-  abbrev Marked : ℕ → Kind → Type 0
-  Marked d kind = (gain : Float) × (shift : Float) × In (FellDue d kind gain shift) (logAll taps 10 ss)
-
-  due-in : (d : ℕ) (kind : Kind) → DueSeen ss kind d → Marked d kind
-  due-in d kind s =
-      let t = s .moment in
-      let c = control-same t in
-      let h = subst (λ (e : Control). (diff : Float) × HeldOf kind diff (e .candidate)) c (s .awaited) in (
-        h .1 .1,
-        h .1 .2,
-        log-exact-48 ss sampled (FellDue d kind (h .1 .1) (h .1 .2)) .1 (record {
-          before = t .before;
-          call = t .call;
-          after = t .after;
-          split = t .split;
-          accepted = accepted t (s .admitted);
-          rules = (s .value, s .room, s .is-sample, s .number ∙ ap (λ (e : Control). e .sample + 1) c, sym (ap (λ (e : Control). e .wait) c) ∙ s .last, (h .1 .0, h .0, h .1 .3));
-        }),
-      )
-
-  due-out : (d : ℕ) (kind : Kind) → Marked d kind → DueSeen ss kind d
-  due-out d kind (gain, shift, i) =
-      let m = log-exact-48 ss sampled (FellDue d kind gain shift) .0 i in
-      let t : Moment ss = record { before = m .before; call = m .call; after = m .after; split = m .split } in
-      let c = control-same t in
-      record {
-        moment = t;
-        admitted = ap (λ (s : Said). isRefusal (s .answer)) (said-same t) ∙ m .accepted;
-        value = m .rules .0;
-        room = m .rules .1;
-        is-sample = m .rules .2;
-        last = ap (λ (e : Control). e .wait) c ∙ m .rules .4;
-        awaited = (m .rules .5 .1, (m .rules .5 .0, gain, shift, ap (λ (e : Control). e .candidate) c ∙ m .rules .5 .2));
-        number = m .rules .3 ∙ sym (ap (λ (e : Control). e .sample + 1) c);
-      }
-
-  -- ---- what is offered
-  seen-due : (kind : Kind) (d : ℕ) → List·Memᴰ (record { kind = kind; sample = d }) (offersSaid (answersFrom fresh ss)) → (offered kind ≡ true) × DueSeen ss kind d
-  unfolding left
-  seen-due kind d i =
-      let (b, c, a, e, f) = offers-seen ss fresh (record { kind = kind; sample = d }) i in
-      let (x, room, q) = sample-only (recordAfter b) c kind d f in
-      let told = subst (λ (s : Single). left (recordAfter b) s .answer ≡ frame kind d) q f in
-      let o = offer-out (recordAfter b) x room kind d told in
-      let t : Moment ss = record { before = b; call = c; after = a; split = e } in
-      (o .is-offered, record { moment = t; admitted = ap isRefusal f; value = x; room = room; is-sample = q; last = o .last; awaited = o .awaited; number = o .number })
-
-  due-seen : (kind : Kind) (d : ℕ) → (offered kind ≡ true) × DueSeen ss kind d → List·Memᴰ (record { kind = kind; sample = d }) (offersSaid (answersFrom fresh ss))
-  unfolding left
-  due-seen kind d (o, s) =
-      let t = s .moment in
-      let m = recordAfter (t .before) in
-      let admitted = subst (λ (c : Single). isRefusal (left m c .answer) ≡ false) (s .is-sample) (s .admitted) in
-      let told = offer-in m (s .value) (s .room) kind d (record { last = s .last; awaited = s .awaited; is-offered = o; number = s .number }) admitted in
-      subst (λ (l : List Single). List·Memᴰ (record { kind = kind; sample = d }) (offersSaid (answersFrom fresh l))) (sym (t .split))
-      (seen-offers (t .before) (t .call) (t .after) fresh kind d (subst (λ (c : Single). left m c .answer ≡ frame kind d) (sym (s .is-sample)) told))
-
--- the log's takes are those that a caller sees
-pub taken-exactly : (ss : List Single) → Sampled ss → (n : ℕ) → TakenSeen ss n ↔ Started (logAll taps 10 ss) n
-taken-exactly ss s n = (started ss s n, seen ss s n)
-
--- and so are its due frames
-pub due-exactly : (ss : List Single) → Sampled ss → (d : ℕ) (kind : Kind) → DueSeen ss kind d ↔ ((gain : Float) × (shift : Float) × In (FellDue d kind gain shift) (logAll taps 10 ss))
-due-exactly ss s d kind = (due-in ss s d kind, due-out ss s d kind)
-
--- ---- every list of calls
-pub demand-three : (cs : List Call) → Each Given cs → DemandThree cs
-demand-three cs g =
-    let ss = singlesFrom fresh cs in
-    let s : Sampled ss = singles-sampled cs fresh g in
-    let r = singles-run ss s .0 in
-    let same : recordAfter ss ≡ run receiver fresh cs = singles-record cs fresh in
-    record {
-      due-one = λ n t fed.
-          let fed′ = subst (λ (m : SoftDemodulator). n + 1879 ≤ m .control .sample) (sym same) fed in
-          let (d, due, lo, hi) = due-span-48 ss s n (started ss s n t) (subst (λ (k : ℕ). n + 1879 ≤ k) (r .count) fed′) in
-          (d, (due .0, due-out ss s d (due .0) (due .1, due .2, due .3)), lo, hi, λ e f l u. due-once-48 ss s n e d (let g = due-in ss s e (f .0) (f .1) in (f .0, g .0, g .1, g .2)) due l u lo hi);
-      offers = λ kind d.
-          subst (λ (l : List Offering). List·Memᴰ (record { kind = kind; sample = d }) l ↔ ((offered kind ≡ true) × DueSeen ss kind d)) (singles-offers cs fresh) (seen-due ss s kind d, due-seen ss s kind d);
-      ages = subst (λ (m : SoftDemodulator). AgeAtMost 11 (m .control .candidate)) same (subst (λ (c : Control). AgeAtMost 11 (c .candidate)) (sym (r .control)) (age-limit-48 ss s));
-    }

@@ -7,13 +7,13 @@ use lib.IntN.{ℤ, pos}
 use lib.ListN.{length, List·getD-append}
 use lib.Seq.{getD-append-seam, take-at}
 use lib.Ieee.{Float, binary32, ofInt}
-use Rattle.shaping.specs.Phase.{tapCount}
+use Rattle.shaping.specs.Rate.{tapCount}
 use Rattle.shaping.specs.Sum.{dot}
 use Rattle.shaping.proofs.Dot.{dot-same}
 use Rattle.demodulator_run.specs.Filter.{sampleNo, filtered}
-use Rattle.demodulator_run.proofs.Hearing.{filtered-taken}
+use Rattle.demodulator_run.proofs.EarLaws.{filtered-taken}
 
--- ---- the samples once one more is accepted
+-- ---- the samples once one more is admitted
 module _ (xs : List ℤ) (x : ℤ) where
   pub sample-old : (k : ℕ) → k ≤ length xs → sampleNo (xs ++ (x ∷ [])) k ≡ sampleNo xs k
   unfolding sampleNo

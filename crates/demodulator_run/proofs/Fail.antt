@@ -4,19 +4,22 @@ use mathlib.Core.Logic.{_⊎_, inl, inr}
 use mathlib.Core.List.{List}
 use Prim.Native.Nat.{ℕ, _+_, _-_, _*_, _≤_, _<_}
 use native.Mathlib.Omega.{arith}
-use lib.Ieee.{Float}
 use Rattle.protocol.specs.declared.Kind.{Kind}
-use Rattle.decode.specs.declared.Correlation.{Correlation}
+use Rattle.search.specs.declared.Shown.{Shown}
+use Rattle.search.specs.TakenBurst.{TakenBurst, atAge, shownOf}
 use Rattle.search.specs.Search.{rank}
 use Rattle.demodulator_run.specs.Marks.{Mark, Anew, Failed}
-use Rattle.demodulator_run.specs.Demands.{SymbolSize, Ear, at, Matches, Unmatched, Above, Started, Taken, Standing, NotAgain, Shown, shownAt, DueBy, Corner}
-use Rattle.demodulator_run.proofs.Log.{more, taken-either, standing-either, shown-either, started-old, standing-old, due-shown, shown-due, stood}
+use Rattle.demodulator_run.specs.Demands.{SymbolSize, Ear, Matches, Unmatched, Above, Started, Taken, Standing, NotAgain, shownAt, DueBy, Corner, takenAt}
+use Rattle.demodulator_run.proofs.Log.{more, taken-either, standing-either, shown-either, started-old, standing-old, stood}
 use Rattle.demodulator_run.proofs.Account.{SomeMatch, Episode, account-more}
-use Rattle.demodulator_run.proofs.Phase.{Busy, Holding, Awaiting, valued}
+use Rattle.demodulator_run.proofs.Phase.{Busy, TakenFrom, Holding, Awaiting}
 use Rattle.demodulator_run.proofs.Hold.{young, near}
 
-module _ (ear : Ear) (p : ℕ) (big : SymbolSize p) (again : NotAgain ear p) (l : List Mark) (n : ℕ) (k : Kind) (age : ℕ) (diff gain shift : Float)
-    (H : Holding ear p l n k age diff gain shift) (lost : Unmatched ear k (n + 1)) where
+module _ (ear : Ear) (p : ℕ) (big : SymbolSize p) (again : NotAgain ear p) (l : List Mark) (n : ℕ) (held : TakenBurst)
+    (H : Holding ear p l n held) (lost : Unmatched ear (held .kind) (n + 1)) where
+  abbrev k : Kind
+  k = held .kind
+
   -- what the marks of that sample may add: a take by a later-listed kind, which does not stand
   record Adds (l' : List Mark) : Type 0 where
     started : Started l' (H .first)
@@ -42,7 +45,7 @@ module _ (ear : Ear) (p : ℕ) (big : SymbolSize p) (again : NotAgain ear p) (l 
   busy-plain = record {
     account = account-more ear p l failing (H .busy .account) (omega arith) (λ (i : ℕ). i ≡ H .first) (λ (c : ℕ) (i : Kind). (c ≡ H .b) × (i ≡ k))
         (λ b i t. absurd t) (λ d x q. q) (λ m q. q) (λ m q. absurd q) (λ b i q. inr q) (λ b i q. absurd q);
-    frames = λ e f. let (x, i) = due-shown f in elim (shown-either l failing x i) [ inl q ↦ H .busy .frames e (shown-due x q) | inr q ↦ absurd q ];
+    frames = λ e f. let (x, i) = f in elim (shown-either l failing x i) [ inl q ↦ H .busy .frames e (x, q) | inr q ↦ absurd q ];
     started = started-old l failing (H .busy .started);
   }
 
@@ -70,8 +73,8 @@ module _ (ear : Ear) (p : ℕ) (big : SymbolSize p) (again : NotAgain ear p) (l 
           (λ b i t. subst (λ (h : Kind). Matches ear h b) (sym (t .1)) (subst (Matches ear j) (sym (t .0)) hit))
           (λ d x q. q) (λ m q. q) (λ m q. absurd q) (λ b i q. inr q) (λ b i q. absurd (omega (arith, q .2)));
       frames = λ e f.
-          let (x, i) = due-shown f in
-          elim (shown-either failed (taking j) x i) [ inl q ↦ busy-plain .frames e (shown-due x q) | inr q ↦ absurd q ];
+          let (x, i) = f in
+          elim (shown-either failed (taking j) x i) [ inl q ↦ busy-plain .frames e (x, q) | inr q ↦ absurd q ];
       started = started-old failed (taking j) (busy-plain .started);
     };
   }
@@ -91,18 +94,18 @@ module _ (ear : Ear) (p : ℕ) (big : SymbolSize p) (again : NotAgain ear p) (l 
       due = due;
       started = A .started;
       after = let u = H .begun in let v = H .within in omega arith;
-      near = near ear p again l n k age diff gain shift H;
+      near = near ear p again l n held H;
       all = λ j u v. H .all j u (omega arith);
       before = before;
       quiet = λ j i t u v. H .last j i u (stood (A .stands j i t));
     }
 
     -- the frame is due `left` samples on
-    awaits : (left : ℕ) (kind : Kind) (age' : ℕ) (diff' gain' shift' : Float) (source : ℕ) → p < left → left < 184 * p → 0 < age'
-        → (age' + H .b ≤ n + 1) ⊎ ((age' + H .b ≤ n + 2) × SomeMatch ear p (n + 1))
-        → Matches ear kind source → valued diff' gain' shift' ≡ at ear kind source
-        → DueBy ear p (H .b) k (n + 1) ((n + 1) + left) (record { kind = kind; gain = gain'; shift = shift' }) → Awaiting ear p l' (n + 1) left kind age' diff' gain' shift'
-    awaits left kind age' diff' gain' shift' source some short born aged heard values due = record {
+    awaits : (left : ℕ) (now : TakenBurst) (source : ℕ) → p < left → left < 184 * p → 0 < now .age
+        → (now .age + H .b ≤ n + 1) ⊎ ((now .age + H .b ≤ n + 2) × SomeMatch ear p (n + 1))
+        → Matches ear (now .kind) source → TakenFrom ear p now source
+        → DueBy ear p (H .b) k (n + 1) ((n + 1) + left) (shownOf now) → Awaiting ear p l' (n + 1) left now
+    awaits left now source some short born aged heard values due = record {
       first = H .first;
       b = H .b;
       kind = k;
@@ -122,38 +125,41 @@ module _ (ear : Ear) (p : ℕ) (big : SymbolSize p) (again : NotAgain ear p) (l 
   own : Matches ear k (H .b)
   own = H .matched (H .b) (H .within) (H .reached)
 
-  mine : record { kind = k; gain = gain; shift = shift } ≡ shownAt ear k (H .b)
-  mine = ap (λ (c : Correlation). record { kind = k; gain = c .gain; shift = c .shift }) (H .values)
+  mine : shownOf held ≡ shownAt ear k (H .b)
+  mine = ap shownOf (H .values)
+
+  abbrev agedOne : TakenBurst
+  agedOne = atAge (held .age + 1) held
 
   -- no kind matches
-  pub fails-alone : ((j : Kind) → Matches ear j (n + 1) → ⊥) → Awaiting ear p failed (n + 1) (184 * p - age) k age diff gain shift
+  pub fails-alone : ((j : Kind) → Matches ear j (n + 1) → ⊥) → Awaiting ear p failed (n + 1) (184 * p - held .age) held
   fails-alone none =
-      let y = young ear p again l n k age diff gain shift H in
+      let y = young ear p again l n held H in
       let a = H .aged in
       let r = H .reached in
-      awaits failed plain (184 * p - age) k age diff gain shift (H .b) (omega arith) (omega arith) (omega arith) (inl (omega arith)) own (H .values)
+      awaits failed plain (184 * p - held .age) held (H .b) (omega arith) (omega arith) (omega arith) (inl (omega arith)) own (H .values)
       (record { sample = inr (λ c. none (c .0) (c .2), omega arith); shown = inr (λ j c. none j (c .1), mine) })
 
   module _ (j : Kind) (hit : Matches ear j (n + 1)) (only : (i : Kind) → Matches ear i (n + 1) → i ≡ j) where
     -- an earlier-listed kind matches with a larger diff: the corner
-    pub fails-corner : rank j < rank k → Above ear j (n + 1) k (H .b) → Awaiting ear p failed (n + 1) (184 * p - (age + 1)) k (age + 1) diff gain shift
+    pub fails-corner : rank j < rank k → Above ear j (n + 1) k (H .b) → Awaiting ear p failed (n + 1) (184 * p - (held .age + 1)) agedOne
     fails-corner before above =
-        let y = young ear p again l n k age diff gain shift H in
+        let y = young ear p again l n held H in
         let a = H .aged in
         let r = H .reached in
-        awaits failed plain (184 * p - (age + 1)) k (age + 1) diff gain shift (H .b) (omega arith) (omega arith) (omega arith) (inr (omega arith, (j, hit))) own (H .values)
+        awaits failed plain (184 * p - (held .age + 1)) agedOne (H .b) (omega arith) (omega arith) (omega arith) (inr (omega arith, (j, hit))) own (ap (atAge (held .age + 1)) (H .values))
         (record { sample = inl ((j, before, hit, above), omega arith); shown = inr (λ i c. omega (arith, c .0, ap rank (only i (c .1))), mine) })
 
     no-corner : rank k < rank j → Corner ear (H .b) k (n + 1) → ⊥
     no-corner after c = omega (arith, c .1, ap rank (only (c .0) (c .2)))
 
     -- a later-listed kind only adds to the age
-    pub fails-aged : rank k < rank j → Above ear j (n + 1) k (H .b) → Awaiting ear p failed (n + 1) (184 * p - age) k (age + 1) diff gain shift
+    pub fails-aged : rank k < rank j → Above ear j (n + 1) k (H .b) → Awaiting ear p failed (n + 1) (184 * p - held .age) agedOne
     fails-aged after above =
-        let y = young ear p again l n k age diff gain shift H in
+        let y = young ear p again l n held H in
         let a = H .aged in
         let r = H .reached in
-        awaits failed plain (184 * p - age) k (age + 1) diff gain shift (H .b) (omega arith) (omega arith) (omega arith) (inr (omega arith, (j, hit))) own (H .values)
+        awaits failed plain (184 * p - held .age) agedOne (H .b) (omega arith) (omega arith) (omega arith) (inr (omega arith, (j, hit))) own (ap (atAge (held .age + 1)) (H .values))
         (record {
           sample = inr (no-corner after, omega arith);
           shown = inr (λ i c. c .2 (subst (λ (h : Kind). Above ear h (n + 1) k (H .b)) (sym (only i (c .1))) above), mine);
@@ -161,10 +167,10 @@ module _ (ear : Ear) (p : ℕ) (big : SymbolSize p) (again : NotAgain ear p) (l 
 
     -- a later-listed kind replaces the candidate
     pub fails-replaced : rank k < rank j → (Above ear j (n + 1) k (H .b) → ⊥)
-        → Awaiting ear p (replacing j) (n + 1) (184 * p - age) j 1 (at ear j (n + 1) .diff) (at ear j (n + 1) .gain) (at ear j (n + 1) .shift)
+        → Awaiting ear p (replacing j) (n + 1) (184 * p - held .age) (takenAt ear j (n + 1))
     fails-replaced after below =
-        let y = young ear p again l n k age diff gain shift H in
+        let y = young ear p again l n held H in
         let a = H .aged in
         let r = H .reached in
-        awaits (replacing j) (replaced j after hit) (184 * p - age) j 1 _ _ _ (n + 1) (omega arith) (omega arith) (omega arith) (inl (omega arith)) hit refl
+        awaits (replacing j) (replaced j after hit) (184 * p - held .age) (takenAt ear j (n + 1)) (n + 1) (omega arith) (omega arith) (omega arith) (inl (omega arith)) hit refl
         (record { sample = inr (no-corner after, omega arith); shown = inl (j, (after, hit, below), refl) })

@@ -1,24 +1,28 @@
 -- A candidate is held, and at the next sample no wait is set: it ages, or it is taken anew. Assumes nothing.
-use mathlib.Core.Path.{_≡_, refl, sym, subst}
+use mathlib.Core.Path.{_≡_, refl, sym, subst, ap}
 use mathlib.Core.Logic.{inl, inr}
 use mathlib.Core.List.{List}
 use Prim.Native.Nat.{ℕ, _+_, _*_, _≤_, _<_}
 use native.Mathlib.Nat.{lt-of-not-le, mul-le-mul-left}
 use native.Mathlib.Omega.{arith}
-use lib.Ieee.{Float}
+use Rattle.machine.specs.Runs.{run}
 use Rattle.protocol.specs.declared.Kind.{Kind}
+use Rattle.search.specs.TakenBurst.{TakenBurst, atAge}
 use Rattle.search.specs.Search.{rank}
 use Rattle.demodulator_run.specs.Marks.{Mark, Anew}
-use Rattle.demodulator_run.specs.Demands.{Ear, at, Matches, Above, Taken, NotAgain}
-use Rattle.demodulator_run.proofs.Log.{more, new, taken-either, shown-either, started-old, due-shown, shown-due}
+use Rattle.demodulator_run.specs.Demands.{Ear, Matches, Above, Taken, NotAgain, takenAt}
+use Rattle.demodulator_run.proofs.Log.{more, new, taken-either, shown-either, started-old}
 use Rattle.demodulator_run.proofs.Account.{SomeMatch, HandedOn, account-more}
 use Rattle.demodulator_run.proofs.Phase.{Busy, Holding, busy-later, run-short, extend}
 
-module _ (ear : Ear) (p : ℕ) (again : NotAgain ear p) (l : List Mark) (n : ℕ) (k : Kind) (age : ℕ) (diff gain shift : Float) (H : Holding ear p l n k age diff gain shift) where
+module _ (ear : Ear) (p : ℕ) (again : NotAgain ear p) (l : List Mark) (n : ℕ) (held : TakenBurst) (H : Holding ear p l n held) where
+  abbrev k : Kind
+  k = held .kind
+
   pub recent : n < H .run + p
   recent = run-short ear p again k (H .run) n (let u = H .within in let v = H .reached in omega arith) (H .matched)
 
-  pub young : age ≤ p
+  pub young : held .age ≤ p
   young = let u = H .within in let v = H .aged in let w = recent in omega arith
 
   pub first-past : H .first ≤ n
@@ -31,7 +35,7 @@ module _ (ear : Ear) (p : ℕ) (again : NotAgain ear p) (l : List Mark) (n : ℕ
   taken-past j i t = let u : j < H .b + 1 = lt-of-not-le λ (o : H .b + 1 ≤ j). H .last j i (omega arith) t in omega arith
 
   -- its own kind matches, with a larger diff
-  pub ages : Matches ear k (n + 1) → Above ear k (n + 1) k (H .b) → Holding ear p l (n + 1) k (age + 1) diff gain shift
+  pub ages : Matches ear k (n + 1) → Above ear k (n + 1) k (H .b) → Holding ear p l (n + 1) (atAge (held .age + 1) held)
   ages hit above = record {
     first = H .first;
     run = H .run;
@@ -47,7 +51,7 @@ module _ (ear : Ear) (p : ℕ) (again : NotAgain ear p) (l : List Mark) (n : ℕ
     larger = λ j u v. extend ear p (λ (i : ℕ). Above ear k i k (H .b)) (H .b + 1) n (λ i s t. H .larger i (omega arith) t) above j (omega arith) v;
     last = H .last;
     all = extend ear p (SomeMatch ear p) (H .first) n (H .all) (k, hit);
-    values = H .values;
+    values = ap (atAge (held .age + 1)) (H .values);
   }
 
   abbrev taking : Kind → Mark
@@ -74,12 +78,12 @@ module _ (ear : Ear) (p : ℕ) (again : NotAgain ear p) (l : List Mark) (n : ℕ
               (λ d x q. q) (λ m q. q) (λ m q. absurd q)
               (λ b i q. inl (subst (λ (c : ℕ). HandedOn ear p (handing j) c i) (sym (q .0)) (subst (λ (h : Kind). HandedOn ear p (handing j) (H .b) h) (sym (q .1)) here)))
               (λ b i q. (q .0, q .1));
-          frames = λ e f. let (x, i) = due-shown f in elim (shown-either l (taking j) x i) [ inl q ↦ H .busy .frames e (shown-due x q) | inr q ↦ absurd q ];
+          frames = λ e f. let (x, i) = f in elim (shown-either l (taking j) x i) [ inl q ↦ H .busy .frames e (x, q) | inr q ↦ absurd q ];
           started = started-old l (taking j) (H .busy .started);
         }
 
     pub handed : (run : ℕ) → H .first ≤ run → run ≤ n + 1 → run + p * rank j ≤ H .first + 3 * p → ((i : ℕ) → run ≤ i → i ≤ n + 1 → Matches ear j i)
-        → Holding ear p (handing j) (n + 1) j 1 (at ear j (n + 1) .diff) (at ear j (n + 1) .gain) (at ear j (n + 1) .shift)
+        → Holding ear p (handing j) (n + 1) (takenAt ear j (n + 1))
     handed run begun reached soon m = record {
       first = H .first;
       run = run;
@@ -99,12 +103,12 @@ module _ (ear : Ear) (p : ℕ) (again : NotAgain ear p) (l : List Mark) (n : ℕ
     }
 
   -- the same kind, with no larger diff
-  pub renewed : Matches ear k (n + 1) → Holding ear p (handing k) (n + 1) k 1 (at ear k (n + 1) .diff) (at ear k (n + 1) .gain) (at ear k (n + 1) .shift)
+  pub renewed : Matches ear k (n + 1) → Holding ear p (handing k) (n + 1) (takenAt ear k (n + 1))
   renewed hit = handed k (omega arith) hit (H .run) (H .begun) (let u = H .within in let v = H .reached in omega arith) (H .soon) (extend ear p (Matches ear k) (H .run) n (H .matched) hit)
 
   -- an earlier-listed kind, with no larger diff
   pub switched : (j : Kind) → rank j < rank k → Matches ear j (n + 1)
-      → Holding ear p (handing j) (n + 1) j 1 (at ear j (n + 1) .diff) (at ear j (n + 1) .gain) (at ear j (n + 1) .shift)
+      → Holding ear p (handing j) (n + 1) (takenAt ear j (n + 1))
   switched j before hit =
       let step : p * (rank j + 1) ≤ p * rank k = mul-le-mul-left p (omega arith) in
       handed j (omega arith) hit (n + 1) (let u = first-past in omega arith) (omega arith) (let u = H .soon in let v = recent in omega arith)

@@ -9,7 +9,7 @@ use Rattle.numbers.specs.Within.{Within}
 use Rattle.numbers.specs.Sum.{nought}
 use Rattle.shaping.specs.Sum.{dot}
 use Rattle.decode.specs.Correlator.{inRange}
-use Rattle.decode.proofs.Heard.{within-range}
+use Rattle.decode.proofs.RangeFacts.{within-range}
 use Rattle.demodulator_run.specs.Filter.{sampleNo, filtered}
 
 -- ---- samples of 16 bits

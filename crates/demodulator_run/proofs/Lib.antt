@@ -1,6 +1,6 @@
 -- What is proved of the receiver over whole runs: demand 3 of the rules, then demand 2, of the rules and the record. Assumes nothing.
 -- the kinds in the order of the search
-pub mod Listing
+pub mod KindOrder
 -- the pass over them in closed form
 pub mod Pass
 -- a log with one mark more
@@ -16,15 +16,15 @@ pub mod Hold
 -- one that fails
 pub mod Fail
 -- a frame that falls due
-pub mod Falling
+pub mod FallenDue
 -- a search
-pub mod Searching
+pub mod SearchKeeps
 -- a sample and a reply
-pub mod Turning
+pub mod TurnKeeps
 -- the count
 pub mod Count
 -- a call
-pub mod Calling
+pub mod CallKeeps
 -- all calls
 pub mod Run
 -- the due sample, from the invariant
@@ -34,7 +34,7 @@ pub mod Span
 -- demand 3 over p
 pub mod Demand
 -- what can be heard in range
-pub mod Hearing
+pub mod EarLaws
 -- samples of 16 bits
 pub mod Sixteen
 -- a search's marks
@@ -47,10 +47,10 @@ pub mod LogExact
 pub mod Switch
 -- a due frame's window
 pub mod Window
+-- demand 3 at a rate
+pub mod DemandAt
 -- demand 3 at 48,000 samples in a second
 pub mod Demand48
--- a ring of any length
-pub mod Ring
 -- one more sample
 pub mod Causal
 -- F of samples of 16 bits

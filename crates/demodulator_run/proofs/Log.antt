@@ -4,9 +4,10 @@ use mathlib.Core.Logic.{_⊎_, inl, inr}
 use mathlib.Core.List.{List, [], _∷_, _++_, List·Memᴰ·head, Memᴰ·append-left, Memᴰ·append-right, List·Memᴰ·append-cases, List·Memᴰ·eq-of-singleton}
 use Prim.Native.Nat.{ℕ, _≤_}
 use Rattle.protocol.specs.declared.Kind.{Kind}
+use Rattle.search.specs.declared.Shown.{Shown}
 use Rattle.search.specs.Search.{rank}
 use Rattle.demodulator_run.specs.Marks.{Mark, First, Anew, Failed, FellDue}
-use Rattle.demodulator_run.specs.Demands.{In, Started, Taken, Standing, DueAt, Shown, dueMark}
+use Rattle.demodulator_run.specs.Demands.{In, Started, Taken, Standing}
 
 abbrev pub more : List Mark → Mark → List Mark
 more l y = l ++ (y ∷ [])
@@ -16,50 +17,43 @@ abbrev pub sampleOf : Mark → ℕ
 sampleOf (First n k) = n
 sampleOf (Anew n j k) = n
 sampleOf (Failed n k) = n
-sampleOf (FellDue n k gain shift) = n
+sampleOf (FellDue n z) = n
 
 abbrev pub Starts : Mark → ℕ → Type 0
 Starts (First n k) m = m ≡ n
 Starts (Anew n j k) m = ⊥
 Starts (Failed n k) m = ⊥
-Starts (FellDue n k gain shift) m = ⊥
+Starts (FellDue n z) m = ⊥
 
 abbrev pub Takes : Mark → ℕ → Kind → Type 0
 Takes (First n k) b i = (b ≡ n) × (i ≡ k)
 Takes (Anew n j k) b i = (b ≡ n) × (i ≡ k)
 Takes (Failed n k) b i = ⊥
-Takes (FellDue n k gain shift) b i = ⊥
+Takes (FellDue n z) b i = ⊥
 
 abbrev pub Stands : Mark → ℕ → Kind → Type 0
 Stands (First n k) b i = (b ≡ n) × (i ≡ k)
 Stands (Anew n j k) b i = (b ≡ n) × (i ≡ k) × (rank k ≤ rank j)
 Stands (Failed n k) b i = ⊥
-Stands (FellDue n k gain shift) b i = ⊥
+Stands (FellDue n z) b i = ⊥
 
 abbrev pub Shows : Mark → ℕ → Shown → Type 0
 Shows (First n k) d x = ⊥
 Shows (Anew n j k) d x = ⊥
 Shows (Failed n k) d x = ⊥
-Shows (FellDue n k gain shift) d x = (d ≡ n) × (x ≡ record { kind = k; gain = gain; shift = shift })
+Shows (FellDue n z) d x = (d ≡ n) × (x ≡ z)
 
 pub takes-at : (y : Mark) (b : ℕ) (i : Kind) → Takes y b i → b ≡ sampleOf y
 takes-at (First n k) b i t = t .0
 takes-at (Anew n j k) b i t = t .0
 takes-at (Failed n k) b i t = absurd t
-takes-at (FellDue n k gain shift) b i t = absurd t
+takes-at (FellDue n z) b i t = absurd t
 
 pub stands-at : (y : Mark) (b : ℕ) (i : Kind) → Stands y b i → b ≡ sampleOf y
 stands-at (First n k) b i t = t .0
 stands-at (Anew n j k) b i t = t .0
 stands-at (Failed n k) b i t = absurd t
-stands-at (FellDue n k gain shift) b i t = absurd t
-
--- a frame that is due stands in the log by what it shows
-pub due-shown : {l : List Mark} {d : ℕ} → DueAt l d → (x : Shown) × In (dueMark d x) l
-due-shown f = (record { kind = f .0; gain = f .1; shift = f .2 }, f .3)
-
-pub shown-due : {l : List Mark} {d : ℕ} (x : Shown) → In (dueMark d x) l → DueAt l d
-shown-due x i = (x .kind, x .gain, x .shift, i)
+stands-at (FellDue n z) b i t = absurd t
 
 -- a standing candidate was taken
 pub stood : {l : List Mark} {b : ℕ} {k : Kind} → Standing l b k → Taken l b k
@@ -99,5 +93,5 @@ module _ (l : List Mark) (y : Mark) where
   standing-either {b} {k} (inl i) = elim (either i) [ inl j ↦ inl (inl j) | inr e ↦ inr (subst (λ (z : Mark). Stands z b k) e (refl, refl)) ]
   standing-either {b} {k} (inr i) = elim (either (i .1)) [ inl j ↦ inl (inr (i .0, j, i .2)) | inr e ↦ inr (subst (λ (z : Mark). Stands z b k) e (refl, refl, i .2)) ]
 
-  pub shown-either : {d : ℕ} (x : Shown) → In (dueMark d x) (more l y) → In (dueMark d x) l ⊎ Shows y d x
+  pub shown-either : {d : ℕ} (x : Shown) → In (FellDue d x) (more l y) → In (FellDue d x) l ⊎ Shows y d x
   shown-either {d} x i = elim (either i) [ inl j ↦ inl j | inr e ↦ inr (subst (λ (z : Mark). Shows z d x) e (refl, refl)) ]

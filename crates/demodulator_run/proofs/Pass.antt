@@ -2,7 +2,7 @@
 use mathlib.Core.Path.{_≡_, refl, ap, _∙_}
 use mathlib.Core.Bool.{Bool, true, false, cond}
 use mathlib.Core.List.{List, [], _∷_, _++_}
-use Prim.Native.Nat.{ℕ, _+_, _*_}
+use Prim.Native.Nat.{ℕ, _*_}
 use lib.Ieee.{Float, lt}
 use Rattle.protocol.specs.declared.Kind.{Kind}
 use Rattle.protocol.specs.declared.Kind.the-variants.{Lsf, Bert, Stream, Packet}
@@ -11,15 +11,16 @@ use Rattle.protocol.specs.declared.SyncBurst.the-variants.{Frame, Preamble, End
 use Rattle.decode.specs.declared.Correlation.{Correlation}
 use Rattle.decode.specs.Correlator.{correlation, matches}
 use Rattle.search.specs.declared.Candidate.{Candidate}
-use Rattle.search.specs.declared.Candidate.the-variants.{Nothing, Held}
+use Rattle.search.specs.declared.Candidate.the-variants.{Nothing}
 use Rattle.search.specs.declared.Wait.{Wait}
 use Rattle.search.specs.declared.Wait.the-variants.{Free}
 use Rattle.search.specs.declared.Timer.{Timer}
 use Rattle.search.specs.declared.Timer.the-variants.{Until}
 use Rattle.search.specs.declared.Control.{Control}
-use Rattle.search.specs.Search.{withTimer, withCandidate, carried, sameKind, older, endAfter, taken, heldAfter, waitAfter, missed, tried, passed, searched}
+use Rattle.search.specs.TakenBurst.{TakenBurst, heldAs, heldIn, taken, older, atAge}
+use Rattle.search.specs.Search.{withTimer, withCandidate, carried, sameKind, endAfter, heldAfter, waitAfter, missed, tried, passed, searched}
 use Rattle.demodulator_run.specs.Marks.{Mark, First, Anew, Failed, takenMarks, missedMarks, triedMarks, passedMarks, searchedMarks}
-use Rattle.demodulator_run.proofs.Listing.{Place, Before, Level, After, place}
+use Rattle.demodulator_run.proofs.KindOrder.{Place, Before, Level, After, place}
 
 -- what a step comes to
 pub record Step : Type 0 where
@@ -34,10 +35,10 @@ searchStep p v c = record { control = searched p v c; marks = searchedMarks p v 
 
 -- ---- the same with the matches named apart from the values
 turn : ℕ → Bool → Correlation → Kind → Control → Control
-turn p hit m kind c = cond hit (withCandidate (heldAfter (c .candidate) kind m) c) (missed p kind (c .candidate) c)
+turn p hit m kind c = cond hit (withCandidate (heldAs (heldAfter (heldIn (c .candidate)) (taken kind m))) c) (missed p kind (heldIn (c .candidate)) c)
 
 turnMarks : Bool → Correlation → Kind → Control → List Mark
-turnMarks hit m kind c = cond hit (takenMarks (c .sample) (c .candidate) kind m) (missedMarks (c .sample) kind (c .candidate))
+turnMarks hit m kind c = cond hit (takenMarks (c .sample) (heldIn (c .candidate)) (taken kind m)) (missedMarks (c .sample) kind (heldIn (c .candidate)))
 
 pub passBy : ℕ → (Kind → Bool) → (Kind → Correlation) → Control → Step
 unfolding turn turnMarks
@@ -76,68 +77,80 @@ module _ (p : ℕ) (v : ℕ → Float) where
 
 -- ---- the closed form
 module _ (p : ℕ) (m : Kind → Correlation) (t : Timer) (o : Bool) (n : ℕ) where
+  -- what kind j would take
+  abbrev new : Kind → TakenBurst
+  new j = taken j (m j)
+
   pub pass-quiet : passBy p (λ k. false) m (controlled Nothing Free t o n) ≡ record { control = controlled Nothing Free t o n; marks = [] }
   unfolding passBy turn turnMarks missed missedMarks
   pass-quiet = refl
 
-  pub pass-first : (j : Kind) → passBy p (sameKind j) m (controlled Nothing Free t o n) ≡ record { control = controlled (taken j (m j)) Free t o n; marks = First n j ∷ [] }
+  pub pass-first : (j : Kind) → passBy p (sameKind j) m (controlled Nothing Free t o n) ≡ record { control = controlled (heldAs (new j)) Free t o n; marks = First n j ∷ [] }
   unfolding passBy turn turnMarks missed missedMarks heldAfter takenMarks
   pass-first Lsf = refl
   pass-first Bert = refl
   pass-first Stream = refl
   pass-first Packet = refl
 
-  module _ (age : ℕ) (diff gain shift : Float) where
+  module _ (held : TakenBurst) where
     -- the held kind fails
-    pub pass-lost : (k : Kind) → passBy p (λ k. false) m (controlled (Held k age diff gain shift) Free t o n)
-        ≡ record { control = controlled (Held k age diff gain shift) (waitAfter p age) (Until (endAfter n (384 * p))) o n; marks = Failed n k ∷ [] }
+    pub pass-lost : passBy p (λ k. false) m (controlled (heldAs held) Free t o n)
+        ≡ record { control = controlled (heldAs held) (waitAfter p (held .age)) (Until (endAfter n (384 * p))) o n; marks = Failed n (held .kind) ∷ [] }
     unfolding passBy turn turnMarks missed missedMarks
-    pass-lost Lsf = refl
-    pass-lost Bert = refl
-    pass-lost Stream = refl
-    pass-lost Packet = refl
+    pass-lost = lost (held .kind) refl
+      where
+        lost : (k : Kind) → held .kind ≡ k → passBy p (λ k. false) m (controlled (heldAs held) Free t o n)
+            ≡ record { control = controlled (heldAs held) (waitAfter p (held .age)) (Until (endAfter n (384 * p))) o n; marks = Failed n (held .kind) ∷ [] }
+        lost Lsf f = rw f
+        lost Bert f = rw f
+        lost Stream f = rw f
+        lost Packet f = rw f
 
-    -- kind j alone matches while kind k is held; `above`: its diff is above. A held one's age becomes `aged`
-    abbrev pub struck : ℕ → Place → Bool → Kind → Kind → Step
-    struck aged Before true j k = record { control = controlled (Held k aged diff gain shift) (waitAfter p aged) (Until (endAfter n (384 * p))) o n; marks = Failed n k ∷ [] }
-    struck aged Before false j k = record { control = controlled (taken j (m j)) Free t o n; marks = Anew n k j ∷ [] }
-    struck aged Level true j k = record { control = controlled (Held k aged diff gain shift) Free t o n; marks = [] }
-    struck aged Level false j k = record { control = controlled (taken j (m j)) Free t o n; marks = Anew n k j ∷ [] }
-    struck aged After true j k = record { control = controlled (Held k aged diff gain shift) (waitAfter p age) (Until (endAfter n (384 * p))) o n; marks = Failed n k ∷ [] }
-    struck aged After false j k = record { control = controlled (taken j (m j)) (waitAfter p age) (Until (endAfter n (384 * p))) o n; marks = Failed n k ∷ Anew n k j ∷ [] }
+    -- kind j alone matches while one is held; `above`: its diff is above. The held one's age becomes `grown`
+    abbrev pub struck : ℕ → Place → Bool → Kind → Step
+    struck grown Before true j = record { control = controlled (heldAs (atAge grown held)) (waitAfter p grown) (Until (endAfter n (384 * p))) o n; marks = Failed n (held .kind) ∷ [] }
+    struck grown Before false j = record { control = controlled (heldAs (new j)) Free t o n; marks = Anew n (held .kind) j ∷ [] }
+    struck grown Level true j = record { control = controlled (heldAs (atAge grown held)) Free t o n; marks = [] }
+    struck grown Level false j = record { control = controlled (heldAs (new j)) Free t o n; marks = Anew n (held .kind) j ∷ [] }
+    struck grown After true j = record { control = controlled (heldAs (atAge grown held)) (waitAfter p (held .age)) (Until (endAfter n (384 * p))) o n; marks = Failed n (held .kind) ∷ [] }
+    struck grown After false j = record { control = controlled (heldAs (new j)) (waitAfter p (held .age)) (Until (endAfter n (384 * p))) o n; marks = Failed n (held .kind) ∷ Anew n (held .kind) j ∷ [] }
 
-    pub pass-hit : (j k : Kind) (above : Bool) → lt diff (m j .diff) ≡ above
-        → passBy p (sameKind j) m (controlled (Held k age diff gain shift) Free t o n) ≡ struck (older age) (place j k) above j k
+    pub pass-hit : (j : Kind) (above : Bool) → lt (held .diff) (m j .diff) ≡ above
+        → passBy p (sameKind j) m (controlled (heldAs held) Free t o n) ≡ struck (older (held .age)) (place j (held .kind)) above j
     unfolding passBy turn turnMarks missed missedMarks heldAfter takenMarks
-    pass-hit Lsf Lsf true e = rw e
-    pass-hit Lsf Lsf false e = rw e
-    pass-hit Lsf Bert true e = rw e
-    pass-hit Lsf Bert false e = rw e
-    pass-hit Lsf Stream true e = rw e
-    pass-hit Lsf Stream false e = rw e
-    pass-hit Lsf Packet true e = rw e
-    pass-hit Lsf Packet false e = rw e
-    pass-hit Bert Lsf true e = rw e
-    pass-hit Bert Lsf false e = rw e
-    pass-hit Bert Bert true e = rw e
-    pass-hit Bert Bert false e = rw e
-    pass-hit Bert Stream true e = rw e
-    pass-hit Bert Stream false e = rw e
-    pass-hit Bert Packet true e = rw e
-    pass-hit Bert Packet false e = rw e
-    pass-hit Stream Lsf true e = rw e
-    pass-hit Stream Lsf false e = rw e
-    pass-hit Stream Bert true e = rw e
-    pass-hit Stream Bert false e = rw e
-    pass-hit Stream Stream true e = rw e
-    pass-hit Stream Stream false e = rw e
-    pass-hit Stream Packet true e = rw e
-    pass-hit Stream Packet false e = rw e
-    pass-hit Packet Lsf true e = rw e
-    pass-hit Packet Lsf false e = rw e
-    pass-hit Packet Bert true e = rw e
-    pass-hit Packet Bert false e = rw e
-    pass-hit Packet Stream true e = rw e
-    pass-hit Packet Stream false e = rw e
-    pass-hit Packet Packet true e = rw e
-    pass-hit Packet Packet false e = rw e
+    pass-hit j = hit j (held .kind) refl
+      where
+        hit : (j k : Kind) → held .kind ≡ k → (above : Bool) → lt (held .diff) (m j .diff) ≡ above
+            → passBy p (sameKind j) m (controlled (heldAs held) Free t o n) ≡ struck (older (held .age)) (place j (held .kind)) above j
+        hit Lsf Lsf f true e = rw (f, e)
+        hit Lsf Lsf f false e = rw (f, e)
+        hit Lsf Bert f true e = rw (f, e)
+        hit Lsf Bert f false e = rw (f, e)
+        hit Lsf Stream f true e = rw (f, e)
+        hit Lsf Stream f false e = rw (f, e)
+        hit Lsf Packet f true e = rw (f, e)
+        hit Lsf Packet f false e = rw (f, e)
+        hit Bert Lsf f true e = rw (f, e)
+        hit Bert Lsf f false e = rw (f, e)
+        hit Bert Bert f true e = rw (f, e)
+        hit Bert Bert f false e = rw (f, e)
+        hit Bert Stream f true e = rw (f, e)
+        hit Bert Stream f false e = rw (f, e)
+        hit Bert Packet f true e = rw (f, e)
+        hit Bert Packet f false e = rw (f, e)
+        hit Stream Lsf f true e = rw (f, e)
+        hit Stream Lsf f false e = rw (f, e)
+        hit Stream Bert f true e = rw (f, e)
+        hit Stream Bert f false e = rw (f, e)
+        hit Stream Stream f true e = rw (f, e)
+        hit Stream Stream f false e = rw (f, e)
+        hit Stream Packet f true e = rw (f, e)
+        hit Stream Packet f false e = rw (f, e)
+        hit Packet Lsf f true e = rw (f, e)
+        hit Packet Lsf f false e = rw (f, e)
+        hit Packet Bert f true e = rw (f, e)
+        hit Packet Bert f false e = rw (f, e)
+        hit Packet Stream f true e = rw (f, e)
+        hit Packet Stream f false e = rw (f, e)
+        hit Packet Packet f true e = rw (f, e)
+        hit Packet Packet f false e = rw (f, e)

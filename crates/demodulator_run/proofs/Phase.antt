@@ -3,25 +3,21 @@ use mathlib.Core.Path.{_≡_, sym, subst}
 use mathlib.Core.Logic.{_⊎_, inl, inr}
 use mathlib.Core.Bool.{Bool, false}
 use mathlib.Core.List.{List}
+use mathlib.Core.Option.{Option, none, some}
 use Prim.Native.Nat.{ℕ, _+_, _*_, _≤_, _<_}
 use native.Mathlib.Nat.{lt-of-not-le, eq-or-lt-of-le}
 use native.Mathlib.Omega.{arith}
-use lib.Ieee.{Float}
 use Rattle.protocol.specs.declared.Kind.{Kind}
-use Rattle.decode.specs.declared.Correlation.{Correlation}
-use Rattle.search.specs.declared.Candidate.{Candidate}
-use Rattle.search.specs.declared.Candidate.the-variants.{Nothing, Held}
 use Rattle.search.specs.declared.Wait.{Wait}
 use Rattle.search.specs.declared.Wait.the-variants.{Free, Due}
+use Rattle.search.specs.declared.Shown.{Shown}
 use Rattle.search.specs.declared.Control.{Control}
+use Rattle.search.specs.TakenBurst.{TakenBurst, heldIn, atAge, shownOf}
 use Rattle.search.specs.Search.{rank}
-use Rattle.demodulator_run.specs.Marks.{Mark}
-use Rattle.demodulator_run.specs.Demands.{Ear, at, Matches, Above, In, Started, Taken, Standing, DueAt, NotAgain, Shown, dueMark}
+use Rattle.demodulator_run.specs.Marks.{Mark, FellDue}
+use Rattle.demodulator_run.specs.Demands.{Ear, Matches, Above, In, Started, Taken, Standing, DueAt, NotAgain, takenAt}
 use Rattle.demodulator_run.proofs.Log.{sampleOf}
 use Rattle.demodulator_run.proofs.Account.{SomeMatch, Episode, Account}
-
-abbrev pub valued : Float → Float → Float → Correlation
-valued diff gain shift = record { diff = diff; gain = gain; shift = shift }
 
 module _ (ear : Ear) (p : ℕ) where
   -- nothing is open
@@ -34,82 +30,86 @@ module _ (ear : Ear) (p : ℕ) where
     pub frames : (e : ℕ) → DueAt l e → e ≤ m
     pub started : Started l m
 
+  -- it is what its kind took at sample b, but for its age
+  abbrev pub TakenFrom : TakenBurst → ℕ → Type 0
+  TakenFrom held b = held ≡ atAge (held .age) (takenAt ear (held .kind) b)
+
   -- a candidate is held after sample n, and no wait: its kind has matched at every sample since `run`
-  pub record Holding (l : List Mark) (n : ℕ) (k : Kind) (age : ℕ) (diff gain shift : Float) : Type 0 where
+  pub record Holding (l : List Mark) (n : ℕ) (held : TakenBurst) : Type 0 where
     pub first : ℕ
     pub run : ℕ
     pub b : ℕ
-    pub busy : Busy l n first b k
-    pub standing : Standing l b k
+    pub busy : Busy l n first b (held .kind)
+    pub standing : Standing l b (held .kind)
     pub begun : first ≤ run
     pub within : run ≤ b
     pub reached : b ≤ n
     -- each switch went to an earlier-listed kind, p samples on at most
-    pub soon : run + p * rank k ≤ first + 3 * p
-    pub aged : age + b ≡ n + 1
-    pub matched : (j : ℕ) → run ≤ j → j ≤ n → Matches ear k j
-    pub larger : (j : ℕ) → b < j → j ≤ n → Above ear k j k b
+    pub soon : run + p * rank (held .kind) ≤ first + 3 * p
+    pub aged : held .age + b ≡ n + 1
+    pub matched : (j : ℕ) → run ≤ j → j ≤ n → Matches ear (held .kind) j
+    pub larger : (j : ℕ) → b < j → j ≤ n → Above ear (held .kind) j (held .kind) b
     pub last : (j : ℕ) (i : Kind) → b < j → Taken l j i → ⊥
     pub all : (j : ℕ) → first ≤ j → j ≤ n → SomeMatch ear p j
-    pub values : valued diff gain shift ≡ at ear k b
+    pub values : TakenFrom held b
 
-  -- `left` samples after n the frame is due; k is the kind that it will show
-  pub record Awaiting (l : List Mark) (n left : ℕ) (k : Kind) (age : ℕ) (diff gain shift : Float) : Type 0 where
+  -- `left` samples after n the frame is due, and will show what is held
+  pub record Awaiting (l : List Mark) (n left : ℕ) (held : TakenBurst) : Type 0 where
     pub first : ℕ
     pub b : ℕ
     pub kind : Kind
     pub s : ℕ
     pub busy : Busy l n first b kind
-    pub episode : Episode ear p l first b kind s (n + left) (record { kind = k; gain = gain; shift = shift })
+    pub episode : Episode ear p l first b kind s (n + left) (shownOf held)
     pub over : s ≤ n
     pub some : 0 < left
     pub short : left < 184 * p
-    pub born : 0 < age
-    pub aged : (age + b ≤ s) ⊎ ((age + b ≤ s + 1) × SomeMatch ear p s)
+    pub born : 0 < held .age
+    pub aged : (held .age + b ≤ s) ⊎ ((held .age + b ≤ s + 1) × SomeMatch ear p s)
     pub source : ℕ
-    pub heard : Matches ear k source
-    pub values : valued diff gain shift ≡ at ear k source
+    pub heard : Matches ear (held .kind) source
+    pub values : TakenFrom held source
 
-  abbrev pub Phase : List Mark → ℕ → Candidate → Wait → Bool → Type 0
-  Phase l n Nothing Free owed = Idle l n
-  Phase l n Nothing (Due w) owed = ⊥
-  Phase l n (Held k age diff gain shift) Free owed = (owed ≡ false) × Holding l n k age diff gain shift
-  Phase l n (Held k age diff gain shift) (Due w) owed = (owed ≡ false) × Awaiting l n (w .left) k age diff gain shift
+  abbrev pub Phase : List Mark → ℕ → Option TakenBurst → Wait → Bool → Type 0
+  Phase l n none Free owed = Idle l n
+  Phase l n none (Due w) owed = ⊥
+  Phase l n (some held) Free owed = (owed ≡ false) × Holding l n held
+  Phase l n (some held) (Due w) owed = (owed ≡ false) × Awaiting l n (w .left) held
 
   -- of a control, and of the log so far
   abbrev pub Kept : List Mark → Control → Type 0
-  Kept l c = Phase l (c .sample) (c .candidate) (c .wait) (c .owed)
+  Kept l c = Phase l (c .sample) (heldIn (c .candidate)) (c .wait) (c .owed)
 
   -- ---- what holds in every phase
   module _ (l : List Mark) where
-    phase-spaced : (n : ℕ) (held : Candidate) (wait : Wait) (owed : Bool) → Phase l n held wait owed → (d e : ℕ) → DueAt l d → DueAt l e → d < e → d + 184 * p ≤ e + 1
-    phase-spaced n Nothing Free owed I = I .spaced
-    phase-spaced n Nothing (Due w) owed I = absurd I
-    phase-spaced n (Held k age diff gain shift) Free owed I = I .1 .busy .account .spaced
-    phase-spaced n (Held k age diff gain shift) (Due w) owed I = I .1 .busy .account .spaced
+    phase-spaced : (n : ℕ) (o : Option TakenBurst) (wait : Wait) (owed : Bool) → Phase l n o wait owed → (d e : ℕ) → DueAt l d → DueAt l e → d < e → d + 184 * p ≤ e + 1
+    phase-spaced n none Free owed I = I .spaced
+    phase-spaced n none (Due w) owed I = absurd I
+    phase-spaced n (some held) Free owed I = I .1 .busy .account .spaced
+    phase-spaced n (some held) (Due w) owed I = I .1 .busy .account .spaced
 
-    phase-past : (n : ℕ) (held : Candidate) (wait : Wait) (owed : Bool) → Phase l n held wait owed → (y : Mark) → In y l → sampleOf y ≤ n
-    phase-past n Nothing Free owed I = I .past
-    phase-past n Nothing (Due w) owed I = absurd I
-    phase-past n (Held k age diff gain shift) Free owed I = I .1 .busy .account .past
-    phase-past n (Held k age diff gain shift) (Due w) owed I = I .1 .busy .account .past
+    phase-past : (n : ℕ) (o : Option TakenBurst) (wait : Wait) (owed : Bool) → Phase l n o wait owed → (y : Mark) → In y l → sampleOf y ≤ n
+    phase-past n none Free owed I = I .past
+    phase-past n none (Due w) owed I = absurd I
+    phase-past n (some held) Free owed I = I .1 .busy .account .past
+    phase-past n (some held) (Due w) owed I = I .1 .busy .account .past
 
-    phase-told : (n : ℕ) (held : Candidate) (wait : Wait) (owed : Bool) → Phase l n held wait owed → (d : ℕ) (x : Shown) → In (dueMark d x) l
+    phase-told : (n : ℕ) (o : Option TakenBurst) (wait : Wait) (owed : Bool) → Phase l n o wait owed → (d : ℕ) (x : Shown) → In (FellDue d x) l
         → (m : ℕ) × (b : ℕ) × (k : Kind) × (s : ℕ) × Episode ear p l m b k s d x
-    phase-told n Nothing Free owed I = I .told
-    phase-told n Nothing (Due w) owed I = absurd I
-    phase-told n (Held k age diff gain shift) Free owed I = I .1 .busy .account .told
-    phase-told n (Held k age diff gain shift) (Due w) owed I = I .1 .busy .account .told
+    phase-told n none Free owed I = I .told
+    phase-told n none (Due w) owed I = absurd I
+    phase-told n (some held) Free owed I = I .1 .busy .account .told
+    phase-told n (some held) (Due w) owed I = I .1 .busy .account .told
 
     module _ (c : Control) (I : Kept l c) where
       pub kept-spaced : (d e : ℕ) → DueAt l d → DueAt l e → d < e → d + 184 * p ≤ e + 1
-      kept-spaced = phase-spaced (c .sample) (c .candidate) (c .wait) (c .owed) I
+      kept-spaced = phase-spaced (c .sample) (heldIn (c .candidate)) (c .wait) (c .owed) I
 
       pub kept-past : (y : Mark) → In y l → sampleOf y ≤ c .sample
-      kept-past = phase-past (c .sample) (c .candidate) (c .wait) (c .owed) I
+      kept-past = phase-past (c .sample) (heldIn (c .candidate)) (c .wait) (c .owed) I
 
-      pub kept-told : (d : ℕ) (x : Shown) → In (dueMark d x) l → (m : ℕ) × (b : ℕ) × (k : Kind) × (s : ℕ) × Episode ear p l m b k s d x
-      kept-told = phase-told (c .sample) (c .candidate) (c .wait) (c .owed) I
+      pub kept-told : (d : ℕ) (x : Shown) → In (FellDue d x) l → (m : ℕ) × (b : ℕ) × (k : Kind) × (s : ℕ) × Episode ear p l m b k s d x
+      kept-told = phase-told (c .sample) (heldIn (c .candidate)) (c .wait) (c .owed) I
 
   -- ---- a sample without a mark
   pub account-later : {l : List Mark} {n m : ℕ} {Now : ℕ → Type 0} {Here : ℕ → Kind → Type 0} → n ≤ m → Account ear p l n Now Here → Account ear p l m Now Here

@@ -9,22 +9,23 @@ use lib.IntN.{ℤ}
 use lib.ListN.{length}
 use lib.Ieee.{Float}
 use Rattle.machine.specs.Runs.{run, answers}
+use Rattle.shaping.specs.Rate.{Rate}
 use Rattle.search.specs.Turn.{Outcome, quiet, offer, sampled}
-use Rattle.search.proofs.Passing.{by-test}
+use Rattle.search.proofs.AgeInPass.{by-test}
 use Rattle.demodulator.specs.declared.SoftDemodulator.{SoftDemodulator}
 use Rattle.demodulator.specs.Spans.{eight}
 use Rattle.demodulator.specs.Record.{back, stored}
 use Rattle.demodulator.specs.Fit.{recordFit, fitForSample, fitForReply}
-use Rattle.demodulator.specs.Calls.{refusal, Left, finished, taken, demodulated, answered}
+use Rattle.demodulator.specs.Calls.{refusal, Left, finished, admittedBy, demodulated, answered}
 use Rattle.demodulator.specs.Feed.{Stretch}
 use Rattle.demodulator.specs.Feed.{sampleSaid as sampleSaid′, sampleNext as sampleNext′, sampleRoom as sampleRoom′}
 use Rattle.demodulator_laws.proofs.RefusedFeed.{refused-feed}
 use Rattle.demodulator_run.specs.Filter.{ago}
-use Rattle.demodulator_run.specs.Rules.{Single, sample, reply, query, Heard, After, settled, given, single}
+use Rattle.demodulator_run.specs.Rules.{Single, sample, reply, query, History, After, settled, given, single}
 use Rattle.demodulator_run.specs.Rules.{answered as repliedTo}
 use Rattle.demodulator_run.specs.Run.{left}
 use Rattle.demodulator_run.specs.Stretch.{sampleSaid, sampleNext, sampleRoom}
-use Rattle.demodulator_run.specs.Calls.{Call, one, stretch, Told, toldStretch, heardAfter, toldTo, rules, recordNext, toldBy}
+use Rattle.demodulator_run.specs.Calls.{Call, one, stretch, Told, toldStretch, historyNext, toldTo, rules, recordNext, toldBy}
 
 -- the room that is lent with a call
 abbrev roomOf : Single → List Float
@@ -41,16 +42,16 @@ abbrev turnedDown : ℕ → List Float → Told
 turnedDown number room = record { answer = refusal number; fed = 0; room = room }
 
 -- ---- the rules
-module _ (table : List Float) (p : ℕ) (h : Heard) where
+module _ (table : List Float) (p : ℕ) (h : History) where
   abbrev Kept : List Float → After → Type 0
-  Kept room a = (number : ℕ) → a .said .answer ≡ refusal number → (a .heard ≡ h) × (a .said .room ≡ room)
+  Kept room a = (number : ℕ) → a .said .answer ≡ refusal number → (a .history ≡ h) × (a .said .room ≡ room)
 
   settled-kept : (xs : List ℤ) (room : List Float) (o : Outcome) → Kept room (settled table p xs room o)
   unfolding settled
   settled-kept xs room (quiet c) number e = let z : _≡_ {A = ℕ} 0 1 = cc in absurd (omega arith)
-  settled-kept xs room (offer kind gain shift c) number e = let z : _≡_ {A = ℕ} 0 1 = cc in absurd (omega arith)
+  settled-kept xs room (offer shown c) number e = let z : _≡_ {A = ℕ} 0 1 = cc in absurd (omega arith)
 
-  single-nothing : (c : Single) (number : ℕ) → single table p h c .said .answer ≡ refusal number → (single table p h c .heard ≡ h) × (single table p h c .said .room ≡ roomOf c)
+  single-nothing : (c : Single) (number : ℕ) → single table p h c .said .answer ≡ refusal number → (single table p h c .history ≡ h) × (single table p h c .said .room ≡ roomOf c)
   unfolding single given repliedTo
   single-nothing (sample x room) =
       by-test (Kept room) (h .control .owed) _ _ (λ _ number e. (refl, refl))
@@ -61,46 +62,46 @@ module _ (table : List Float) (p : ℕ) (h : Heard) where
       by-test (Kept []) (not (h .control .owed)) _ _ (λ _ number e. (refl, refl)) (λ _ number e. let z : _≡_ {A = ℕ} 0 1 = cc in absurd (omega arith))
   single-nothing query = λ number e. (refl, refl)
 
-  pub refused-nothing : (c : Call) (number : ℕ) → toldTo table p h c .answer ≡ refusal number → (heardAfter table p h c ≡ h) × (toldTo table p h c ≡ turnedDown number (lentWith c))
-  unfolding heardAfter toldTo
+  pub refused-nothing : (c : Call) (number : ℕ) → toldTo table p h c .answer ≡ refusal number → (historyNext table p h c ≡ h) × (toldTo table p h c ≡ turnedDown number (lentWith c))
+  unfolding historyNext toldTo
   refused-nothing (one c) number e = let k = single-nothing c number e in (k .0, λ i. record { answer = e i; fed = 0; room = k .1 i })
   refused-nothing (stretch xs room) number e =
-      let k = refused-feed Heard (sampleSaid table p) (sampleNext table p) (sampleRoom table p) (λ (g : Heard). true) h xs room number e in
-      (ap (λ (f : Stretch Heard). f .state) k, ap (λ (f : Stretch Heard). toldStretch f) k)
+      let k = refused-feed History (sampleSaid table p) (sampleNext table p) (sampleRoom table p) (λ (g : History). true) h xs room number e in
+      (ap (λ (f : Stretch History). f .state) k, ap (λ (f : Stretch History). toldStretch f) k)
 
-  -- and so it counts for nothing: what comes after it is as if it had not been made
-  pub refused-skipped : (c : Call) (number : ℕ) (cs : List Call) → toldTo table p h c .answer ≡ refusal number
-      → (run (rules table p) h (c ∷ cs) ≡ run (rules table p) h cs) × (answers (rules table p) h (c ∷ cs) ≡ toldTo table p h c ∷ answers (rules table p) h cs)
-  unfolding run answers
-  refused-skipped c number cs e =
-      let k = refused-nothing c number e .0 in
-      (ap (λ (g : Heard). run (rules table p) g cs) k, ap (λ (g : Heard). toldTo table p h c ∷ answers (rules table p) g cs) k)
+-- and so it counts for nothing: what comes after it is as if it had not been made
+pub refused-skipped : (R : Rate) (h : History) (c : Call) (number : ℕ) (cs : List Call) → toldTo (R .taps) (R .p) h c .answer ≡ refusal number
+    → (run (rules R) h (c ∷ cs) ≡ run (rules R) h cs) × (answers (rules R) h (c ∷ cs) ≡ toldTo (R .taps) (R .p) h c ∷ answers (rules R) h cs)
+unfolding run answers
+refused-skipped R h c number cs e =
+    let k = refused-nothing (R .taps) (R .p) h c number e .0 in
+    (ap (λ (g : History). run (rules R) g cs) k, ap (λ (g : History). toldTo (R .taps) (R .p) h c ∷ answers (rules R) g cs) k)
 
 -- ---- every record
-module _ (m : SoftDemodulator) where
+module _ (R : Rate) (m : SoftDemodulator) where
   abbrev KeptRecord : List Float → Left → Type 0
   KeptRecord room l = (number : ℕ) → l .answer ≡ refusal number → (l .demodulator ≡ m) × (l .room ≡ room)
 
-  taken-kept : (x : ℤ) (room : List Float) (o : Outcome) → KeptRecord room (finished (stored m x) room o)
+  taken-kept : (x : ℤ) (room : List Float) (o : Outcome) → KeptRecord room (finished (R .p) (stored R m x) room o)
   taken-kept x room (quiet c) number e = let z : _≡_ {A = ℕ} 0 1 = cc in absurd (omega arith)
-  taken-kept x room (offer kind gain shift c) number e = let z : _≡_ {A = ℕ} 0 1 = cc in absurd (omega arith)
+  taken-kept x room (offer shown c) number e = let z : _≡_ {A = ℕ} 0 1 = cc in absurd (omega arith)
 
-  single-record : (c : Single) (number : ℕ) → left m c .answer ≡ refusal number → (left m c .demodulator ≡ m) × (left m c .room ≡ roomOf c)
-  unfolding left demodulated answered taken
+  single-record : (c : Single) (number : ℕ) → left R m c .answer ≡ refusal number → (left R m c .demodulator ≡ m) × (left R m c .room ≡ roomOf c)
+  unfolding left demodulated answered admittedBy
   single-record (sample x room) =
-      by-test (KeptRecord room) (not (fitForSample m)) _ _ (λ _ number e. (refl, refl))
+      by-test (KeptRecord room) (not (fitForSample (R .p) m)) _ _ (λ _ number e. (refl, refl))
       (λ _. by-test (KeptRecord room) (m .control .owed) _ _ (λ _ number e. (refl, refl))
       (λ _. by-test (KeptRecord room) (ltb (length room) 192) _ _ (λ _ number e. (refl, refl))
       (λ _. by-test (KeptRecord room) (eqb (m .control .sample) (2 ^ 63)) _ _ (λ _ number e. (refl, refl))
-      (λ _. taken-kept x room (sampled 10 (eight 10 (back (stored m x))) (m .control))))))
+      (λ _. taken-kept x room (sampled (R .p) (eight (R .p) (back (R .p) (stored R m x))) (m .control))))))
   single-record (reply r) =
-      by-test (KeptRecord []) (not (fitForReply m)) _ _ (λ _ number e. (refl, refl))
+      by-test (KeptRecord []) (not (fitForReply (R .p) m)) _ _ (λ _ number e. (refl, refl))
       (λ _. by-test (KeptRecord []) (not (m .control .owed)) _ _ (λ _ number e. (refl, refl)) (λ _ number e. let z : _≡_ {A = ℕ} 0 1 = cc in absurd (omega arith)))
   single-record query = λ number e. (refl, refl)
 
-  pub refused-record : (c : Call) (number : ℕ) → toldBy m c .answer ≡ refusal number → (recordNext m c ≡ m) × (toldBy m c ≡ turnedDown number (lentWith c))
+  pub refused-record : (c : Call) (number : ℕ) → toldBy R m c .answer ≡ refusal number → (recordNext R m c ≡ m) × (toldBy R m c ≡ turnedDown number (lentWith c))
   unfolding recordNext toldBy
   refused-record (one c) number e = let k = single-record c number e in (k .0, λ i. record { answer = e i; fed = 0; room = k .1 i })
   refused-record (stretch xs room) number e =
-      let k = refused-feed SoftDemodulator sampleSaid′ sampleNext′ sampleRoom′ recordFit m xs room number e in
+      let k = refused-feed SoftDemodulator (sampleSaid′ R) (sampleNext′ R) (sampleRoom′ R) (recordFit (R .p)) m xs room number e in
       (ap (λ (f : Stretch SoftDemodulator). f .state) k, ap (λ (f : Stretch SoftDemodulator). toldStretch f) k)

@@ -3,6 +3,7 @@ use mathlib.Core.Path.{_≡_, refl, sym, ap, _∙_, subst}
 use mathlib.Core.Logic.{_⊎_, inl, inr}
 use mathlib.Core.Bool.{Bool, true, false}
 use mathlib.Core.List.{List}
+use mathlib.Core.Option.{Option, none, some}
 use Prim.Native.Nat.{ℕ, _+_, _-_, _*_, _≤_, _<_}
 use native.Mathlib.Nat.{lt-of-not-le}
 use native.Mathlib.Omega.{arith}
@@ -12,15 +13,15 @@ use Rattle.numbers.proofs.Tests.{holds}
 use Rattle.protocol.specs.declared.Kind.{Kind}
 use Rattle.protocol.specs.declared.SyncBurst.the-variants.{Frame}
 use Rattle.decode.specs.Correlator.{matches}
-use Rattle.search.specs.declared.Candidate.{Candidate}
-use Rattle.search.specs.declared.Candidate.the-variants.{Nothing, Held}
 use Rattle.search.specs.declared.Wait.{Wait}
 use Rattle.search.specs.declared.Wait.the-variants.{Free, Due}
+use Rattle.search.specs.declared.Shown.{Shown}
 use Rattle.search.specs.declared.Control.{Control}
+use Rattle.search.specs.TakenBurst.{TakenBurst, heldIn, shownOf}
 use Rattle.search.specs.Search.{rank}
-use Rattle.demodulator_run.specs.Marks.{Mark}
-use Rattle.demodulator_run.specs.Demands.{SymbolSize, Ear, at, Matches, Unmatched, Above, Alone, NotAgain, In, Taken, Fails, Corner, Replaces, Shown, shownAt, dueMark, DueBy, Cause, DueRule}
-use Rattle.demodulator_run.proofs.Listing.{Place, Before, Level, After, place, Placed, placed, rank-only, same-self, same→≡, no→⊥, T-clash, heard}
+use Rattle.demodulator_run.specs.Marks.{Mark, FellDue}
+use Rattle.demodulator_run.specs.Demands.{SymbolSize, Ear, at, Matches, Unmatched, Above, Alone, NotAgain, In, Taken, Fails, Corner, Replaces, shownAt, DueBy, Cause, DueRule}
+use Rattle.demodulator_run.proofs.KindOrder.{Place, Before, Level, After, place, Placed, placed, rank-only, same-self, same→≡, no→⊥, T-clash, heard}
 use Rattle.demodulator_run.proofs.Account.{Episode, HandedOn, Account}
 use Rattle.demodulator_run.proofs.Phase.{Phase, Kept, kept-past, kept-told, run-short}
 
@@ -103,7 +104,7 @@ module _ (ear : Ear) (p : ℕ) (alone : Alone ear) where
 
     -- a candidate that failed and whose frame's time has come: the frame has fallen due
     abbrev Ended : ℕ → ℕ → Kind → ℕ → ℕ → Shown → Type 0
-    Ended n b k s d x = Fails ear l b k s → DueBy ear p b k s d x → d ≤ n → (m : ℕ) × Episode ear p l m b k s d x × In (dueMark d x) l
+    Ended n b k s d x = Fails ear l b k s → DueBy ear p b k s d x → d ≤ n → (m : ℕ) × Episode ear p l m b k s d x × In (FellDue d x) l
 
     ended-by : {n : ℕ} {Now : ℕ → Type 0} {Here : ℕ → Kind → Type 0} → Account ear p l n Now Here
         → ((b : ℕ) (k : Kind) (s d : ℕ) (x : Shown) → Here b k → Fails ear l b k s → DueBy ear p b k s d x → d ≤ n → ⊥)
@@ -118,27 +119,27 @@ module _ (ear : Ear) (p : ℕ) (alone : Alone ear) where
             let (u, v) = decided b k s (C .d) d (C .x) x (E .due) D in (
               c .0,
               subst (Episode ear p l (c .0) b k s d) v (subst (λ (f : ℕ). Episode ear p l (c .0) b k s f (C .x)) u E),
-              subst (λ (z : Shown). In (dueMark d z) l) v (subst (λ (f : ℕ). In (dueMark f (C .x)) l) u (C .fell)),
+              subst (λ (z : Shown). In (FellDue d z) l) v (subst (λ (f : ℕ). In (FellDue f (C .x)) l) u (C .fell)),
             )
         | inr q ↦ absurd (here b k s d x q F D o)
       ]
     ]
 
-    ended : (n : ℕ) (held : Candidate) (wait : Wait) (owed : Bool) → Phase ear p l n held wait owed → (b : ℕ) (k : Kind) (s d : ℕ) (x : Shown) → Ended n b k s d x
-    ended n Nothing Free owed I = ended-by I (λ b k s d x q F D o. q)
-    ended n Nothing (Due w) owed I = absurd I
-    ended n (Held j age diff gain shift) Free owed I = ended-by (I .1 .busy .account) λ b k s d x q F D o.
+    ended : (n : ℕ) (o : Option TakenBurst) (wait : Wait) (owed : Bool) → Phase ear p l n o wait owed → (b : ℕ) (k : Kind) (s d : ℕ) (x : Shown) → Ended n b k s d x
+    ended n none Free owed I = ended-by I (λ b k s d x q F D o. q)
+    ended n none (Due w) owed I = absurd I
+    ended n (some held) Free owed I = ended-by (I .1 .busy .account) λ b k s d x q F D o.
         let H = I .1 in
         let u = fails-soon F D in
         let v = F .later in
         let w = H .within in
         let e = q .0 in
         clash k s (subst (λ (i : Kind). Matches ear i s) (sym (q .1)) (H .matched s (omega arith) (omega arith))) (F .lost)
-    ended n (Held j age diff gain shift) (Due w) owed I = ended-by (I .1 .busy .account) λ b k s d x q F D o.
+    ended n (some held) (Due w) owed I = ended-by (I .1 .busy .account) λ b k s d x q F D o.
         let W = I .1 in
         let G : Fails ear l (W .b) (W .kind) s = subst (λ (i : Kind). Fails ear l (W .b) i s) (q .1) (subst (λ (c : ℕ). Fails ear l c k s) (q .0) F) in
         let D' : DueBy ear p (W .b) (W .kind) s d x = subst (λ (i : Kind). DueBy ear p (W .b) i s d x) (q .1) (subst (λ (c : ℕ). DueBy ear p c k s d x) (q .0) D) in
-        let y : Shown = record { kind = j; gain = gain; shift = shift } in
+        let y : Shown = shownOf held in
         let E : DueBy ear p (W .b) (W .kind) s (n + w .left) y = subst (λ (t : ℕ). DueBy ear p (W .b) (W .kind) t (n + w .left) y) (same-end (W .episode .fails) G) (W .episode .due) in
         let f : d ≡ n + w .left = decided (W .b) (W .kind) s d (n + w .left) x y D' E .0 in
         let u = W .some in
@@ -147,7 +148,7 @@ module _ (ear : Ear) (p : ℕ) (alone : Alone ear) where
   pub due-rule-of : (big : SymbolSize p) (again : NotAgain ear p) (l : List Mark) (c : Control) → Kept ear p l c → DueRule ear p (c .sample) l
   due-rule-of big again l c I = record {
     exact = λ d x. (
-      λ i. let (m, b, k, s, E) = kept-told ear p l c I d x i in (kept-past ear p l c I (dueMark d x) i, record { b = b; kind = k; s = s; fails = E .fails; due = E .due }),
+      λ i. let (m, b, k, s, E) = kept-told ear p l c I d x i in (kept-past ear p l c I (FellDue d x) i, record { b = b; kind = k; s = s; fails = E .fails; due = E .due }),
       λ q. over d x (q .1) (q .0) .2,
     );
     only = only;
@@ -155,8 +156,8 @@ module _ (ear : Ear) (p : ℕ) (alone : Alone ear) where
     decided = decided;
   }
     where
-      over : (d : ℕ) (x : Shown) (A : Cause ear p l d x) → d ≤ c .sample → (m : ℕ) × Episode ear p l m (A .b) (A .kind) (A .s) d x × In (dueMark d x) l
-      over d x A o = ended big again l (c .sample) (c .candidate) (c .wait) (c .owed) I (A .b) (A .kind) (A .s) d x (A .fails) (A .due) o
+      over : (d : ℕ) (x : Shown) (A : Cause ear p l d x) → d ≤ c .sample → (m : ℕ) × Episode ear p l m (A .b) (A .kind) (A .s) d x × In (FellDue d x) l
+      over d x A o = ended big again l (c .sample) (heldIn (c .candidate)) (c .wait) (c .owed) I (A .b) (A .kind) (A .s) d x (A .fails) (A .due) o
 
       -- neither is taken while the other's frame is awaited
       not-after : (d : ℕ) (x y : Shown) → d ≤ c .sample → (A : Cause ear p l d x) (B : Cause ear p l d y) → A .b ≤ B .b

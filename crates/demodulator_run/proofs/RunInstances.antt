@@ -10,7 +10,10 @@ use lib.IntN.{pos, negsuc}
 use lib.ListN.{getD, replicate, getD-replicate}
 use lib.Ieee.{Float}
 use Rattle.numbers.specs.Sum.{nought}
+use Rattle.numbers.proofs.Ring.{Recent, push, by-age}
 use Rattle.machine.specs.Runs.{run, answers, Each}
+use Rattle.shaping.specs.Rate.{at48}
+use Rattle.shaping.proofs.RateFacts.{facts48}
 use Rattle.shaping.specs.Taps.{taps}
 use Rattle.decode.specs.Correlator.{inRange}
 use Rattle.search.specs.declared.Reply.the-variants.{Accepted}
@@ -21,9 +24,8 @@ use Rattle.demodulator_run.specs.Filter.{filtered}
 use Rattle.demodulator_run.specs.Rules.{sample, reply, query, After, start, given, answered, single}
 use Rattle.demodulator_run.specs.Run.{Callable}
 use Rattle.demodulator_run.specs.Stretch.{Sixteen}
-use Rattle.demodulator_run.specs.Calls.{Call, one, stretch, toldOne, heardAfter, toldTo, rules, receiver, Given}
+use Rattle.demodulator_run.specs.Calls.{Call, one, stretch, toldOne, historyNext, toldTo, rules, receiver, Given}
 use Rattle.demodulator_run.specs.Represents.{Represents}
-use Rattle.demodulator_run.proofs.Ring.{Recent, push, by-age}
 use Rattle.demodulator_run.proofs.Causal.{filtered-old}
 use Rattle.demodulator_run.proofs.InRange.{small-none, small-more, in-range}
 use Rattle.demodulator_run.proofs.Sixteen.{taps-size, taps-bounded}
@@ -38,7 +40,7 @@ sevens k = 7 * k
 
 empty : Recent 3 0 sevens 0 (replicate 3 0) 0
 empty = record {
-  long = refl;
+  long = lit≤ tt;
   inside = lit< tt;
   holds = λ i l. getD-replicate 3 ((0 + i) % 3) 0 0 (mod-lt (0 + i) (lit< tt)) ∙ omega arith;
 }
@@ -51,12 +53,12 @@ newest-is-7 = by-age 3 0 sevens 1 (7 ∷ 0 ∷ 0 ∷ []) 1 one-stored 0 (lit< tt
 
 -- ---- filtered values
 old-meets : filtered taps 10 (pos 1 ∷ pos 2 ∷ []) 1 ≡ filtered taps 10 (pos 1 ∷ []) 1
-old-meets = filtered-old taps 10 taps-size (pos 1 ∷ []) (pos 2) 1 (lit≤ tt)
+old-meets = filtered-old taps 10 (taps-size at48 facts48) (pos 1 ∷ []) (pos 2) 1 (lit≤ tt)
 
 in-range-meets : T (inRange (filtered taps 10 (negsuc 32767 ∷ []) 1))
-in-range-meets = in-range taps 10 taps-bounded (negsuc 32767 ∷ []) (small-more [] (negsuc 32767) small-none (lit≤ tt)) 1
+in-range-meets = in-range taps 10 (taps-bounded at48 facts48) (negsuc 32767 ∷ []) (small-more [] (negsuc 32767) small-none (lit≤ tt)) 1
 
--- ---- calls of each kind: a query, a reply that nobody asked for, the least sample and a stretch without their room, a sample that is accepted, and a stretch of none
+-- ---- calls of each kind: a query, a reply that nobody asked for, the least sample and a stretch without their room, a sample that is admitted, and a stretch of none
 abbrev cramped : List Float
 cramped = replicate 191 nought
 
@@ -74,11 +76,11 @@ mixed-given : Each Given mixed
 unfolding Each Given Callable Sixteen
 mixed-given = (tt, (tt, (record { sfits = lit≤ tt }, ((record { sfits = lit≤ tt }, (record { sfits = lit≤ tt }, tt)), (record { sfits = lit≤ tt }, (tt, tt))))))
 
-mixed-represents : Represents (run receiver fresh mixed) (run (rules taps 10) start mixed)
-mixed-represents = receiver-run mixed mixed-given .0
+mixed-represents : Represents at48 (run (receiver at48) fresh mixed) (run (rules at48) start mixed)
+mixed-represents = receiver-run at48 facts48 mixed mixed-given .0
 
 -- the record's answers, from the rules' alone
-mixed-answers : answers receiver fresh mixed
+mixed-answers : answers (receiver at48) fresh mixed
     ≡ record { answer = carrier false; fed = 0; room = [] }
     ∷ record { answer = refusal 3; fed = 0; room = [] }
     ∷ record { answer = refusal 4; fed = 0; room = cramped }
@@ -86,9 +88,9 @@ mixed-answers : answers receiver fresh mixed
     ∷ record { answer = nothing; fed = 0; room = room }
     ∷ record { answer = nothing; fed = 0; room = cramped }
     ∷ []
-unfolding answers toldTo heardAfter fed fedFrom goesOn single given answered
+unfolding answers toldTo historyNext fed fedFrom goesOn single given answered
 mixed-answers =
-    receiver-run mixed mixed-given .1
+    receiver-run at48 facts48 mixed mixed-given .1
     ∙ ap (λ (a : After).
     record { answer = carrier false; fed = 0; room = [] }
     ∷ record { answer = refusal 3; fed = 0; room = [] }
@@ -98,14 +100,14 @@ mixed-answers =
     ∷ record { answer = nothing; fed = 0; room = cramped }
     ∷ []) first
 
-mixed-fit : FitForAll (run receiver fresh mixed)
-mixed-fit = fit-throughout mixed mixed-given
+mixed-fit : FitForAll 10 (run (receiver at48) fresh mixed)
+mixed-fit = fit-throughout at48 facts48 mixed mixed-given
 
 -- a refused sample is not heard, nor a refused stretch
-mixed-unheard : heardAfter taps 10 start (one (sample (pos 32767) [])) ≡ start
+mixed-unheard : historyNext taps 10 start (one (sample (pos 32767) [])) ≡ start
 unfolding toldTo single given
 mixed-unheard = refused-nothing taps 10 start (one (sample (pos 32767) [])) 4 refl .0
 
-stretch-unheard : heardAfter taps 10 start (stretch (pos 32767 ∷ []) []) ≡ start
+stretch-unheard : historyNext taps 10 start (stretch (pos 32767 ∷ []) []) ≡ start
 unfolding toldTo fed fedFrom goesOn single given
 stretch-unheard = refused-nothing taps 10 start (stretch (pos 32767 ∷ []) []) 4 refl .0

@@ -5,6 +5,7 @@ use native.Mathlib.Nat.{mul-le-mul-left}
 use native.Mathlib.Omega.{arith}
 use lib.Ieee.{Float}
 use Rattle.decode.specs.Correlator.{symbolOf}
+use Rattle.search.specs.declared.Shown.{Shown}
 use Rattle.demodulator.specs.Spans.{eight, symbolAt}
 
 module _ (p : ℕ) (some : 0 < p) (b c : ℕ → Float) (agree : (j : ℕ) → j < 192 * p → b j ≡ c j) where
@@ -14,5 +15,5 @@ module _ (p : ℕ) (some : 0 < p) (b c : ℕ → Float) (agree : (j : ℕ) → j
   pub eight-same : eight p b ≡ eight p c
   eight-same = fun-ext (λ (i : ℕ). agree (p * (7 - i)) (reached 7 i (omega arith)))
 
-  pub window-same : (gain shift : Float) → symbolAt p gain shift b ≡ symbolAt p gain shift c
-  window-same gain shift = fun-ext (λ (i : ℕ). ap (symbolOf gain shift) (agree (p * (191 - i)) (reached 191 i (omega arith))))
+  pub window-same : (shown : Shown) → symbolAt p shown b ≡ symbolAt p shown c
+  window-same shown = fun-ext (λ (i : ℕ). ap (symbolOf (shown .gain) (shown .shift)) (agree (p * (191 - i)) (reached 191 i (omega arith))))

@@ -1,4 +1,4 @@
--- Samples of 16 bits: those that a run of calls accepts are such, and so at 48,000 in a second its filtered values are within ±1,000,000. Assumes nothing.
+-- Samples of 16 bits: those that a run of calls accepts are such, and so its filtered values are within ±1,000,000. Assumes nothing.
 use mathlib.Core.Path.{sym, subst}
 use mathlib.Core.Bool.{not}
 use mathlib.Core.List.{List, [], _∷_, _++_}
@@ -8,16 +8,17 @@ use lib.Dec.{T, eqb, ltb}
 use lib.IntN.{ℤ}
 use lib.ListN.{length}
 use lib.Ieee.{Float}
-use Rattle.shaping.specs.Taps.{taps}
-use Rattle.shaping.proofs.Table.{taps-number}
+use Rattle.machine.specs.Runs.{run, Each}
+use Rattle.shaping.specs.Rate.{Rate, tapCount}
+use Rattle.shaping.proofs.RateFacts.{Facts}
 use Rattle.shaping.proofs.Receiver.{bounded, size16}
 use Rattle.decode.specs.Correlator.{inRange}
-use Rattle.search.proofs.Passing.{by-test}
+use Rattle.search.proofs.AgeInPass.{by-test}
 use Rattle.demodulator_run.specs.Filter.{filtered}
-use Rattle.demodulator_run.specs.Rules.{Single, sample, reply, query, Heard, After, start, given, answered, single, heardFrom, heardAll}
-use Rattle.demodulator_run.specs.Run.{Callable, Sampled}
+use Rattle.demodulator_run.specs.Rules.{Single, sample, reply, query, History, After, start, given, answered, single, historyAll, singleRules}
+use Rattle.demodulator_run.specs.Run.{Callable}
 use Rattle.demodulator_run.specs.Stretch.{Sixteen}
-use Rattle.demodulator_run.proofs.Calling.{settled-samples}
+use Rattle.demodulator_run.proofs.CallKeeps.{settled-samples}
 use Rattle.demodulator_run.proofs.InRange.{Small, small-none, small-more, Bounded, in-range}
 
 -- ---- lists of such samples
@@ -39,9 +40,9 @@ sixteen-back (x ∷ xs) ys s = sixteen-back xs ys (s .1)
 -- ---- what a run accepts
 module _ (table : List Float) (p : ℕ) where
   abbrev SmallAfter : After → Type 0
-  SmallAfter a = Small (a .heard .samples)
+  SmallAfter a = Small (a .history .samples)
 
-  pub small-called : (h : Heard) (c : Single) → Callable c → Small (h .samples) → SmallAfter (single table p h c)
+  pub small-called : (h : History) (c : Single) → Callable c → Small (h .samples) → SmallAfter (single table p h c)
   unfolding single given answered Callable
   small-called h (sample x room) f s =
       by-test SmallAfter (h .control .owed) _ _ (λ _. s)
@@ -51,18 +52,19 @@ module _ (table : List Float) (p : ℕ) where
   small-called h (reply r) f s = by-test SmallAfter (not (h .control .owed)) _ _ (λ _. s) (λ _. s)
   small-called h query f s = s
 
-  small-run : (cs : List Single) (h : Heard) → Sampled cs → Small (h .samples) → Small (heardFrom table p h cs .samples)
-  unfolding heardFrom Sampled
+  small-run : (cs : List Single) (h : History) → Each Callable cs → Small (h .samples) → Small (run (singleRules table p) h cs .samples)
+  unfolding run Each
   small-run [] h f s = s
-  small-run (c ∷ cs) h f s = small-run cs (single table p h c .heard) (f .1) (small-called h c (f .0) s)
+  small-run (c ∷ cs) h f s = small-run cs (single table p h c .history) (f .1) (small-called h c (f .0) s)
 
--- ---- at 48,000
-pub taps-bounded : Bounded taps
-taps-bounded x h = bounded x (λ i l. h i (rw taps-number l))
+-- ---- at a rate
+module _ (R : Rate) (F : Facts R) where
+  pub taps-bounded : Bounded (R .taps)
+  taps-bounded x h = bounded R F x (λ i l. h i (rw (F .number) l))
 
-pub filtered-range : (cs : List Single) → Sampled cs → (k : ℕ) → T (inRange (filtered taps 10 (heardAll taps 10 cs .samples) k))
-filtered-range cs f = in-range taps 10 taps-bounded (heardAll taps 10 cs .samples) (small-run taps 10 cs start f small-none)
+  pub filtered-range : (cs : List Single) → Each Callable cs → (k : ℕ) → T (inRange (filtered (R .taps) (R .p) (historyAll (R .taps) (R .p) cs .samples) k))
+  filtered-range cs f = in-range (R .taps) (R .p) taps-bounded (historyAll (R .taps) (R .p) cs .samples) (small-run (R .taps) (R .p) cs start f small-none)
 
--- "for i = 0 to 80"
-pub taps-size : length taps ≤ 8 * 10 + 1
-taps-size = omega (arith, taps-number)
+  -- "for i = 0 to 80"
+  pub taps-size : length (R .taps) ≤ tapCount (R .p)
+  taps-size = omega (arith, F .number)

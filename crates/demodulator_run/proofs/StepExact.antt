@@ -3,6 +3,7 @@ use mathlib.Core.Path.{_≡_, refl, sym, ap, _∙_, subst}
 use mathlib.Core.Logic.{_⊎_, inl, inr}
 use mathlib.Core.Bool.{Bool, true, false, cond, true≢false}
 use mathlib.Core.List.{List, [], _∷_, List·Memᴰ·head, List·Memᴰ·tail, List·Memᴰ·not-nil, List·Memᴰ·cases-cons}
+use mathlib.Core.Option.{some}
 use Prim.Native.Nat.{ℕ, _+_, _<_}
 use native.Mathlib.Omega.{arith}
 use lib.Dec.{ltb}
@@ -12,7 +13,7 @@ use lib.Ieee.{Float}
 use Rattle.protocol.specs.declared.Kind.{Kind}
 use Rattle.protocol.specs.declared.Kind.the-variants.{Lsf, Bert, Stream, Packet}
 use Rattle.search.specs.declared.Candidate.{Candidate}
-use Rattle.search.specs.declared.Candidate.the-variants.{Nothing, Held}
+use Rattle.search.specs.declared.Candidate.the-variants.{Nothing}
 use Rattle.search.specs.declared.Waiting.{Waiting}
 use Rattle.search.specs.declared.Wait.{Wait}
 use Rattle.search.specs.declared.Wait.the-variants.{Free, Due}
@@ -20,8 +21,10 @@ use Rattle.search.specs.declared.Timer.{Timer}
 use Rattle.search.specs.declared.Control.{Control}
 use Rattle.search.specs.declared.Reply.{Reply}
 use Rattle.search.specs.declared.Reply.the-variants.{Accepted, Rejected}
+use Rattle.search.specs.TakenBurst.{TakenBurst, heldAs, heldIn, shownOf}
 use Rattle.search.specs.Turn.{offered, cleared}
-use Rattle.demodulator_run.specs.Rules.{Single, sample, reply, Heard}
+use Rattle.search.proofs.HeldOrNot.{HeldOrNot, not-held, is-held, same-held}
+use Rattle.demodulator_run.specs.Rules.{Single, sample, reply, History}
 use Rattle.demodulator_run.specs.Marks.{Mark, First, Anew, Failed, FellDue, searchedMarks, dueMarks, waitedMarks, sampledMarks, repliedMarks}
 use Rattle.demodulator_run.specs.Demands.{Ear, Alone, In}
 use Rattle.demodulator_run.specs.Exact.{lastSample, Searches, BySearch, ByRules}
@@ -30,24 +33,24 @@ use Rattle.demodulator_run.proofs.Phase.{Phase}
 use Rattle.demodulator_run.proofs.SearchExact.{Exactly, search-exact}
 
 -- ---- the two sources of a mark
-module _ (ear : Ear) (h : Heard) (call : Single) where
+module _ (ear : Ear) (h : History) (call : Single) where
   abbrev pub DueHere : Mark → Type 0
   DueHere (First n k) = ⊥
   DueHere (Anew n j k) = ⊥
   DueHere (Failed n k) = ⊥
-  DueHere (FellDue d k gain shift) = ByRules ear (FellDue d k gain shift) h call
+  DueHere (FellDue d x) = ByRules ear (FellDue d x) h call
 
   by-search : (c : Control) → Searches h call c → (y : Mark) → BySearch ear c y → ByRules ear y h call
   by-search c r (First n k) s = (c, r, s)
   by-search c r (Anew n j k) s = (c, r, s)
   by-search c r (Failed n k) s = (c, r, s)
-  by-search c r (FellDue d k gain shift) s = absurd s
+  by-search c r (FellDue d x) s = absurd s
 
   source : (y : Mark) → ByRules ear y h call → ((c : Control) × Searches h call c × BySearch ear c y) ⊎ DueHere y
   source (First n k) s = inl s
   source (Anew n j k) s = inl s
   source (Failed n k) s = inl s
-  source (FellDue d k gain shift) s = inr s
+  source (FellDue d x) s = inr s
 
   -- no search runs, and no frame falls due
   pub nothing-exact : ((c : Control) → Searches h call c → ⊥) → ((y : Mark) → DueHere y → ⊥) → Exactly (λ (y : Mark). ByRules ear y h call) []
@@ -63,14 +66,14 @@ module _ (ear : Ear) (h : Heard) (call : Single) where
   no-sample none (First n k) d = d
   no-sample none (Anew n j k) d = d
   no-sample none (Failed n k) d = d
-  no-sample none (FellDue n k gain shift) d = none (d .0) (d .1) (d .2)
+  no-sample none (FellDue n x) d = none (d .0) (d .1) (d .2)
 
   -- and a wait of 1
   no-wait : (h .control .wait ≡ lastSample → ⊥) → (y : Mark) → DueHere y → ⊥
   no-wait none (First n k) d = d
   no-wait none (Anew n j k) d = d
   no-wait none (Failed n k) d = d
-  no-wait none (FellDue n k gain shift) d = none (d .4)
+  no-wait none (FellDue n x) d = none (d .4)
 
 pub free-due : {w : Waiting} → Free ≡ Due w → ⊥
 free-due e = let z : _≡_ {A = ℕ} 0 1 = cc in omega arith
@@ -89,7 +92,7 @@ not-offered Stream e = absurd (true≢false e)
 not-offered Packet e = absurd (true≢false e)
 
 module _ (ear : Ear) (p : ℕ) (alone : Alone ear) (xs : List ℤ) (t : Timer) (o : Bool) (n : ℕ) where
-  abbrev heardWith : Candidate → Wait → Heard
+  abbrev heardWith : Candidate → Wait → History
   heardWith held wait = record { samples = xs; control = controlled held wait t o n }
 
   abbrev later : Timer
@@ -97,70 +100,71 @@ module _ (ear : Ear) (p : ℕ) (alone : Alone ear) (xs : List ℤ) (t : Timer) (
 
   -- ---- a sample
   module _ (x : ℤ) (room : List Float) where
-    free-exact : (held : Candidate) → Exactly (λ (y : Mark). ByRules ear y (heardWith held Free) (sample x room)) (searchedMarks p (ear (n + 1)) (controlled held Free later o (n + 1)))
-    free-exact held =
-        only-search ear (heardWith held Free) (sample x room) (controlled held Free later o (n + 1)) (inl (refl, refl))
-        (λ d s. elim s [ inl q ↦ q .1 | inr q ↦ absurd (free-due (q .0)) ]) (no-wait ear (heardWith held Free) (sample x room) free-due) _ (search-exact ear p alone (n + 1) held later o)
+    free-exact : {candidate : Candidate} → HeldOrNot candidate
+        → Exactly (λ (y : Mark). ByRules ear y (heardWith candidate Free) (sample x room)) (searchedMarks p (ear (n + 1)) (controlled candidate Free later o (n + 1)))
+    free-exact {candidate} held =
+        only-search ear (heardWith candidate Free) (sample x room) (controlled candidate Free later o (n + 1)) (inl (refl, refl))
+        (λ d s. elim s [ inl q ↦ q .1 | inr q ↦ absurd (free-due (q .0)) ]) (no-wait ear (heardWith candidate Free) (sample x room) free-due) _ (search-exact ear p alone (n + 1) held later o)
 
-    module _ (k : Kind) (age : ℕ) (diff gain shift : Float) where
-      longer-exact : (left : ℕ) → 1 < left → Exactly (λ (y : Mark). ByRules ear y (heardWith (Held k age diff gain shift) (Due (record { left = left }))) (sample x room)) []
+    module _ (held : TakenBurst) where
+      abbrev k : Kind
+      k = held .kind
+
+      longer-exact : (left : ℕ) → 1 < left → Exactly (λ (y : Mark). ByRules ear y (heardWith (heldAs held) (Due (record { left = left }))) (sample x room)) []
       longer-exact left more =
-          nothing-exact ear (heardWith (Held k age diff gain shift) (Due (record { left = left }))) (sample x room)
+          nothing-exact ear (heardWith (heldAs held) (Due (record { left = left }))) (sample x room)
           (λ c s. elim s [ inl q ↦ free-due (sym (q .0)) | inr q ↦ omega (arith, due-one left (q .0)) ])
-          (no-wait ear (heardWith (Held k age diff gain shift) (Due (record { left = left }))) (sample x room) (λ e. omega (arith, due-one left e)))
+          (no-wait ear (heardWith (heldAs held) (Due (record { left = left }))) (sample x room) (λ e. omega (arith, due-one left e)))
 
-      abbrev h : Heard
-      h = heardWith (Held k age diff gain shift) lastSample
+      abbrev h : History
+      h = heardWith (heldAs held) lastSample
 
       abbrev rest : Bool → List Mark
       rest b = cond b [] (searchedMarks p (ear (n + 1)) (controlled Nothing Free later o (n + 1)))
 
-      due-exact : (b : Bool) → offered k ≡ b → Exactly (λ (y : Mark). ByRules ear y h (sample x room)) (FellDue (n + 1) k gain shift ∷ rest b)
-      due-exact b e y = (λ i. elim (List·Memᴰ·cases-cons i) [ inl q ↦ subst (λ (z : Mark). ByRules ear z h (sample x room)) (sym q) (x, room, refl, refl, refl, (age, diff, refl)) | inr q ↦ forth b e q ], back y)
+      due-exact : (b : Bool) → offered k ≡ b → Exactly (λ (y : Mark). ByRules ear y h (sample x room)) (FellDue (n + 1) (shownOf held) ∷ rest b)
+      due-exact b e y = (λ i. elim (List·Memᴰ·cases-cons i) [ inl q ↦ subst (λ (z : Mark). ByRules ear z h (sample x room)) (sym q) (x, room, refl, refl, refl, (held, refl, refl)) | inr q ↦ forth b e q ], back y)
         where
           forth : (b : Bool) → offered k ≡ b → In y (rest b) → ByRules ear y h (sample x room)
           forth true e i = absurd (List·Memᴰ·not-nil i)
           forth false e i =
-              let q : k ≡ Bert = not-offered k e in
-              let f : Held k age diff gain shift ≡ Held Bert age diff gain shift = cc in
-              by-search ear h (sample x room) (controlled Nothing Free later o (n + 1)) (inr (refl, (diff, (age, gain, shift, f)), refl)) y (search-exact ear p alone (n + 1) Nothing later o y .0 i)
+              by-search ear h (sample x room) (controlled Nothing Free later o (n + 1)) (inr (refl, (held, (refl, not-offered k e)), refl)) y (search-exact ear p alone (n + 1) not-held later o y .0 i)
 
           searched : (b : Bool) → offered k ≡ b → (y : Mark) → (c : Control) → Searches h (sample x room) c → BySearch ear c y → In y (rest b)
           searched b e y c (inl q) s = absurd (free-due (sym (q .0)))
           searched true e y c (inr q) s =
-              let f : Held k age diff gain shift ≡ Held Bert (q .1 .1 .0) (q .1 .0) (q .1 .1 .1) (q .1 .1 .2) = q .1 .1 .3 in
-              let g : k ≡ Bert = cc in
+              let g : k ≡ Bert = ap (λ (t : TakenBurst). t .kind) (same-held held (q .1 .0) (q .1 .1 .0)) ∙ q .1 .1 .1 in
               absurd (true≢false (sym e ∙ ap offered g))
-          searched false e y c (inr q) s = search-exact ear p alone (n + 1) Nothing later o y .1 (subst (λ (d : Control). BySearch ear d y) (q .2) s)
+          searched false e y c (inr q) s = search-exact ear p alone (n + 1) not-held later o y .1 (subst (λ (d : Control). BySearch ear d y) (q .2) s)
 
-          here : (y : Mark) → DueHere ear h (sample x room) y → y ≡ FellDue (n + 1) k gain shift
+          here : (y : Mark) → DueHere ear h (sample x room) y → y ≡ FellDue (n + 1) (shownOf held)
           here (First m j) d = absurd d
           here (Anew m i j) d = absurd d
           here (Failed m j) d = absurd d
-          here (FellDue m j g s) d =
+          here (FellDue m x) d =
               let a : m ≡ n + 1 = d .3 in
-              let f : Held k age diff gain shift ≡ Held j (d .5 .0) (d .5 .1) g s = d .5 .2 in
+              let f : shownOf held ≡ x = ap shownOf (same-held held (d .5 .0) (d .5 .1)) ∙ d .5 .2 in
               cc
 
-          back : (y : Mark) → ByRules ear y h (sample x room) → In y (FellDue (n + 1) k gain shift ∷ rest b)
+          back : (y : Mark) → ByRules ear y h (sample x room) → In y (FellDue (n + 1) (shownOf held) ∷ rest b)
           back y s = elim (source ear h (sample x room) y s) [ inl q ↦ List·Memᴰ·tail (searched b e y (q .0) (q .1) (q .2)) | inr d ↦ List·Memᴰ·head (here y d) ]
 
       wait-exact : (left : ℕ) → 0 < left → (b : Bool) → ltb 1 left ≡ b
-          → Exactly (λ (y : Mark). ByRules ear y (heardWith (Held k age diff gain shift) (Due (record { left = left }))) (sample x room))
-          (cond b [] (dueMarks p (ear (n + 1)) (Held k age diff gain shift) (controlled Nothing Free later o (n + 1))))
-      wait-exact left some true e = longer-exact left (ltb-true 1 left e)
-      wait-exact left some false e =
-          let marks : List Mark = dueMarks p (ear (n + 1)) (Held k age diff gain shift) (controlled Nothing Free later o (n + 1)) in
-          subst (λ (m : ℕ). Exactly (λ (y : Mark). ByRules ear y (heardWith (Held k age diff gain shift) (Due (record { left = m }))) (sample x room)) marks) {x = 1} {y = left}
+          → Exactly (λ (y : Mark). ByRules ear y (heardWith (heldAs held) (Due (record { left = left }))) (sample x room))
+          (cond b [] (dueMarks p (ear (n + 1)) (some held) (controlled Nothing Free later o (n + 1))))
+      wait-exact left more true e = longer-exact left (ltb-true 1 left e)
+      wait-exact left more false e =
+          let marks : List Mark = dueMarks p (ear (n + 1)) (some held) (controlled Nothing Free later o (n + 1)) in
+          subst (λ (m : ℕ). Exactly (λ (y : Mark). ByRules ear y (heardWith (heldAs held) (Due (record { left = m }))) (sample x room)) marks) {x = 1} {y = left}
           (let u = ltb-false 1 left e in omega arith) (unfold dueMarks in due-exact (offered k) refl)
 
-    pub sample-exact : (l : List Mark) (held : Candidate) (wait : Wait) → Phase ear p l n held wait o
-        → Exactly (λ (y : Mark). ByRules ear y (heardWith held wait) (sample x room)) (sampledMarks p (ear (n + 1)) (controlled held wait t o n))
+    pub sample-exact : (l : List Mark) {candidate : Candidate} → HeldOrNot candidate → (wait : Wait) → Phase ear p l n (heldIn candidate) wait o
+        → Exactly (λ (y : Mark). ByRules ear y (heardWith candidate wait) (sample x room)) (sampledMarks p (ear (n + 1)) (controlled candidate wait t o n))
     unfolding sampledMarks waitedMarks
-    sample-exact l Nothing Free I = free-exact Nothing
-    sample-exact l Nothing (Due w) I = absurd I
-    sample-exact l (Held k age diff gain shift) Free I = free-exact (Held k age diff gain shift)
-    sample-exact l (Held k age diff gain shift) (Due w) I = wait-exact k age diff gain shift (w .left) (I .1 .some) (ltb 1 (w .left)) refl
+    sample-exact l not-held Free I = free-exact not-held
+    sample-exact l not-held (Due w) I = absurd I
+    sample-exact l (is-held held) Free I = free-exact (is-held held)
+    sample-exact l (is-held held) (Due w) I = wait-exact held (w .left) (I .1 .some) (ltb 1 (w .left)) refl
 
   -- ---- a reply, while one is owed
   reply-sample : (r : Reply) (x : ℤ) (room : List Float) → reply r ≡ sample x room → ⊥
@@ -171,11 +175,11 @@ module _ (ear : Ear) (p : ℕ) (alone : Alone ear) (xs : List ℤ) (t : Timer) (
   idle-exact Accepted = nothing-exact ear (heardWith Nothing Free) (reply Accepted) (λ c s. s) (no-sample ear (heardWith Nothing Free) (reply Accepted) (reply-sample Accepted))
   idle-exact Rejected =
       only-search ear (heardWith Nothing Free) (reply Rejected) (controlled Nothing Free t false n) refl (λ d s. s) (no-sample ear (heardWith Nothing Free) (reply Rejected) (reply-sample Rejected)) _
-      (search-exact ear p alone n Nothing t false)
+      (search-exact ear p alone n not-held t false)
 
-  pub reply-exact : (l : List Mark) (r : Reply) (held : Candidate) (wait : Wait) → o ≡ true → Phase ear p l n held wait o
-      → Exactly (λ (y : Mark). ByRules ear y (heardWith held wait) (reply r)) (repliedMarks p (ear n) r (controlled held wait t o n))
-  reply-exact l r Nothing Free e I = idle-exact r
-  reply-exact l r Nothing (Due w) e I = absurd I
-  reply-exact l r (Held k age diff gain shift) Free e I = absurd (true≢false (sym e ∙ I .0))
-  reply-exact l r (Held k age diff gain shift) (Due w) e I = absurd (true≢false (sym e ∙ I .0))
+  pub reply-exact : (l : List Mark) (r : Reply) {candidate : Candidate} → HeldOrNot candidate → (wait : Wait) → o ≡ true → Phase ear p l n (heldIn candidate) wait o
+      → Exactly (λ (y : Mark). ByRules ear y (heardWith candidate wait) (reply r)) (repliedMarks p (ear n) r (controlled candidate wait t o n))
+  reply-exact l r not-held Free e I = idle-exact r
+  reply-exact l r not-held (Due w) e I = absurd I
+  reply-exact l r (is-held held) Free e I = absurd (true≢false (sym e ∙ I .0))
+  reply-exact l r (is-held held) (Due w) e I = absurd (true≢false (sym e ∙ I .0))

@@ -3,98 +3,102 @@ use mathlib.Core.Path.{_≡_, refl, sym, ap, _∙_, subst, fun-ext}
 use mathlib.Core.Logic.{inl, inr}
 use mathlib.Core.Bool.{Bool, true, false, not, cond}
 use mathlib.Core.List.{List, [], _∷_, _++_}
+use mathlib.Core.Option.{Option, none, some}
 use Prim.Native.Nat.{ℕ, _^_, _<_}
 use native.Mathlib.Omega.{arith}
 use lib.Dec.{T, not-T, eqb, ltb}
 use lib.IntN.{ℤ}
 use lib.ListN.{length}
 use lib.Ieee.{Float}
+use Rattle.machine.specs.Runs.{run}
 use Rattle.protocol.specs.declared.Kind.{Kind}
 use Rattle.protocol.specs.declared.SyncBurst.the-variants.{Frame}
 use Rattle.decode.specs.Correlator.{correlation, matches}
 use Rattle.search.specs.declared.Candidate.{Candidate}
-use Rattle.search.specs.declared.Candidate.the-variants.{Nothing, Held}
 use Rattle.search.specs.declared.Wait.the-variants.{Free}
 use Rattle.search.specs.declared.Timer.{Timer}
 use Rattle.search.specs.declared.Control.{Control}
 use Rattle.search.specs.declared.Reply.{Reply}
 use Rattle.search.specs.declared.Reply.the-variants.{Accepted, Rejected}
-use Rattle.search.specs.Search.{older, rank, searched}
-use Rattle.search.specs.Turn.{Outcome, quiet, offer, counted, waited, sampled, replied}
+use Rattle.search.specs.TakenBurst.{TakenBurst, heldAs, heldIn, older}
+use Rattle.search.specs.Search.{rank, searched}
+use Rattle.search.specs.Turn.{Outcome, quiet, offer, counted, waitedTurn, sampled, replied}
+use Rattle.search.proofs.HeldOrNot.{HeldOrNot, not-held, is-held, held-or-not}
 use Rattle.demodulator.specs.Spans.{eight}
 use Rattle.demodulator_laws.proofs.SampleFits.{controlOf}
 use Rattle.demodulator_run.specs.Filter.{ago}
-use Rattle.demodulator_run.specs.Rules.{Single, sample, reply, query, Heard, After as Came, start, refused, settled, accepted, given, answered, single, heardAll}
+use Rattle.demodulator_run.specs.Rules.{Single, sample, reply, query, History, After as Came, start, refused, settled, admitted, given, answered, single, historyAll}
 use Rattle.demodulator_run.specs.Marks.{Anew, Failed, logAll}
 use Rattle.demodulator_run.specs.Demands.{SymbolSize, Ear, earOf, Unmatched, Alone, NotAgain, In, SwitchEarlier, EarlierThan, SwitchHeld}
 use Rattle.demodulator_run.specs.Exact.{MarkedAt}
-use Rattle.demodulator_run.proofs.Listing.{Place, Before, Level, After, place, Placed, placed, heard}
+use Rattle.demodulator_run.proofs.KindOrder.{Place, Before, Level, After, place, Placed, placed, heard}
 use Rattle.demodulator_run.proofs.Pass.{Step, controlled, searchStep, passBy, search-pass, pass-lost, pass-hit, struck}
 use Rattle.demodulator_run.proofs.Run.{On, heard-now, on-split, on-start}
 use Rattle.demodulator_run.proofs.StepExact.{free-due}
 use Rattle.demodulator_run.proofs.LogExact.{log-exact}
 
 -- ---- a search
-same-kind : (held : Candidate) → EarlierThan held held
-same-kind Nothing = tt
-same-kind (Held k age diff gain shift) = λ other. absurd (other refl)
+same-kind : (o : Option TakenBurst) → EarlierThan o o
+same-kind none = tt
+same-kind (some held) = λ other. absurd (other refl)
 
 abbrev OneAtMost : (ℕ → Float) → Type 0
 OneAtMost v = (j k : Kind) → T (matches (Frame j) v) → T (matches (Frame k) v) → j ≡ k
 
 module _ (p : ℕ) (v : ℕ → Float) (alone : OneAtMost v) where
-  module _ (k : Kind) (age : ℕ) (diff gain shift : Float) (t : Timer) (o : Bool) (n : ℕ) where
+  module _ (held : TakenBurst) (t : Timer) (o : Bool) (n : ℕ) where
     abbrev Turns : Step → Type 0
-    Turns s = s .control .wait ≡ Free → EarlierThan (Held k age diff gain shift) (s .control .candidate)
+    Turns s = s .control .wait ≡ Free → EarlierThan (some held) (heldIn (s .control .candidate))
 
-    struck-turns : (u : Timer) (j : Kind) (x : Place) → Placed x j k → (b : Bool) → Turns (struck p (λ i. correlation (Frame i) v) u o n age diff gain shift (older age) x b j k)
+    struck-turns : (u : Timer) (j : Kind) (x : Place) → Placed x j (held .kind) → (b : Bool) → Turns (struck p (λ i. correlation (Frame i) v) u o n held (older (held .age)) x b j)
     struck-turns u j Before r true e = absurd (free-due (sym e))
     struck-turns u j Before r false e = λ other. r
-    struck-turns u j Level r true e = same-kind (Held k age diff gain shift)
+    struck-turns u j Level r true e = same-kind (some held)
     struck-turns u j Level r false e = λ other. absurd (other (sym r))
     struck-turns u j After r true e = absurd (free-due (sym e))
     struck-turns u j After r false e = absurd (free-due (sym e))
 
-    held-turns : Turns (searchStep p v (controlled (Held k age diff gain shift) Free t o n))
+    held-turns : Turns (searchStep p v (controlled (heldAs held) Free t o n))
     held-turns =
-        let (u, e) = search-pass p v (controlled (Held k age diff gain shift) Free t o n) in
-        let run : (Kind → Bool) → Step = λ m. passBy p m (λ i. correlation (Frame i) v) (controlled (Held k age diff gain shift) Free u o n) in
+        let (u, e) = search-pass p v (controlled (heldAs held) Free t o n) in
+        let run : (Kind → Bool) → Step = λ m. passBy p m (λ i. correlation (Frame i) v) (controlled (heldAs held) Free u o n) in
         subst Turns (sym e) (elim (heard v alone) [
-          | inl q ↦ subst Turns (sym (ap run (fun-ext q) ∙ pass-lost p (λ i. correlation (Frame i) v) u o n age diff gain shift k)) (λ f. absurd (free-due (sym f)))
-          | inr q ↦ subst Turns (sym (ap run (fun-ext (q .1)) ∙ pass-hit p (λ i. correlation (Frame i) v) u o n age diff gain shift (q .0) k _ refl)) (struck-turns u (q .0) (place (q .0) k) (placed (q .0) k) _)
+          | inl q ↦ subst Turns (sym (ap run (fun-ext q) ∙ pass-lost p (λ i. correlation (Frame i) v) u o n held)) (λ f. absurd (free-due (sym f)))
+          | inr q ↦ subst Turns (sym (ap run (fun-ext (q .1)) ∙ pass-hit p (λ i. correlation (Frame i) v) u o n held (q .0) _ refl)) (struck-turns u (q .0) (place (q .0) (held .kind)) (placed (q .0) (held .kind)) _)
         ])
 
-  search-turns : (held : Candidate) (t : Timer) (o : Bool) (n : ℕ) → searched p v (controlled held Free t o n) .wait ≡ Free → EarlierThan held (searched p v (controlled held Free t o n) .candidate)
-  search-turns Nothing t o n f = tt
-  search-turns (Held k age diff gain shift) t o n f = held-turns k age diff gain shift t o n f
+  search-turns : {candidate : Candidate} → HeldOrNot candidate → (t : Timer) (o : Bool) (n : ℕ)
+      → searched p v (controlled candidate Free t o n) .wait ≡ Free → EarlierThan (heldIn candidate) (heldIn (searched p v (controlled candidate Free t o n) .candidate))
+  search-turns not-held t o n f = tt
+  search-turns (is-held held) t o n f = held-turns held t o n f
 
   -- ---- a sample and a reply
   sampled-turns : (c : Control) → SwitchHeld c (controlOf (sampled p v c))
-  unfolding sampled waited
-  sampled-turns c e = rw e (search-turns (c .candidate) (counted c .dcd) (c .owed) (counted c .sample))
+  unfolding sampled waitedTurn
+  sampled-turns c e = rw e (search-turns (held-or-not (c .candidate)) (counted c .dcd) (c .owed) (counted c .sample))
 
   replied-turns : (r : Reply) (c : Control) → SwitchHeld c (replied p v r c)
   unfolding replied
-  replied-turns Accepted c e = λ f. same-kind (c .candidate)
-  replied-turns Rejected c e = rw e (search-turns (c .candidate) (c .dcd) false (c .sample))
+  replied-turns Accepted c e = λ f. same-kind (heldIn (c .candidate))
+  replied-turns Rejected c e = rw e (search-turns (held-or-not (c .candidate)) (c .dcd) false (c .sample))
 
 -- ---- a call
-module _ (table : List Float) (p : ℕ) (h : Heard) where
+module _ (table : List Float) (p : ℕ) (h : History) where
   -- where at most one kind matches in what was heard
   abbrev Turned : Came → Type 0
-  Turned a = OneAtMost (eight p (ago table p (a .heard .samples))) → SwitchHeld (h .control) (a .heard .control)
+  Turned a = OneAtMost (eight p (ago table p (a .history .samples))) → SwitchHeld (h .control) (a .history .control)
 
   turned-if : (b : Bool) (x y : Came) → Turned x → Turned y → Turned (cond b x y)
   turned-if true x y u w = u
   turned-if false x y u w = w
 
   turned-not : (number : ℕ) (room : List Float) → Turned (refused number room h)
-  turned-not number room alone e f = same-kind (h .control .candidate)
+  turned-not number room alone e f = same-kind (heldIn (h .control .candidate))
 
   turned-settled : (xs : List ℤ) (room : List Float) (o : Outcome) → (OneAtMost (eight p (ago table p xs)) → SwitchHeld (h .control) (controlOf o)) → Turned (settled table p xs room o)
   unfolding settled
   turned-settled xs room (quiet c) s = s
-  turned-settled xs room (offer kind gain shift c) s = s
+  turned-settled xs room (offer shown c) s = s
 
   called-turns : (call : Single) → Turned (single table p h call)
   unfolding single given answered
@@ -105,12 +109,12 @@ module _ (table : List Float) (p : ℕ) (h : Heard) where
       (turned-if (eqb (h .control .sample) (2 ^ 63)) _ _ (turned-not 5 room)
       (turned-settled xs room (sampled p (eight p (ago table p xs)) (h .control)) (λ alone. sampled-turns p (eight p (ago table p xs)) alone (h .control)))))
   called-turns (reply r) = turned-if (not (h .control .owed)) _ _ (turned-not 3 []) (λ alone. replied-turns p (eight p (ago table p (h .samples))) alone r (h .control))
-  called-turns query = λ alone e f. same-kind (h .control .candidate)
+  called-turns query = λ alone e f. same-kind (heldIn (h .control .candidate))
 
 -- ---- a run
-module _ (table : List Float) (p : ℕ) (big : SymbolSize p) (cs : List Single) (alone : Alone (earOf table p (heardAll table p cs .samples))) (again : NotAgain (earOf table p (heardAll table p cs .samples)) p) where
+module _ (table : List Float) (p : ℕ) (big : SymbolSize p) (cs : List Single) (alone : Alone (earOf table p (historyAll table p cs .samples))) (again : NotAgain (earOf table p (historyAll table p cs .samples)) p) where
   abbrev ear : Ear
-  ear = earOf table p (heardAll table p cs .samples)
+  ear = earOf table p (historyAll table p cs .samples)
 
   -- kind k matched alone; where its turn comes after j's, j had failed before it
   fails-first : (n : ℕ) (j k : Kind) → rank j < rank k → In (Anew n j k) (logAll table p cs) → In (Failed n j) (logAll table p cs)
@@ -125,7 +129,7 @@ module _ (table : List Float) (p : ℕ) (big : SymbolSize p) (cs : List Single) 
         call = M .call;
         after = M .after;
         split = M .split;
-        accepted = M .accepted;
+        admitted = M .admitted;
         rules = (c, S, (e, lost, (diff, held, λ h r m. absurd (omega (arith, ap rank (alone h k n m hit))))));
       })
 
@@ -138,9 +142,9 @@ module _ (table : List Float) (p : ℕ) (big : SymbolSize p) (cs : List Single) 
       go After r = r
 
   -- at any one of the calls
-  pub switch-held : (before : List Single) (call : Single) (after : List Single) → cs ≡ before ++ (call ∷ after) → SwitchHeld (heardAll table p before .control) (single table p (heardAll table p before) call .heard .control)
+  pub switch-held : (before : List Single) (call : Single) (after : List Single) → cs ≡ before ++ (call ∷ after) → SwitchHeld (historyAll table p before .control) (single table p (historyAll table p before) call .history .control)
   switch-held before call after e =
       let O = on-split table p ear big alone again start before call after [] (subst (λ (l : List Single). On table p ear start l []) e (on-start table p cs)) .1 in
-      let next : List ℤ = single table p (heardAll table p before) call .heard .samples in
-      let now = heard-now table p ear (heardAll table p before) call after (O .hears) in
-      called-turns table p (heardAll table p before) call (subst OneAtMost now (λ j k. alone j k (length next)))
+      let next : List ℤ = single table p (historyAll table p before) call .history .samples in
+      let now = heard-now table p ear (historyAll table p before) call after (O .hears) in
+      called-turns table p (historyAll table p before) call (subst OneAtMost now (λ j k. alone j k (length next)))

@@ -1,7 +1,7 @@
 -- A candidate that is held after a call and was not before it is marked as taken, by the rules. Assumes nothing.
 use mathlib.Core.Path.{_≡_, refl, sym, ap, subst, _∙_}
 use mathlib.Core.Logic.{_⊎_, inl, inr}
-use mathlib.Core.Bool.{Bool, true, false, not, true≢false, false≢true}
+use mathlib.Core.Bool.{Bool, true, false, not, cond, false≢true}
 use mathlib.Core.List.{List, [], _∷_, _++_}
 use Prim.Native.Nat.{ℕ, _+_, _^_}
 use native.Mathlib.Omega.{arith}
@@ -13,35 +13,37 @@ use lib.Ieee.Bits.{is-true}
 use Rattle.protocol.specs.declared.Kind.{Kind}
 use Rattle.protocol.specs.declared.Kind.the-variants.{Lsf, Bert, Stream, Packet}
 use Rattle.protocol.specs.declared.SyncBurst.the-variants.{Frame, Preamble, EndOfTransmission}
-use Rattle.decode.specs.Correlator.{correlation, matches}
+use Rattle.decode.specs.Correlator.{matches}
 use Rattle.search.specs.declared.Candidate.{Candidate}
-use Rattle.search.specs.declared.Candidate.the-variants.{Nothing, Held}
+use Rattle.search.specs.declared.Candidate.the-variants.{Nothing}
 use Rattle.search.specs.declared.Waiting.{Waiting}
 use Rattle.search.specs.declared.Wait.{Wait}
 use Rattle.search.specs.declared.Wait.the-variants.{Free, Due}
 use Rattle.search.specs.declared.Control.{Control}
+use Rattle.search.specs.declared.Turn.the-variants.{Offer, Look}
 use Rattle.search.specs.declared.Reply.{Reply}
 use Rattle.search.specs.declared.Reply.the-variants.{Accepted, Rejected}
+use Rattle.search.specs.TakenBurst.{TakenBurst, heldIn, shownOf}
 use Rattle.search.specs.Search.{carried, tried, passed, searched}
-use Rattle.search.specs.Turn.{Outcome, quiet, offer, pickOutcome, offered, counted, freed, owing, due, sampled, replied}
+use Rattle.search.specs.Turn.{Outcome, quiet, offer, offered, counted, freed, owing, dueTurn, comesTo, sampled, replied}
 use Rattle.search.specs.Fit.{held}
-use Rattle.search.proofs.Passing.{by-test, carried-candidate, missed-keeps}
+use Rattle.search.proofs.AgeInPass.{by-test, carried-candidate, missed-keeps}
 use Rattle.search.proofs.Silent.{passed-silent}
+use Rattle.search.proofs.HeldOrNot.{HeldOrNot, not-held, is-held, held-or-not}
 use Rattle.demodulator.specs.Spans.{eight}
-use Rattle.demodulator_laws.proofs.Grown.{match-held}
 use Rattle.demodulator_laws.proofs.SampleFits.{controlOf}
-use Rattle.demodulator_laws.proofs.Turning.{sampled-free, sampled-due}
+use Rattle.demodulator_laws.proofs.SampleByWait.{sampled-free, sampled-due}
 use Rattle.demodulator_run.specs.Filter.{ago}
-use Rattle.demodulator_run.specs.Rules.{Single, sample, reply, query, Heard, After, start, settled, accepted, given, answered, single, heardFrom, heardAll}
+use Rattle.demodulator_run.specs.Rules.{Single, sample, reply, query, History, After, settled, admitted, given, answered, single, historyAll}
 use Rattle.demodulator_run.specs.Marks.{First, isRefusal, logAll}
 use Rattle.demodulator_run.specs.Demands.{SymbolSize, Ear, earOf, Matches, Alone, NotAgain, Started}
-use Rattle.demodulator_run.specs.Exact.{HeldOf, lastSample, Searches, MarkedAt}
+use Rattle.demodulator_run.specs.Exact.{HeldOf, lastSample, Searches}
 use Rattle.demodulator_run.specs.CallerSees.{NoneHeld}
-use Rattle.demodulator_run.proofs.Listing.{same-self, heard}
+use Rattle.demodulator_run.proofs.KindOrder.{same-self, heard}
 use Rattle.demodulator_run.proofs.Count.{sampled-count, replied-count}
 use Rattle.demodulator_run.proofs.Run.{heard-now}
 use Rattle.demodulator_run.proofs.StepExact.{free-due, due-one, not-offered}
-use Rattle.demodulator_run.proofs.LogExact.{not-refused, accepted-given, accepted-answered, at-call, log-exact}
+use Rattle.demodulator_run.proofs.LogExact.{not-refused, admitted-given, admitted-answered, at-call, log-exact}
 
 -- ---- a search
 module _ (p : ℕ) (v : ℕ → Float) (alone : (j k : Kind) → T (matches (Frame j) v) → T (matches (Frame k) v) → j ≡ k) where
@@ -59,8 +61,8 @@ module _ (p : ℕ) (v : ℕ → Float) (alone : (j k : Kind) → T (matches (Fra
   tried-holds : (kind : Kind) (c : Control) → T (matches (Frame kind) v) ⊎ T (held (c .candidate)) → T (held (tried p v kind c .candidate))
   unfolding tried
   tried-holds kind c h =
-      by-test (λ (d : Control). T (held (d .candidate))) (matches (Frame kind) v) _ _ (λ e. match-held (c .candidate) kind (correlation (Frame kind) v))
-      (λ e. rw (missed-keeps p kind (c .candidate) c .candidate) (elim h [ inl m ↦ absurd (subst T e m) | inr i ↦ i ]))
+      by-test (λ (d : Control). T (held (d .candidate))) (matches (Frame kind) v) _ _ (λ e. tt)
+      (λ e. rw (missed-keeps p kind (heldIn (c .candidate)) c .candidate) (elim h [ inl m ↦ absurd (subst T e m) | inr i ↦ i ]))
 
   search-holds : (c : Control) (k : Kind) → T (matches (Frame k) v) → held (searched p v c .candidate) ≡ true
   unfolding searched passed
@@ -73,23 +75,23 @@ module _ (p : ℕ) (v : ℕ → Float) (alone : (j k : Kind) → T (matches (Fra
 module _ (p : ℕ) (v : ℕ → Float) (c : Control) (waits : (w : Waiting) → c .wait ≡ Due w → held (c .candidate) ≡ true) where
   pub record Taking : Type 0 where
     pub from : Control
-    pub searches : ((c .wait ≡ Free) × (from ≡ counted c)) ⊎ ((c .wait ≡ lastSample) × ((diff : Float) × HeldOf Bert diff (c .candidate)) × (from ≡ freed (counted c)))
+    pub searches : ((c .wait ≡ Free) × (from ≡ counted c)) ⊎ ((c .wait ≡ lastSample) × ((t : TakenBurst) × HeldOf Bert t (c .candidate)) × (from ≡ freed (counted c)))
     pub none : from .candidate ≡ Nothing
     pub takes : held (searched p v from .candidate) ≡ true
 
   taking-number : (t : Taking) → t .from .sample ≡ c .sample + 1
   taking-number t = elim (t .searches) [ inl s ↦ ap (λ (d : Control). d .sample) (s .1) | inr s ↦ ap (λ (d : Control). d .sample) (s .2) ]
 
-  ends-taking : c .wait ≡ lastSample → (candidate : Candidate) → c .candidate ≡ candidate → held (controlOf (due p v candidate (freed (counted c))) .candidate) ≡ true → Taking
-  unfolding due
-  ends-taking last Nothing e h = absurd (false≢true (sym (ap held e) ∙ waits _ last))
-  ends-taking last (Held k age diff gain shift) e h = go (offered k) refl h
+  ends-taking : c .wait ≡ lastSample → {candidate : Candidate} → HeldOrNot candidate → c .candidate ≡ candidate → held (controlOf (comesTo p v (dueTurn (heldIn candidate) (freed (counted c)))) .candidate) ≡ true → Taking
+  unfolding dueTurn
+  ends-taking last not-held e h = absurd (false≢true (sym (ap held e) ∙ waits _ last))
+  ends-taking last (is-held t) e h = go (offered (t .kind)) refl h
     where
-      go : (b : Bool) → offered k ≡ b → held (controlOf (pickOutcome b (offer k gain shift (owing true (freed (counted c)))) (quiet (searched p v (freed (counted c))))) .candidate) ≡ true → Taking
+      go : (b : Bool) → offered (t .kind) ≡ b → held (controlOf (comesTo p v (cond b (Offer (shownOf t) (owing true (freed (counted c)))) (Look (freed (counted c))))) .candidate) ≡ true → Taking
       go true o h = absurd (false≢true h)
       go false o h = record {
         from = freed (counted c);
-        searches = inr (last, (diff, (age, gain, shift, e ∙ ap (λ (j : Kind). Held j age diff gain shift) (not-offered k o))), refl);
+        searches = inr (last, (t, (e, not-offered (t .kind) o)), refl);
         none = refl;
         takes = h;
       }
@@ -101,54 +103,54 @@ module _ (p : ℕ) (v : ℕ → Float) (c : Control) (waits : (w : Waiting) → 
   sample-taking (Due u) e (inl free) h = absurd (false≢true (sym (ap held free) ∙ waits u e))
   sample-taking (Due u) e (inr last) h =
       let left = due-one (u .left) (sym e ∙ last) in
-      ends-taking last (c .candidate) refl (sym (ap (λ (o : Outcome). held (controlOf o .candidate)) (sampled-due p v c u e (omega arith))) ∙ h)
+      ends-taking last (held-or-not (c .candidate)) refl (sym (ap (λ (o : Outcome). held (controlOf o .candidate)) (sampled-due p v c u e (omega arith))) ∙ h)
 
   taken-sample : (t : Taking) → ((c .candidate ≡ Nothing) ⊎ (c .wait ≡ lastSample)) × (held (controlOf (sampled p v c) .candidate) ≡ true)
-  unfolding due
+  unfolding dueTurn
   taken-sample t = elim (t .searches) [
     | inl s ↦ (inl (sym (ap (λ (d : Control). d .candidate) (s .1)) ∙ t .none), ap (λ (o : Outcome). held (controlOf o .candidate)) (sampled-free p v c (s .0)) ∙ subst (λ (d : Control). held (searched p v d .candidate) ≡ true) (s .1) (t .takes))
     | inr s ↦
         let h = s .1 .1 in
-        let gone : due p v (c .candidate) (freed (counted c)) ≡ quiet (searched p v (freed (counted c))) = ap (λ (o : Candidate). due p v o (freed (counted c))) (h .3) in
+        let gone : comesTo p v (dueTurn (heldIn (c .candidate)) (freed (counted c))) ≡ quiet (searched p v (freed (counted c))) = rw (h .0, h .1) in
         (inr (s .0), ap (λ (o : Outcome). held (controlOf o .candidate)) (sampled-due p v c _ (s .0) (lit≤ tt) ∙ gone) ∙ subst (λ (d : Control). held (searched p v d .candidate) ≡ true) (s .2) (t .takes))
   ]
 
 -- ---- a call of a run
-module _ (table : List Float) (p : ℕ) (big : SymbolSize p) (ss : List Single) (alone : Alone (earOf table p (heardAll table p ss .samples))) (again : NotAgain (earOf table p (heardAll table p ss .samples)) p) where
+module _ (table : List Float) (p : ℕ) (big : SymbolSize p) (ss : List Single) (alone : Alone (earOf table p (historyAll table p ss .samples))) (again : NotAgain (earOf table p (historyAll table p ss .samples)) p) where
   abbrev ear : Ear
-  ear = earOf table p (heardAll table p ss .samples)
+  ear = earOf table p (historyAll table p ss .samples)
 
   module _ (before : List Single) (after : List Single) where
-    abbrev h : Heard
-    h = heardAll table p before
+    abbrev h : History
+    h = historyAll table p before
 
-    settled-control : (xs : List ℤ) (room : List Float) (o : Outcome) → settled table p xs room o .heard .control ≡ controlOf o
+    settled-control : (xs : List ℤ) (room : List Float) (o : Outcome) → settled table p xs room o .history .control ≡ controlOf o
     unfolding settled
     settled-control xs room (quiet c) = refl
-    settled-control xs room (offer kind gain shift c) = refl
+    settled-control xs room (offer shown c) = refl
 
     given-control : (x : ℤ) (room : List Float) → isRefusal (given table p h x room .said .answer) ≡ false
-        → given table p h x room .heard .control ≡ controlOf (sampled p (eight p (ago table p (h .samples ++ (x ∷ [])))) (h .control))
+        → given table p h x room .history .control ≡ controlOf (sampled p (eight p (ago table p (h .samples ++ (x ∷ [])))) (h .control))
     unfolding given
     given-control x room =
         let xs : List ℤ = h .samples ++ (x ∷ []) in
         let v : ℕ → Float = eight p (ago table p (h .samples ++ (x ∷ []))) in
-        let P : After → Type 0 = λ a. a .heard .control ≡ controlOf (sampled p (eight p (ago table p (h .samples ++ (x ∷ [])))) (h .control)) in
+        let P : After → Type 0 = λ a. a .history .control ≡ controlOf (sampled p (eight p (ago table p (h .samples ++ (x ∷ [])))) (h .control)) in
         not-refused table p h P (h .control .owed) 2 room _ λ o.
         not-refused table p h P (ltb (length room) 192) 4 room _ λ b.
-        not-refused table p h P (eqb (h .control .sample) (2 ^ 63)) 5 room (accepted table p h x room) λ m e.
+        not-refused table p h P (eqb (h .control .sample) (2 ^ 63)) 5 room (admitted table p h x room) λ m e.
         settled-control xs room (sampled p v (h .control))
 
-    answered-control : (r : Reply) → isRefusal (answered table p h r .said .answer) ≡ false → answered table p h r .heard .control ≡ replied p (eight p (ago table p (h .samples))) r (h .control)
+    answered-control : (r : Reply) → isRefusal (answered table p h r .said .answer) ≡ false → answered table p h r .history .control ≡ replied p (eight p (ago table p (h .samples))) r (h .control)
     unfolding answered
     answered-control r =
-        let P : After → Type 0 = λ a. a .heard .control ≡ replied p (eight p (ago table p (h .samples))) r (h .control) in
+        let P : After → Type 0 = λ a. a .history .control ≡ replied p (eight p (ago table p (h .samples))) r (h .control) in
         not-refused table p h P (not (h .control .owed)) 3 [] _ λ o e. refl
 
     started : (call : Single) → ss ≡ before ++ (call ∷ after) → isRefusal (single table p h call .said .answer) ≡ false → (n : ℕ) (c : Control) → Searches h call c → n ≡ c .sample → c .candidate ≡ Nothing
         → ((k : Kind) × Matches ear k n) → Started (logAll table p ss) n
     started call e admitted n c s number free (k, m) =
-        (k, log-exact table p big ss alone again (First n k) .1 (record { before = before; call = call; after = after; split = e; accepted = admitted; rules = (c, s, (number, free, m)) }))
+        (k, log-exact table p big ss alone again (First n k) .1 (record { before = before; call = call; after = after; split = e; admitted = admitted; rules = (c, s, (number, free, m)) }))
 
     -- what is heard at an admitted sample, and at a reply
     heard-sample : (x : ℤ) (room : List Float) (after : List Single) → ss ≡ before ++ (sample x room ∷ after) → isRefusal (given table p h x room .said .answer) ≡ false
@@ -157,13 +159,13 @@ module _ (table : List Float) (p : ℕ) (big : SymbolSize p) (ss : List Single) 
     heard-sample x room after e admitted =
         let (m, O) = at-call table p big ss alone again (First 0 Bert) before (sample x room) after e in
         let n : h .control .sample + 1 ≡ length (h .samples ++ (x ∷ [])) = let c = O .counted in omega (arith, length-append (h .samples) (x ∷ [])) in
-        ap ear n ∙ subst (λ (zs : List ℤ). ear (length zs) ≡ eight p (ago table p zs)) (accepted-given table p h x room admitted) (heard-now table p ear h (sample x room) after (O .hears))
+        ap ear n ∙ subst (λ (zs : List ℤ). ear (length zs) ≡ eight p (ago table p zs)) (admitted-given table p h x room admitted) (heard-now table p ear h (sample x room) after (O .hears))
 
     heard-reply : (r : Reply) (after : List Single) → ss ≡ before ++ (reply r ∷ after) → isRefusal (answered table p h r .said .answer) ≡ false → ear (h .control .sample) ≡ eight p (ago table p (h .samples))
     unfolding single
     heard-reply r after e admitted =
         let (m, O) = at-call table p big ss alone again (First 0 Bert) before (reply r) after e in
-        let (owed, same) = accepted-answered table p h r admitted in
+        let (owed, same) = admitted-answered table p h r admitted in
         ap ear (O .counted) ∙ subst (λ (zs : List ℤ). ear (length zs) ≡ eight p (ago table p zs)) same (heard-now table p ear h (reply r) after (O .hears))
 
     heard-alone : (n : ℕ) (v : ℕ → Float) → ear n ≡ v → (j k : Kind) → T (matches (Frame j) v) → T (matches (Frame k) v) → j ≡ k
@@ -176,7 +178,7 @@ module _ (table : List Float) (p : ℕ) (big : SymbolSize p) (ss : List Single) 
         (k, subst (λ (u : ℕ → Float). T (matches (Frame k) u)) (sym f) m)
 
     pub taken-started : (call : Single) → ss ≡ before ++ (call ∷ after) → isRefusal (single table p h call .said .answer) ≡ false → ((w : Waiting) → h .control .wait ≡ Due w → held (h .control .candidate) ≡ true)
-        → NoneHeld call (h .control) → held (single table p h call .heard .control .candidate) ≡ true → Started (logAll table p ss) (single table p h call .heard .control .sample)
+        → NoneHeld call (h .control) → held (single table p h call .history .control .candidate) ≡ true → Started (logAll table p ss) (single table p h call .history .control .sample)
     unfolding single replied
     taken-started (sample x room) e admitted waits none holds =
         let v : ℕ → Float = eight p (ago table p (h .samples ++ (x ∷ []))) in
@@ -198,7 +200,7 @@ module _ (table : List Float) (p : ℕ) (big : SymbolSize p) (ss : List Single) 
     -- and back
     pub started-taken : (call : Single) → ss ≡ before ++ (call ∷ after) → isRefusal (single table p h call .said .answer) ≡ false → ((w : Waiting) → h .control .wait ≡ Due w → held (h .control .candidate) ≡ true)
         → (n : ℕ) (c : Control) → Searches h call c → n ≡ c .sample → c .candidate ≡ Nothing → (k : Kind) → Matches ear k n
-        → NoneHeld call (h .control) × (held (single table p h call .heard .control .candidate) ≡ true) × (single table p h call .heard .control .sample ≡ n)
+        → NoneHeld call (h .control) × (held (single table p h call .history .control .candidate) ≡ true) × (single table p h call .history .control .sample ≡ n)
     unfolding single replied
     started-taken (sample x room) e admitted waits n c s number free k m =
         let v : ℕ → Float = eight p (ago table p (h .samples ++ (x ∷ []))) in

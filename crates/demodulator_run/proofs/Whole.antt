@@ -2,20 +2,20 @@
 use mathlib.Core.Path.{_≡_, refl, sym, ap, subst, _∙_}
 use mathlib.Core.List.{List, [], _∷_}
 use native.Mathlib.Omega.{arith}
-use Prim.Native.Nat.{_<_}
-use lib.Dec.{T, lit<, lit≤}
+use Prim.Native.Nat.{_+_, _<_}
+use lib.Dec.{T}
 use lib.Ieee.{Float}
-use Rattle.shaping.specs.Taps.{taps}
+use Rattle.machine.specs.Runs.{run, answers, Each}
+use Rattle.shaping.specs.Rate.{Rate}
+use Rattle.shaping.proofs.RateFacts.{Facts}
 use Rattle.decode.specs.Correlator.{inRange}
-use Rattle.search.specs.declared.Candidate.{Candidate}
-use Rattle.search.specs.declared.Candidate.the-variants.{Nothing, Held}
 use Rattle.search.specs.declared.Control.{Control}
 use Rattle.search.specs.Search.{ageOf}
 use Rattle.search.specs.Fit.{controlFit}
 use Rattle.demodulator.specs.declared.SoftDemodulator.{SoftDemodulator}
 use Rattle.demodulator.specs.Record.{fresh}
-use Rattle.demodulator_run.specs.Rules.{Single, Heard, start, single, heardFrom, saidFrom}
-use Rattle.demodulator_run.specs.Run.{left, saidBy, recordFrom, answersFrom, Callable, Sampled}
+use Rattle.demodulator_run.specs.Rules.{Single, History, start, single, singleRules}
+use Rattle.demodulator_run.specs.Run.{left, saidBy, Callable, singleReceiver}
 use Rattle.demodulator_run.specs.Represents.{Represents}
 use Rattle.demodulator_run.specs.Demands.{AgeAtMost}
 use Rattle.demodulator_run.proofs.InRange.{Small, small-none, in-range}
@@ -24,60 +24,53 @@ use Rattle.demodulator_run.proofs.RunFits.{HeardFit, start-fit, called-
 use Rattle.demodulator_run.proofs.Stored.{fresh-remembers}
 use Rattle.demodulator_run.proofs.RecordFit.{FitForAll, fit-for-all}
 use Rattle.demodulator_run.proofs.Step.{call-agrees}
-use Rattle.demodulator_run.proofs.Demand48.{age-limit-48}
+use Rattle.demodulator_run.proofs.DemandAt.{age-limit-at}
 
--- where a run stands: what the record holds, and what the rules keep, of calls that lead there
-pub record Stands (m : SoftDemodulator) (h : Heard) : Type 0 where
-  pub represents : Represents m h
-  pub small : Small (h .samples)
-  pub fit : HeardFit 10 h
-  pub reachable : Reachable taps 10 h
+module _ (R : Rate) (F : Facts R) where
+  some : 0 < R .p
+  some = let u = F .some in omega arith
 
--- far below 254
-below : (o : Candidate) → AgeAtMost 11 o → ageOf o < 254
-below Nothing a = lit< tt
-below (Held kind age diff gain shift) a = omega arith
+  -- where a run stands: what the record holds, and what the rules keep, of calls that lead there
+  pub record Stands (m : SoftDemodulator) (h : History) : Type 0 where
+    pub represents : Represents R m h
+    pub small : Small (h .samples)
+    pub fit : HeardFit (R .p) h
+    pub reachable : Reachable (R .taps) (R .p) h
 
-young : (h : Heard) → Reachable taps 10 h → ageOf (h .control .candidate) < 254
-young h r = below (h .control .candidate) (rw (r .here) at (age-limit-48 (r .calls) (r .sampled)))
+  -- far below 254
+  young : (h : History) → Reachable (R .taps) (R .p) h → ageOf (h .control .candidate) < 254
+  young h r =
+      let age : AgeAtMost (R .p + 1) (h .control .candidate) = rw (r .here) at (age-limit-at R F (r .calls) (r .sampled)) in
+      let few = F .few in
+      omega arith
 
-module _ (m : SoftDemodulator) (h : Heard) (s : Stands m h) where
-  pub stands-fit : FitForAll m
-  stands-fit =
-      let r = s .represents in
-      fit-for-all m (r .rings .window-cursor) (r .rings .ring-cursor) (subst (λ (c : Control). T (controlFit 10 c)) (sym (r .control)) (s .fit .fit))
-      (λ j l. subst (λ (x : Float). T (inRange x)) (sym (r .rings .ring j l)) (in-range taps 10 taps-bounded (h .samples) (s .small) _))
+  module _ (m : SoftDemodulator) (h : History) (s : Stands m h) where
+    pub stands-fit : FitForAll (R .p) m
+    stands-fit =
+        let r = s .represents in
+        fit-for-all (R .p) some m (r .rings .window-cursor) (r .rings .ring-cursor) (subst (λ (c : Control). T (controlFit (R .p) c)) (sym (r .control)) (s .fit .fit))
+        (λ j l. subst (λ (x : Float). T (inRange x)) (sym (r .rings .ring j l)) (in-range (R .taps) (R .p) (taps-bounded R F) (h .samples) (s .small) _))
 
-  pub stands-next : (c : Single) → Callable c → Stands (left m c .demodulator) (single taps 10 h c .heard)
-  stands-next c g =
-      let a = call-agrees m h (s .represents) stands-fit c in
-      let f = called-fit taps 10 (lit≤ tt) taps-bounded h (s .small) (s .fit) (young h (s .reachable)) c g in
-      record {
-        represents = record { rings = a .rings; control = a .control; count = ap (λ (o : Control). o .sample) (a .control) ∙ f .count };
-        small = small-called taps 10 h c g (s .small);
-        fit = f;
-        reachable = reachable-next taps 10 h c (s .reachable) g;
-      }
+    pub stands-next : (c : Single) → Callable c → Stands (left R m c .demodulator) (single (R .taps) (R .p) h c .history)
+    stands-next c g =
+        let a = call-agrees R F m h (s .represents) stands-fit c in
+        let f = called-fit (R .taps) (R .p) (F .some) (taps-bounded R F) h (s .small) (s .fit) (young h (s .reachable)) c g in
+        record {
+          represents = record { rings = a .rings; control = a .control; count = ap (λ (o : Control). o .sample) (a .control) ∙ f .count };
+          small = small-called (R .taps) (R .p) h c g (s .small);
+          fit = f;
+          reachable = reachable-next (R .taps) (R .p) h c (s .reachable) g;
+        }
 
-  next-says : (c : Single) → saidBy (left m c) ≡ single taps 10 h c .said
-  next-says c = call-agrees m h (s .represents) stands-fit c .says
+    pub next-says : (c : Single) → saidBy (left R m c) ≡ single (R .taps) (R .p) h c .said
+    next-says c = call-agrees R F m h (s .represents) stands-fit c .says
 
-pub stands-after : (cs : List Single) (m : SoftDemodulator) (h : Heard) → Sampled cs → Stands m h → Stands (recordFrom m cs) (heardFrom taps 10 h cs)
-unfolding Sampled recordFrom heardFrom
-stands-after [] m h f s = s
-stands-after (c ∷ cs) m h f s = stands-after cs (left m c .demodulator) (single taps 10 h c .heard) (f .1) (stands-next m h s c (f .0))
-
-pub says-after : (cs : List Single) (m : SoftDemodulator) (h : Heard) → Sampled cs → Stands m h → answersFrom m cs ≡ saidFrom taps 10 h cs
-unfolding Sampled answersFrom saidFrom
-says-after [] m h f s = refl
-says-after (c ∷ cs) m h f s = rw (next-says m h s c, says-after cs (left m c .demodulator) (single taps 10 h c .heard) (f .1) (stands-next m h s c (f .0)))
-
--- ---- the start
-pub stands-start : Stands fresh start
-unfolding fresh
-stands-start = record {
-  represents = record { rings = fresh-remembers; control = refl; count = refl };
-  small = small-none;
-  fit = start-fit 10;
-  reachable = reachable-start taps 10;
-}
+  -- ---- the start
+  pub stands-start : Stands fresh start
+  unfolding fresh
+  stands-start = record {
+    represents = record { rings = fresh-remembers R F; control = refl; count = refl };
+    small = small-none;
+    fit = start-fit (R .p);
+    reachable = reachable-start (R .taps) (R .p);
+  }

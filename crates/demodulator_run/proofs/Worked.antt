@@ -2,6 +2,7 @@
 use mathlib.Core.Path.{_≡_, refl, sym, _∙_}
 use mathlib.Core.Bool.{true, false}
 use mathlib.Core.List.{List, [], _∷_}
+use mathlib.Core.Option.{some}
 use Prim.Native.Nat.{_^_}
 use lib.IntN.{ℤ, pos}
 use lib.ListN.{getD, replicate}
@@ -13,17 +14,20 @@ use Rattle.shaping.specs.Taps.{taps}
 use Rattle.shaping.specs.Sum.{dot}
 use Rattle.shaping.proofs.Impulse.{middle-tap}
 use Rattle.protocol.specs.Bursts.{signsOf}
-use Rattle.decode.specs.Correlator.{heard, highest, lowest, gainOf, shiftOf, symbolOf, distanceOf, summed, diffOf, correlation, matches}
 use Rattle.protocol.specs.declared.Kind.the-variants.{Lsf, Stream}
-use Rattle.search.specs.declared.Candidate.the-variants.{Nothing, Held}
+use Rattle.decode.specs.declared.Correlation.{Correlation}
+use Rattle.decode.specs.Correlator.{zeroUnsigned, highest, lowest, gainOf, shiftOf, symbolOf, distanceOf, summed, diffOf, correlation, matches}
+use Rattle.search.specs.declared.Candidate.the-variants.{Nothing}
 use Rattle.search.specs.declared.Wait.the-variants.{Free, Due}
 use Rattle.search.specs.declared.Timer.the-variants.{Off, Until}
 use Rattle.search.specs.declared.Reply.the-variants.{Accepted}
+use Rattle.search.specs.TakenBurst.{TakenBurst, heldAs}
 use Rattle.search.specs.Search.{carried, heldAfter, missed, tried, passed, searched}
-use Rattle.search.specs.Turn.{cleared, waited, sampled}
+use Rattle.search.specs.Turn.{cleared, waitedTurn, sampled}
 use Rattle.demodulator.specs.Calls.{refusal, nothing, done, carrier}
+use Rattle.demodulator_laws.proofs.ExampleBurst.{burstAt}
 use Rattle.demodulator_run.specs.Filter.{sampleNo, filtered}
-use Rattle.demodulator_run.specs.Rules.{sample, reply, query, Heard, start, settled, given, answered, single}
+use Rattle.demodulator_run.specs.Rules.{sample, reply, query, History, start, settled, given, answered, single}
 
 -- ---- P1: "sample 1, then 40 zeros: F(41) = tap 40, 0.35943073"
 abbrev impulse : List ℤ
@@ -48,7 +52,7 @@ unfolding single given
 refuses-4 = refl
 
 -- "sample given while a reply is owed": the smallest number of two that apply
-owed : Heard
+owed : History
 owed = record { samples = []; control = record { candidate = Nothing; wait = Free; dcd = Until 5; owed = true; sample = 0 } }
 
 refuses-2 : single taps 10 owed (sample (pos 1) []) .said .answer ≡ refusal 2
@@ -56,7 +60,7 @@ unfolding single given owed
 refuses-2 = refl
 
 -- "sample given at count 2^63"
-last : Heard
+last : History
 last = record { samples = []; control = record { candidate = Nothing; wait = Free; dcd = Off; owed = false; sample = 2 ^ 63 } }
 
 refuses-5 : single taps 10 last (sample (pos 1) (replicate 192 nought)) .said .answer ≡ refusal 5
@@ -82,9 +86,9 @@ room = replicate 192 nought
 
 pub first : single taps 10 start (sample (pos 32767) room) ≡ record {
   said = record { answer = nothing; room = room };
-  heard = record { samples = pos 32767 ∷ []; control = record { candidate = Nothing; wait = Free; dcd = Off; owed = false; sample = 1 } };
+  history = record { samples = pos 32767 ∷ []; control = record { candidate = Nothing; wait = Free; dcd = Off; owed = false; sample = 1 } };
 }
-unfolding single given settled sampled waited cleared searched passed tried carried missed heldAfter matches correlation diffOf summed sumTo distanceOf symbolOf shiftOf gainOf highest lowest heard larger smaller sizeOf add sub mul div lt eq neg ofInt ofBits filtered sampleNo dot taps signsOf anyBelow
+unfolding single given settled sampled waitedTurn cleared searched passed tried carried missed heldAfter matches correlation diffOf summed sumTo distanceOf symbolOf shiftOf gainOf highest lowest zeroUnsigned larger smaller sizeOf add sub mul div lt eq neg ofInt ofBits filtered sampleNo dot taps signsOf anyBelow
 first = refl
 
 -- ---- "clear the carrier timer if the count is above its end"
@@ -96,18 +100,25 @@ past-its-end : cleared 241 (Until 240) ≡ Off
 unfolding cleared
 past-its-end = refl
 
+-- ---- a Stream candidate at age 3
+abbrev zeros : Correlation
+zeros = record { diff = nought; gain = nought; shift = nought }
+
+abbrev third : TakenBurst
+third = burstAt Stream 3 zeros
+
 -- ---- "the wait becomes 1,840 - age and the timer's end count + 3,840"
-fails : missed 10 Stream (Held Stream 3 nought nought nought) (record { candidate = Held Stream 3 nought nought nought; wait = Free; dcd = Off; owed = false; sample = 100 })
-    ≡ record { candidate = Held Stream 3 nought nought nought; wait = Due (record { left = 1837 }); dcd = Until 3940; owed = false; sample = 100 }
+fails : missed 10 Stream (some third) (record { candidate = heldAs third; wait = Free; dcd = Off; owed = false; sample = 100 })
+    ≡ record { candidate = heldAs third; wait = Due (record { left = 1837 }); dcd = Until 3940; owed = false; sample = 100 }
 unfolding missed
 fails = refl
 
 -- ---- "Any other match, ties included, takes a new candidate: kind, age 1"
-tie-taken : heldAfter (Held Stream 3 nought nought nought) Lsf (record { diff = nought; gain = nought; shift = nought }) ≡ Held Lsf 1 nought nought nought
+tie-taken : heldAfter (some third) (burstAt Lsf 1 zeros) ≡ burstAt Lsf 1 zeros
 unfolding heldAfter lt ofBits
 tie-taken = refl
 
 -- ---- "A match whose diff is above the held candidate's adds one to its age, whatever its kind."
-aged : heldAfter (Held Stream 3 nought nought nought) Lsf (record { diff = ofBits binary32 0x3f80_0000; gain = nought; shift = nought }) ≡ Held Stream 4 nought nought nought
+aged : heldAfter (some third) (burstAt Lsf 1 (record { diff = ofBits binary32 0x3f80_0000; gain = nought; shift = nought })) ≡ burstAt Stream 4 zeros
 unfolding heldAfter lt ofBits
 aged = refl

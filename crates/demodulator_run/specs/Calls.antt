@@ -5,10 +5,11 @@ use lib.IntN.{ℤ}
 use lib.ListN.{take}
 use lib.Ieee.{Float}
 use Rattle.machine.specs.Runs.{Machine}
+use Rattle.shaping.specs.Rate.{Rate}
 use Rattle.demodulator.specs.declared.SoftDemodulator.{SoftDemodulator}
 use Rattle.demodulator.specs.Calls.{Paper}
 use Rattle.demodulator.specs.Feed.{Stretch, fedInto}
-use Rattle.demodulator_run.specs.Rules.{Single, sample, Heard, Said, single}
+use Rattle.demodulator_run.specs.Rules.{Single, sample, History, Said, single}
 use Rattle.demodulator_run.specs.Run.{left, saidBy, Callable}
 use Rattle.demodulator_run.specs.Stretch.{Sixteen, stretched}
 
@@ -32,28 +33,28 @@ toldStretch f = record { answer = f .answer; fed = f .fed; room = f .room }
 
 -- ---- the rules
 module _ (table : List Float) (p : ℕ) where
-  unfoldable pub heardAfter : Heard → Call → Heard
-  heardAfter h (one c) = single table p h c .heard
-  heardAfter h (stretch xs room) = stretched table p h xs room .state
+  unfoldable pub historyNext : History → Call → History
+  historyNext h (one c) = single table p h c .history
+  historyNext h (stretch xs room) = stretched table p h xs room .state
 
-  unfoldable pub toldTo : Heard → Call → Told
+  unfoldable pub toldTo : History → Call → Told
   toldTo h (one c) = toldOne (single table p h c .said)
   toldTo h (stretch xs room) = toldStretch (stretched table p h xs room)
 
-  abbrev pub rules : Machine Heard Call Told
-  rules = record { next = heardAfter; says = toldTo }
+abbrev pub rules : Rate → Machine History Call Told
+rules R = record { next = historyNext (R .taps) (R .p); says = toldTo (R .taps) (R .p) }
 
 -- ---- the record
-unfoldable pub recordNext : SoftDemodulator → Call → SoftDemodulator
-recordNext m (one c) = left m c .demodulator
-recordNext m (stretch xs room) = fedInto m xs room .state
+unfoldable pub recordNext : Rate → SoftDemodulator → Call → SoftDemodulator
+recordNext R m (one c) = left R m c .demodulator
+recordNext R m (stretch xs room) = fedInto R m xs room .state
 
-unfoldable pub toldBy : SoftDemodulator → Call → Told
-toldBy m (one c) = toldOne (saidBy (left m c))
-toldBy m (stretch xs room) = toldStretch (fedInto m xs room)
+unfoldable pub toldBy : Rate → SoftDemodulator → Call → Told
+toldBy R m (one c) = toldOne (saidBy (left R m c))
+toldBy R m (stretch xs room) = toldStretch (fedInto R m xs room)
 
-abbrev pub receiver : Machine SoftDemodulator Call Told
-receiver = record { next = recordNext; says = toldBy }
+abbrev pub receiver : Rate → Machine SoftDemodulator Call Told
+receiver R = record { next = recordNext R; says = toldBy R }
 
 -- ---- what a caller can give: each sample is an i16's value, whether or not it will be refused
 unfoldable pub Given : Call → Type 0
@@ -61,10 +62,10 @@ Given (one c) = Callable c
 Given (stretch xs room) = Sixteen xs
 
 -- ---- the single calls that a list comes to: of a stretch, the samples that went in
-unfoldable pub singlesOf : SoftDemodulator → Call → List Single
-singlesOf m (one c) = c ∷ []
-singlesOf m (stretch xs room) = map (λ (x : ℤ). sample x room) (take (fedInto m xs room .fed) xs)
+unfoldable pub singlesOf : Rate → SoftDemodulator → Call → List Single
+singlesOf R m (one c) = c ∷ []
+singlesOf R m (stretch xs room) = map (λ (x : ℤ). sample x room) (take (fedInto R m xs room .fed) xs)
 
-unfoldable pub singlesFrom : SoftDemodulator → List Call → List Single
-singlesFrom m [] = []
-singlesFrom m (c ∷ cs) = singlesOf m c ++ singlesFrom (recordNext m c) cs
+unfoldable pub singlesFrom : Rate → SoftDemodulator → List Call → List Single
+singlesFrom R m [] = []
+singlesFrom R m (c ∷ cs) = singlesOf R m c ++ singlesFrom R (recordNext R m c) cs

@@ -4,6 +4,7 @@ use mathlib.Core.Path.{_≡_}
 use mathlib.Core.Logic.{_⊎_, _↔_}
 use mathlib.Core.Bool.{not}
 use mathlib.Core.List.{List, List·Memᴰ}
+use mathlib.Core.Option.{Option, none, some}
 use Prim.Native.Nat.{ℕ, _+_, _-_, _*_, _≤_, _<_}
 use lib.Dec.{T}
 use lib.IntN.{ℤ}
@@ -14,10 +15,11 @@ use Rattle.protocol.specs.declared.SyncBurst.the-variants.{Frame}
 use Rattle.decode.specs.declared.Correlation.{Correlation}
 use Rattle.decode.specs.Correlator.{symbolOf, correlation, matches}
 use Rattle.search.specs.declared.Candidate.{Candidate}
-use Rattle.search.specs.declared.Candidate.the-variants.{Nothing, Held}
 use Rattle.search.specs.declared.Wait.the-variants.{Free}
 use Rattle.search.specs.declared.Control.{Control}
-use Rattle.search.specs.Search.{rank}
+use Rattle.search.specs.declared.Shown.{Shown}
+use Rattle.search.specs.TakenBurst.{TakenBurst, heldBy, taken, shownOf}
+use Rattle.search.specs.Search.{rank, ageOf}
 use Rattle.demodulator.specs.Spans.{eight, symbolAt}
 use Rattle.demodulator_run.specs.Filter.{filtered, ago}
 use Rattle.demodulator_run.specs.Marks.{Mark, First, Anew, Failed, FellDue}
@@ -37,6 +39,10 @@ earOf table p xs k = eight p (λ (j : ℕ). filtered table p (take k xs) (k - j)
 module _ (ear : Ear) where
   abbrev pub at : Kind → ℕ → Correlation
   at kind k = correlation (Frame kind) (ear k)
+
+  -- the candidate that the kind takes at sample k
+  abbrev pub takenAt : Kind → ℕ → TakenBurst
+  takenAt kind k = taken kind (at kind k)
 
   -- the kind matches at sample k
   abbrev pub Matches : Kind → ℕ → Type 0
@@ -87,7 +93,7 @@ WaitSet l n = (k : Kind) × In (Failed n k) l
 
 -- a frame fell due at sample d
 abbrev pub DueAt : List Mark → ℕ → Type 0
-DueAt l d = (k : Kind) × (gain : Float) × (shift : Float) × In (FellDue d k gain shift) l
+DueAt l d = (x : Shown) × In (FellDue d x) l
 
 -- ---- why 1,879
 -- "a switch of kind without a wait goes only to an earlier-listed kind": while a wait is held nothing is taken, so it is without one if none is set on that sample
@@ -95,14 +101,14 @@ abbrev pub SwitchEarlier : List Mark → Type 0
 SwitchEarlier l = (n : ℕ) (j k : Kind) → Switched l n j k → (WaitSet l n → ⊥) → rank k < rank j
 
 -- two candidates: where they differ in kind, the second's is listed earlier
-abbrev pub EarlierThan : Candidate → Candidate → Type 0
-EarlierThan Nothing held = Unit {0}
-EarlierThan (Held j age diff gain shift) Nothing = Unit {0}
-EarlierThan (Held j age diff gain shift) (Held k age' diff' gain' shift') = (j ≡ k → ⊥) → rank k < rank j
+abbrev pub EarlierThan : Option TakenBurst → Option TakenBurst → Type 0
+EarlierThan none held = Unit {0}
+EarlierThan (some t) none = Unit {0}
+EarlierThan (some t) (some u) = (t .kind ≡ u .kind → ⊥) → rank (u .kind) < rank (t .kind)
 
 -- the same of the candidates held before a call and after it, where no wait is held before it nor after it
 abbrev pub SwitchHeld : Control → Control → Type 0
-SwitchHeld c d = c .wait ≡ Free → d .wait ≡ Free → EarlierThan (c .candidate) (d .candidate)
+SwitchHeld c d = c .wait ≡ Free → d .wait ≡ Free → EarlierThan (heldBy c) (heldBy d)
 
 -- ---- the span and the age
 -- "a candidate taken at n while none was held": once n + (up - 1) samples are fed, a frame falls due at some d from n + (184p - 1) to n + (up - 1)
@@ -121,8 +127,7 @@ abbrev pub DueOnce : ℕ → List Mark → Type 0
 DueOnce p l = (n : ℕ) → AtMostOne l (n + (184 * p - 1)) (n + (188 * p - 1))
 
 abbrev pub AgeAtMost : ℕ → Candidate → Type 0
-AgeAtMost limit Nothing = Unit {0}
-AgeAtMost limit (Held kind age diff gain shift) = age ≤ limit
+AgeAtMost limit candidate = ageOf candidate ≤ limit
 
 -- ---- the due sample
 -- "let b be the sample where the candidate whose failure set the wait was last taken"; s is the sample where it failed
@@ -144,17 +149,9 @@ Corner ear b k s = (j : Kind) × (rank j < rank k) × Matches ear j s × Above e
 abbrev pub Replaces : Ear → ℕ → Kind → ℕ → Kind → Type 0
 Replaces ear b k s j = (rank k < rank j) × Matches ear j s × (Above ear j s k b → ⊥)
 
--- what a due frame shows
-pub record Shown : Type 0 where
-  pub kind : Kind
-  pub gain : Float
-  pub shift : Float
-
+-- what a due frame shows if its candidate was taken by kind k at sample n
 abbrev pub shownAt : Ear → Kind → ℕ → Shown
-shownAt ear k n = record { kind = k; gain = at ear k n .gain; shift = at ear k n .shift }
-
-abbrev pub dueMark : ℕ → Shown → Mark
-dueMark d x = FellDue d (x .kind) (x .gain) (x .shift)
+shownAt ear k n = shownOf (takenAt ear k n)
 
 -- "The frame is due at b+1,840 .. One corner .. it is b+1,839. If a later-listed kind replaced the candidate there, kind, gain and shift are the new one's."
 pub record DueBy (ear : Ear) (p : ℕ) (b : ℕ) (k : Kind) (s : ℕ) (d : ℕ) (x : Shown) : Type 0 where
@@ -163,7 +160,7 @@ pub record DueBy (ear : Ear) (p : ℕ) (b : ℕ) (k : Kind) (s : ℕ) (d : ℕ) 
 
 -- symbol i of the window that is given once xs are the samples is made of F(m)
 abbrev pub LiesAt : List Float → ℕ → List ℤ → Shown → ℕ → ℕ → Type 0
-LiesAt table p xs x i m = symbolAt p (x .gain) (x .shift) (ago table p xs) i ≡ symbolOf (x .gain) (x .shift) (filtered table p xs m)
+LiesAt table p xs x i m = symbolAt p x (ago table p xs) i ≡ symbolOf (x .gain) (x .shift) (filtered table p xs m)
 
 -- a candidate whose failure makes a frame due at d, showing x
 pub record Cause (ear : Ear) (p : ℕ) (l : List Mark) (d : ℕ) (x : Shown) : Type 0 where
@@ -177,11 +174,11 @@ pub record Cause (ear : Ear) (p : ℕ) (l : List Mark) (d : ℕ) (x : Shown) : T
 abbrev pub DueCause : Ear → ℕ → ℕ → ℕ → List Mark → Type 0
 DueCause ear p up fed l =
     (n : ℕ) → Started l n → n + (up - 1) ≤ fed
-    → (d : ℕ) × (x : Shown) × In (dueMark d x) l × (C : Cause ear p l d x) × (n ≤ C .b) × ((j : ℕ) → n ≤ j → j < C .s → (k : Kind) × Matches ear k j)
+    → (d : ℕ) × (x : Shown) × In (FellDue d x) l × (C : Cause ear p l d x) × (n ≤ C .b) × ((j : ℕ) → n ≤ j → j < C .s → (k : Kind) × Matches ear k j)
 
 pub record DueRule (ear : Ear) (p : ℕ) (fed : ℕ) (l : List Mark) : Type 0 where
   -- both ways: a frame falls due exactly where there is such a candidate, once fed
-  pub exact : (d : ℕ) (x : Shown) → In (dueMark d x) l ↔ ((d ≤ fed) × Cause ear p l d x)
+  pub exact : (d : ℕ) (x : Shown) → In (FellDue d x) l ↔ ((d ≤ fed) × Cause ear p l d x)
   -- one candidate alone
   pub only : (d : ℕ) (x y : Shown) → d ≤ fed → (A : Cause ear p l d x) (B : Cause ear p l d y) → (A .b ≡ B .b) × (A .kind ≡ B .kind) × (A .s ≡ B .s) × (x ≡ y)
   -- b, its kind and s leave no choice of d and of what is shown, and always leave one

@@ -1,4 +1,4 @@
--- F(k), from the list of all accepted samples alone. Over p, the samples in a symbol, and the table of 8p + 1 taps. Assumes nothing.
+-- F(k), from the list of all admitted samples alone. Over p, the samples in a symbol, and the table of 8p + 1 taps. Assumes nothing.
 use mathlib.Core.List.{List}
 use Prim.Native.Nat.{ℕ, zero, suc, _+_, _-_, _*_}
 use lib.IntN.{ℤ, pos}

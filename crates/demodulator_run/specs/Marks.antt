@@ -1,27 +1,27 @@
 -- What happens in a run, as a log of marks, oldest first. A mark is read off a step from the control before it and from what is heard: no rule reads one. Assumes nothing.
-use mathlib.Core.Bool.{Bool, true, false, cond}
+use mathlib.Core.Bool.{false, cond}
 use mathlib.Core.List.{List, [], _∷_, _++_}
+use mathlib.Core.Option.{Option, none, some}
 use Prim.Native.Nat.{ℕ}
 use lib.Dec.{ltb}
 use lib.Ieee.{Float, lt}
 use Rattle.protocol.specs.declared.Kind.{Kind}
 use Rattle.protocol.specs.declared.Kind.the-variants.{Lsf, Bert, Stream, Packet}
 use Rattle.protocol.specs.declared.SyncBurst.the-variants.{Frame, Preamble, EndOfTransmission}
-use Rattle.decode.specs.declared.Correlation.{Correlation}
 use Rattle.decode.specs.Correlator.{correlation, matches}
-use Rattle.search.specs.declared.Candidate.{Candidate}
-use Rattle.search.specs.declared.Candidate.the-variants.{Nothing, Held}
 use Rattle.search.specs.declared.Wait.{Wait}
 use Rattle.search.specs.declared.Wait.the-variants.{Free, Due}
 use Rattle.search.specs.declared.Control.{Control}
+use Rattle.search.specs.declared.Shown.{Shown}
 use Rattle.search.specs.declared.Reply.{Reply}
 use Rattle.search.specs.declared.Reply.the-variants.{Accepted, Rejected}
+use Rattle.search.specs.TakenBurst.{TakenBurst, heldBy, taken, shownOf}
 use Rattle.search.specs.Search.{carried, sameKind, tried}
 use Rattle.search.specs.Turn.{counted, freed, owing, offered}
 use Rattle.demodulator.specs.Spans.{eight}
-use Rattle.demodulator.specs.Calls.{Paper, refusal, nothing, frame, done, carrier}
+pub use Rattle.demodulator.specs.Calls.{isRefusal}
 use Rattle.demodulator_run.specs.Filter.{ago}
-use Rattle.demodulator_run.specs.Rules.{Single, sample, reply, query, Heard, start, single}
+use Rattle.demodulator_run.specs.Rules.{Single, sample, reply, query, History, start, single}
 
 -- each with the number of its sample
 pub data Mark : Type 0 where
@@ -31,24 +31,24 @@ pub data Mark : Type 0 where
   Anew : ℕ → Kind → Kind → Mark
   -- "a kind does not match and the held candidate is of that kind": the wait is set
   Failed : ℕ → Kind → Mark
-  -- "a frame is due": its kind, gain and shift
-  FellDue : ℕ → Kind → Float → Float → Mark
+  -- "a frame is due": what it shows
+  FellDue : ℕ → Shown → Mark
 
 -- ---- the search
 -- "A match whose diff is above the held candidate's adds one to its age .. Any other match, ties included, takes a new candidate"
-unfoldable pub takenMarks : ℕ → Candidate → Kind → Correlation → List Mark
-takenMarks n Nothing kind m = First n kind ∷ []
-takenMarks n (Held k age diff gain shift) kind m = cond (lt diff (m .diff)) [] (Anew n k kind ∷ [])
+unfoldable pub takenMarks : ℕ → Option TakenBurst → TakenBurst → List Mark
+takenMarks n none new = First n (new .kind) ∷ []
+takenMarks n (some t) new = cond (lt (t .diff) (new .diff)) [] (Anew n (t .kind) (new .kind) ∷ [])
 
 -- "If a kind does not match and the held candidate is of that kind, the wait becomes .."
-unfoldable pub missedMarks : ℕ → Kind → Candidate → List Mark
-missedMarks n kind Nothing = []
-missedMarks n kind (Held k age diff gain shift) = cond (sameKind k kind) (Failed n kind ∷ []) []
+unfoldable pub missedMarks : ℕ → Kind → Option TakenBurst → List Mark
+missedMarks n kind none = []
+missedMarks n kind (some t) = cond (sameKind (t .kind) kind) (Failed n kind ∷ []) []
 
 -- one kind's turn in the pass
 unfoldable pub triedMarks : (ℕ → Float) → Kind → Control → List Mark
 triedMarks v kind c =
-    cond (matches (Frame kind) v) (takenMarks (c .sample) (c .candidate) kind (correlation (Frame kind) v)) (missedMarks (c .sample) kind (c .candidate))
+    cond (matches (Frame kind) v) (takenMarks (c .sample) (heldBy c) (taken kind (correlation (Frame kind) v))) (missedMarks (c .sample) kind (heldBy c))
 
 -- "LSF, BERT, Stream, Packet in that order": each from the control that the kinds before it left
 unfoldable pub passedMarks : ℕ → (ℕ → Float) → Control → List Mark
@@ -63,14 +63,14 @@ searchedMarks p v c = passedMarks p v (carried p EndOfTransmission v (carried p 
 
 -- ---- a sample
 -- "At 0 the wait and the candidate are removed and a frame is due." The control is the one after the removal.
-unfoldable pub dueMarks : ℕ → (ℕ → Float) → Candidate → Control → List Mark
-dueMarks p v Nothing c = searchedMarks p v c
-dueMarks p v (Held kind age diff gain shift) c = FellDue (c .sample) kind gain shift ∷ cond (offered kind) [] (searchedMarks p v c)
+unfoldable pub dueMarks : ℕ → (ℕ → Float) → Option TakenBurst → Control → List Mark
+dueMarks p v none c = searchedMarks p v c
+dueMarks p v (some t) c = FellDue (c .sample) (shownOf t) ∷ cond (offered (t .kind)) [] (searchedMarks p v c)
 
 -- "while more than 0 is left the sample is finished, with no search"
 unfoldable pub waitedMarks : ℕ → (ℕ → Float) → Wait → Control → List Mark
 waitedMarks p v Free c = searchedMarks p v c
-waitedMarks p v (Due w) c = cond (ltb 1 (w .left)) [] (dueMarks p v (c .candidate) (freed c))
+waitedMarks p v (Due w) c = cond (ltb 1 (w .left)) [] (dueMarks p v (heldBy c) (freed c))
 
 unfoldable pub sampledMarks : ℕ → (ℕ → Float) → Control → List Mark
 sampledMarks p v c = waitedMarks p v (c .wait) (counted c)
@@ -82,28 +82,20 @@ repliedMarks p v Accepted c = []
 repliedMarks p v Rejected c = searchedMarks p v (owing false c)
 
 -- ---- a run
--- "Every refusal returns its number only"
-abbrev pub isRefusal : Paper → Bool
-isRefusal (refusal number) = true
-isRefusal nothing = false
-isRefusal (frame kind n) = false
-isRefusal done = false
-isRefusal (carrier held) = false
-
 module _ (table : List Float) (p : ℕ) where
-  -- what the call would mark if it is accepted
-  unfoldable pub stepMarks : Heard → Single → List Mark
+  -- what the call would mark if it is admitted
+  unfoldable pub stepMarks : History → Single → List Mark
   stepMarks h (sample x room) = sampledMarks p (eight p (ago table p (h .samples ++ (x ∷ [])))) (h .control)
   stepMarks h (reply r) = repliedMarks p (eight p (ago table p (h .samples))) r (h .control)
   stepMarks h query = []
 
   -- a refused call marks nothing
-  unfoldable pub calledMarks : Heard → Single → List Mark
+  unfoldable pub calledMarks : History → Single → List Mark
   calledMarks h c = cond (isRefusal (single table p h c .said .answer)) [] (stepMarks h c)
 
-  unfoldable pub logFrom : Heard → List Single → List Mark
+  unfoldable pub logFrom : History → List Single → List Mark
   logFrom h [] = []
-  logFrom h (c ∷ cs) = calledMarks h c ++ logFrom (single table p h c .heard) cs
+  logFrom h (c ∷ cs) = calledMarks h c ++ logFrom (single table p h c .history) cs
 
   -- the marks of all the calls since a fresh start
   abbrev pub logAll : List Single → List Mark

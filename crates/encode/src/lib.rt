@@ -1,8 +1,8 @@
 // The frames with fixed symbols, of the Rust's encode.rs: what a transmission begins and ends with.
+use protocol::SyncBurst;
 ghost use mathlib.Core.Path.{_≡_};
 ghost use Rattle.protocol.specs.Bursts.{signsOf};
 ghost use Rattle.encode.specs.Frames.{frameOf, repeatedSign, generate-preamble-says, generate-end-of-transmission-says};
-use protocol::SyncBurst;
 
 // A burst's eight signs, twenty-four times over.
 fn repeated(burst: SyncBurst) -> [f32; 192]

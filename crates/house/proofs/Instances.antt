@@ -9,11 +9,11 @@ use lib.ListN.{getD, replicate}
 use lib.Ieee.{Float, binary32, ofBits, ofInt, lt, le, eq}
 use Rattle.numbers.specs.Below.{allBelow}
 use Rattle.numbers.specs.Firsts.{firsts}
-use Rattle.decode.specs.Slicer.{sliced}
 use Rattle.protocol.specs.declared.Kind.{Kind}
 use Rattle.protocol.specs.declared.Kind.the-variants.{Lsf, Bert, Stream, Packet}
 use Rattle.protocol.specs.declared.SyncBurst.the-variants.{Frame}
 use Rattle.protocol.specs.Bursts.{wordOf, signsOf, spelled, signOf}
+use Rattle.decode.specs.Slicer.{sliced}
 use Rattle.house.specs.Digits.{capitals, placeIn, valueOf}
 use Rattle.house.specs.Line.{lineFeed, symbolOf, bitsOf, goodLine, symbolsOf, readLine, lineOf}
 use Rattle.house.specs.Samples.{sampleOf, bytesOf, numberOf, patternOf}

@@ -39,7 +39,7 @@ heading = 98 ∷ 97 ∷ 100 ∷ 32 ∷ 108 ∷ 105 ∷ 110 ∷ 101 ∷ 32 ∷ []
 unfoldable pub badLine : ℕ → List ℕ
 badLine n = heading ++ (decimal n ++ (lineFeed ∷ []))
 
--- a text at the front of 32 places, and zeros behind it
+-- a text at the front of 32 places, and zeros after it
 unfoldable pub inRoom : List ℕ → Text
 inRoom text = record { bytes = text ++ replicate (32 - length text) 0; length = length text }
 

@@ -36,7 +36,8 @@ pub enum Trouble {
     Refused,
 }
 
-const LINE_FEED: u8 = 10;
+// What ends a line.
+pub const LINE_FEED: u8 = 10;
 
 // The slicer's two bits as one number, its first bit the higher.
 fn two_bits(symbol: f32) -> u8

@@ -1,8 +1,9 @@
--- What a fit record is known to be, clause by clause. Assumes nothing.
+-- What a fit record is known to be, clause by clause, over p, the samples in a symbol. Assumes nothing.
 use mathlib.Core.Path.{_≡_, refl, ap, subst}
 use mathlib.Core.Bool.{Bool, true, _&&_}
 use mathlib.Core.List.{List}
-use Prim.Native.Nat.{ℕ, _≤_, _<_}
+use Prim.Native.Nat.{ℕ, _-_, _≤_, _<_}
+use native.Mathlib.Omega.{arith}
 use lib.Dec.{T, leb, leb→le}
 use lib.ListN.{length, getD}
 use lib.Ieee.{Float, nan, binary32, ofBits, neg, le}
@@ -13,6 +14,7 @@ use Rattle.numbers.specs.Within.{Within}
 use Rattle.numbers.proofs.Tests.{holds}
 use Rattle.numbers.proofs.Below.{all-below}
 use Rattle.numbers.proofs.Bounds.{between}
+use Rattle.shaping.specs.Rate.{tapCount, storePlaces, paddingLimit}
 use Rattle.modulator.specs.declared.SampleCount.{SampleCount}
 use Rattle.modulator.specs.declared.EndReport.{EndReport}
 use Rattle.modulator.specs.declared.EndReport.the-variants.{After}
@@ -20,13 +22,13 @@ use Rattle.modulator.specs.declared.Progress.{Progress}
 use Rattle.modulator.specs.declared.OutputBuffer.{OutputBuffer}
 use Rattle.modulator.specs.declared.SoftModulator.{SoftModulator}
 use Rattle.modulator.specs.Frame.{within}
-use Rattle.modulator.specs.Fit.{pulseFit, windowFit, progressFit, bufferFit, countFit, reportFit, cursorFit, recordFit}
+use Rattle.modulator.specs.Fit.{cursorFit, pulseFit, windowFit, progressFit, countFit, bufferFit, reportFit, recordFit}
 
 -- ---- the facts
-pub record ProgressFacts (s : Progress) : Type 0 where
-  pub len : s .«next_len» ≤ 4000
+pub record ProgressFacts (p : ℕ) (s : Progress) : Type 0 where
+  pub len : s .«next_len» ≤ storePlaces p
   pub read : s .«next_read» ≤ s .«next_len»
-  pub padding : s .«tx_delay_padding» .0 ≤ 122400
+  pub padding : s .«tx_delay_padding» .0 ≤ paddingLimit p
 
 pub record BufferFacts (b : OutputBuffer) : Type 0 where
   pub fill : b .«samples_in_buf» .0 ≤ 16777216
@@ -34,14 +36,13 @@ pub record BufferFacts (b : OutputBuffer) : Type 0 where
   pub latency : b .«output_latency» .0 ≤ 16777216
   pub room : b .«samples_in_buf» .0 ≤ b .«buf_capacity» .0
 
-pub record RecordFacts (m : SoftModulator) : Type 0 where
-  pub cursor : m .«filter_cursor» ≤ 80
-  pub window : (i : ℕ) → i < 81 → Within (getD (m .«filter_win») i nan) 35461
-  pub progress : ProgressFacts (m .progress)
+pub record RecordFacts (p : ℕ) (m : SoftModulator) : Type 0 where
+  pub cursor : m .«filter_cursor» < tapCount p
+  pub window : (i : ℕ) → i < tapCount p → Within (getD (m .«filter_win») i nan) 35461
+  pub progress : ProgressFacts p (m .progress)
   pub buffer : BufferFacts (m .buffer)
   pub report : (end : SampleCount) → m .pending .«report_tx_end» ≡ After end → end .0 ≤ 33554432
 
--- ---- tests
 -- ---- each clause
 pub pulse-within : (value : Float) → T (pulseFit value) → Within value 35461
 unfolding pulseFit ofBits
@@ -50,16 +51,16 @@ pulse-within value t =
     let high = ofBits binary32 0x470a_8500 in
     between low value high 35461 (refl, refl) (refl, refl) (and-l (le low value) (le value high) t) (and-r (le low value) (le value high) t)
 
-progress-facts : (s : Progress) → T (progressFit 10 s) → ProgressFacts s
-progress-facts s t =
-    let len = leb (s .«next_len») 4000 in
+progress-facts : (p : ℕ) (s : Progress) → T (progressFit p s) → ProgressFacts p s
+progress-facts p s t =
+    let len = leb (s .«next_len») (storePlaces p) in
     let read = leb (s .«next_read») (s .«next_len») in
-    let padding = leb (s .«tx_delay_padding» .0) 122400 in
+    let padding = leb (s .«tx_delay_padding» .0) (paddingLimit p) in
     let two = and-l (len && read) padding t in
     record {
-      len = leb→le (s .«next_len») 4000 (and-l len read two);
+      len = leb→le (s .«next_len») (storePlaces p) (and-l len read two);
       read = leb→le (s .«next_read») (s .«next_len») (and-r len read two);
-      padding = leb→le (s .«tx_delay_padding» .0) 122400 (and-r (len && read) padding t);
+      padding = leb→le (s .«tx_delay_padding» .0) (paddingLimit p) (and-r (len && read) padding t);
     }
 
 pub count-fact : (n : ℕ) → T (countFit n) → n ≤ 16777216
@@ -91,19 +92,19 @@ window-within window e = ap (λ (n : ℕ). allBelow n (λ (i : ℕ). within (ofB
 
 -- ---- all of them
 -- the five groups of phrases
-pub record Groups (m : SoftModulator) : Type 0 where
-  pub cursor : T (cursorFit m)
-  pub window : T (windowFit m)
-  pub progress : T (progressFit 10 (m .progress))
+pub record Groups (p : ℕ) (m : SoftModulator) : Type 0 where
+  pub cursor : T (cursorFit p m)
+  pub window : T (windowFit p m)
+  pub progress : T (progressFit p (m .progress))
   pub buffer : T (bufferFit (m .buffer))
   pub report : T (reportFit (m .pending .«report_tx_end»))
 
-pub groups : (m : SoftModulator) → recordFit m ≡ true → Groups m
+pub groups : (p : ℕ) (m : SoftModulator) → recordFit p m ≡ true → Groups p m
 unfolding recordFit
-groups m e =
-    let cursor = cursorFit m in
-    let window = windowFit m in
-    let progress = progressFit 10 (m .progress) in
+groups p m e =
+    let cursor = cursorFit p m in
+    let window = windowFit p m in
+    let progress = progressFit p (m .progress) in
     let buffer = bufferFit (m .buffer) in
     let report = reportFit (m .pending .«report_tx_end») in
     let t = holds e in
@@ -118,19 +119,19 @@ groups m e =
       report = and-r (cursor && window && progress && buffer) report t;
     }
 
-pub grouped : (m : SoftModulator) → Groups m → recordFit m ≡ true
+pub grouped : (p : ℕ) (m : SoftModulator) → Groups p m → recordFit p m ≡ true
 unfolding recordFit
-grouped m g = rw (is-true (cursorFit m) (g .cursor), is-true (windowFit m) (g .window), is-true (progressFit 10 (m .progress)) (g .progress), is-true (bufferFit (m .buffer)) (g .buffer)) (is-true (reportFit (m .pending .«report_tx_end»)) (g .report))
+grouped p m g = rw (is-true (cursorFit p m) (g .cursor), is-true (windowFit p m) (g .window), is-true (progressFit p (m .progress)) (g .progress), is-true (bufferFit (m .buffer)) (g .buffer)) (is-true (reportFit (m .pending .«report_tx_end»)) (g .report))
 
-pub record-facts : (m : SoftModulator) → recordFit m ≡ true → RecordFacts m
+pub record-facts : (p : ℕ) (m : SoftModulator) → recordFit p m ≡ true → RecordFacts p m
 unfolding windowFit
-record-facts m e =
+record-facts p m e =
     let value : ℕ → Bool = λ (i : ℕ). pulseFit (getD (m .«filter_win») i nan) in
-    let g = groups m e in
+    let g = groups p m e in
     record {
-      cursor = leb→le (m .«filter_cursor») 80 (g .cursor);
-      window = λ i l. pulse-within (getD (m .«filter_win») i nan) (all-below 81 value (g .window) i l);
-      progress = progress-facts (m .progress) (g .progress);
+      cursor = let low = leb→le (m .«filter_cursor») (tapCount p - 1) (g .cursor) in omega arith;
+      window = λ i l. pulse-within (getD (m .«filter_win») i nan) (all-below (tapCount p) value (g .window) i l);
+      progress = progress-facts p (m .progress) (g .progress);
       buffer = buffer-facts (m .buffer) (g .buffer);
       report = λ end r. report-fact end (subst (λ (o : EndReport). T (reportFit o)) r (g .report));
     }

@@ -4,11 +4,6 @@ pub mod Fitness
 -- what a call comes to, case by case
 pub mod Cases
 pub mod FrameCases
--- the values that enter the window, and what they leave
-pub mod Pulses
-pub mod Stream
--- a slice's tail, lent and back
-pub mod Tail
 -- what a frame makes of the record
 pub mod Frames
 -- a read as the code does it: one piece behind the other, into the caller's room

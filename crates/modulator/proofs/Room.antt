@@ -3,25 +3,18 @@ use mathlib.Core.Path.{_≡_, sym, _∙_}
 use mathlib.Core.List.{List, [], _++_, append-assoc, append-nil}
 use Prim.Native.Nat.{ℕ, _+_, _-_, _≤_, _<_}
 use native.Mathlib.Omega.{arith}
-use lib.ListN.{length, getD, take, drop, replicate, length-append, length-take, length-drop, length-replicate, getD-replicate, drop-of-length-le}
-use lib.Seq.{take-all, take-at, drop-at, drop-drop, getD-take, getD-drop, ext-getD}
+use lib.ListN.{length, take, drop, replicate, length-append, length-drop, length-replicate, getD-replicate, drop-of-length-le}
+use lib.Seq.{take-all, take-at, drop-at, drop-drop, ext-getD}
 use Rattle.numbers.specs.Firsts.{firsts, written}
 use Rattle.numbers.proofs.Firsts.{length-firsts, firsts-at}
 
 module _ {A : Type 0} where
-  -- ---- a list given by a rule, by other names
+  -- ---- one value, over and over
   pub same-value : (a d : A) (n : ℕ) → firsts (λ (i : ℕ). a) n ≡ replicate n a
   same-value a d n =
       let f : ℕ → A = λ (i : ℕ). a in
       ext-getD d (firsts f n) (replicate n a) (length-firsts f n ∙ sym (length-replicate n a))
       (λ i l. let k : i < n = rw length-firsts at l in firsts-at f n i d k ∙ sym (getD-replicate n i a d k))
-
-  pub part-of : (l : List A) (from n : ℕ) (d : A) → from + n ≤ length l → firsts (λ (i : ℕ). getD l (from + i) d) n ≡ take n (drop from l)
-  part-of l from n d h =
-      let f : ℕ → A = λ (i : ℕ). getD l (from + i) d in
-      let size : length (take n (drop from l)) ≡ n = simp (length-take, length-drop) (omega arith) in
-      ext-getD d (firsts f n) (take n (drop from l)) (length-firsts f n ∙ sym size)
-      (λ i k. let b : i < n = rw length-firsts at k in firsts-at f n i d b ∙ sym (getD-take n (drop from l) i d b ∙ getD-drop from l i d))
 
   -- ---- the first piece, and the tail that is lent
   module _ (f : ℕ → A) (a : ℕ) (room : List A) (h : a ≤ length room) where

@@ -1,10 +1,11 @@
 -- Document 01's 'Unfit sender', phrase by phrase in its order: a record is fit where no phrase applies. Over p, the samples in a symbol, where a limit is a multiple of it. Assumes nothing.
 use mathlib.Core.Bool.{Bool, true, _&&_}
-use Prim.Native.Nat.{ℕ, _*_}
+use Prim.Native.Nat.{ℕ, _-_}
 use lib.Dec.{leb}
 use lib.ListN.{getD}
 use lib.Ieee.{Float, nan, binary32, ofBits, le}
 use Rattle.numbers.specs.Below.{allBelow}
+use Rattle.shaping.specs.Rate.{tapCount, storePlaces, paddingLimit}
 use Rattle.modulator.specs.declared.EndReport.{EndReport}
 use Rattle.modulator.specs.declared.EndReport.the-variants.{Nothing, After}
 use Rattle.modulator.specs.declared.Progress.{Progress}
@@ -12,19 +13,19 @@ use Rattle.modulator.specs.declared.OutputBuffer.{OutputBuffer}
 use Rattle.modulator.specs.declared.SoftModulator.{SoftModulator}
 
 -- "cursor past 80"
-abbrev pub cursorFit : SoftModulator → Bool
-cursorFit m = leb (m .«filter_cursor») 80
+abbrev pub cursorFit : ℕ → SoftModulator → Bool
+cursorFit p m = leb (m .«filter_cursor») (tapCount p - 1)
 
 -- "a window value not within ±35,461"
 unfoldable pub pulseFit : Float → Bool
 pulseFit value = le (ofBits binary32 0xc70a_8500) value && le value (ofBits binary32 0x470a_8500)
 
-unfoldable pub windowFit : SoftModulator → Bool
-windowFit m = allBelow 81 (λ (i : ℕ). pulseFit (getD (m .«filter_win») i nan))
+unfoldable pub windowFit : ℕ → SoftModulator → Bool
+windowFit p m = allBelow (tapCount p) (λ (i : ℕ). pulseFit (getD (m .«filter_win») i nan))
 
 -- "length above 4,000; read place above length; padding above 122,400"
 abbrev pub progressFit : ℕ → Progress → Bool
-progressFit p s = leb (s .«next_len») (400 * p) && leb (s .«next_read») (s .«next_len») && leb (s .«tx_delay_padding» .0) (255 * (48 * p))
+progressFit p s = leb (s .«next_len») (storePlaces p) && leb (s .«next_read») (s .«next_len») && leb (s .«tx_delay_padding» .0) (paddingLimit p)
 
 -- "fill, capacity or latency above 16,777,216; capacity below fill"
 abbrev pub countFit : ℕ → Bool
@@ -38,5 +39,5 @@ abbrev pub reportFit : EndReport → Bool
 reportFit Nothing = true
 reportFit (After end) = leb (end .0) 33554432
 
-unfoldable pub recordFit : SoftModulator → Bool
-recordFit m = cursorFit m && windowFit m && progressFit 10 (m .progress) && bufferFit (m .buffer) && reportFit (m .pending .«report_tx_end»)
+unfoldable pub recordFit : ℕ → SoftModulator → Bool
+recordFit p m = cursorFit p m && windowFit p m && progressFit p (m .progress) && bufferFit (m .buffer) && reportFit (m .pending .«report_tx_end»)

@@ -3,9 +3,11 @@ use mathlib.Core.Bool.{Bool, cond, _&&_}
 use mathlib.Core.List.{List}
 use Prim.Native.Nat.{ℕ, _-_, _*_}
 use lib.Dec.{ltb}
-use lib.ListN.{length, getD}
-use lib.Ieee.{Float, nan, binary32, ofBits, ofInt, neg, le}
+use lib.ListN.{length}
+use lib.Ieee.{Float, binary32, ofBits, ofInt, neg, le}
+use Rattle.shaping.specs.Rate.{delayStep}
 use Rattle.encode.specs.Frames.{preambleSign, endSign}
+use Rattle.pulse.specs.Pulse.{listed}
 
 -- the symbols of a frame, and their number
 pub record Symbols : Type 0 where
@@ -14,10 +16,6 @@ pub record Symbols : Type 0 where
 
 abbrev pub preamble : Symbols
 preamble = record { symbol = λ (i : ℕ). ofInt binary32 (preambleSign i); count = 192 }
-
--- the symbols of a list (what `getD` gives past its end is never read)
-abbrev pub listed : List Float → ℕ → Float
-listed symbols i = getD symbols i nan
 
 abbrev pub listing : List Float → Symbols
 listing symbols = record { symbol = listed symbols; count = length symbols }
@@ -39,4 +37,4 @@ symbolFit symbol = le (ofBits binary32 0xbf80_0000) symbol && le symbol (ofBits 
 
 -- "Padding is TxDelay in samples less the latency, never below 0." "One step is 480 samples."
 abbrev pub paddingOf : ℕ → ℕ → ℕ → ℕ
-paddingOf p steps latency = 48 * p * steps - latency
+paddingOf p steps latency = delayStep p * steps - latency

@@ -1,35 +1,38 @@
--- The sender's record, and what a frame makes of it. Assumes nothing.
-use mathlib.Core.Bool.{true, false}
+-- The sender's record, and what a frame makes of it at a rate. Assumes nothing.
 use Prim.Native.Nat.{ℕ, _*_}
-use lib.IntN.{pos}
-use lib.ListN.{replicate}
+use lib.IntN.{ℤ, pos}
+use lib.ListN.{getD, replicate}
 use lib.Ieee.{Float, binary32, ofBits}
 use Rattle.numbers.specs.Firsts.{written}
-use Rattle.modulator.specs.declared.EndReport.the-variants.{Nothing}
+use Rattle.shaping.specs.Rate.{Rate, at48, tapCount, storePlaces}
+use Rattle.pulse.specs.Pulse.{pulses, Line, after, sampleAt}
 use Rattle.modulator.specs.declared.Progress.{Progress}
 use Rattle.modulator.specs.declared.Pending.{Pending}
 use Rattle.modulator.specs.declared.OutputBuffer.{OutputBuffer}
 use Rattle.modulator.specs.declared.SoftModulator.{SoftModulator}
-use Rattle.modulator.specs.Pulse.{Line, after, pulses, sampleAt}
 use Rattle.modulator.specs.Frame.{Symbols}
+use Rattle.modulator.specs.Control.{Control, freshControl, restarted}
 
--- "An update stores fill, capacity and latency."
-abbrev pub bufferOf : ℕ → ℕ → ℕ → OutputBuffer
-bufferOf fill capacity latency = record { «output_latency» = record { 0 = latency }; «samples_in_buf» = record { 0 = fill }; «buf_capacity» = record { 0 = capacity } }
-
--- "idle yes (once from a fresh start)"
 unfoldable pub fresh : SoftModulator
 fresh = record {
-  «next_transmission» = replicate 4000 (pos 0);
-  «filter_win» = replicate 81 (ofBits binary32 0);
+  «next_transmission» = replicate (storePlaces (at48 .p)) (pos 0);
+  «filter_win» = replicate (tapCount (at48 .p)) (ofBits binary32 0);
   «filter_cursor» = 0;
-  progress = record { «next_len» = 0; «next_read» = 0; «tx_delay_padding» = record { 0 = 0 } };
-  pending = record { «update_idle» = true; «calculate_tx_end» = false; «report_tx_end» = Nothing; «try_get_frame» = false };
-  buffer = bufferOf 0 0 0;
+  progress = freshControl .progress;
+  pending = freshControl .pending;
+  buffer = freshControl .buffer;
 }
 
 abbrev pub lineOf : SoftModulator → Line
 lineOf m = record { window = m .«filter_win»; cursor = m .«filter_cursor» }
+
+-- what it keeps besides the window and the store
+abbrev pub controlOf : SoftModulator → Control
+controlOf m = record { progress = m .progress; pending = m .pending; buffer = m .buffer }
+
+-- sample i of the frame at hand (what `getD` gives past the end is never read)
+abbrev pub storedSample : SoftModulator → ℕ → ℤ
+storedSample m i = getD (m .«next_transmission») i (pos 0)
 
 abbrev pub withProgress : Progress → SoftModulator → SoftModulator
 withProgress progress m = record {
@@ -52,15 +55,15 @@ withPending pending buffer m = record {
 }
 
 -- "Any other replaces unread samples: length and read place restart." The store past the new length is as it was, and so is the wish.
-unfoldable pub framed : ℕ → Symbols → ℕ → Pending → SoftModulator → SoftModulator
-framed p s padding pending m =
-    let e : ℕ → Float = pulses p (s .symbol) in
-    let n : ℕ = p * s .count in
+unfoldable pub framed : Rate → Symbols → ℕ → Pending → SoftModulator → SoftModulator
+framed R s padding pending m =
+    let e : ℕ → Float = pulses (R .p) (s .symbol) in
+    let n : ℕ = R .p * s .count in
     record {
-      «next_transmission» = written (sampleAt e (lineOf m)) n (m .«next_transmission»);
-      «filter_win» = after e n (lineOf m) .window;
-      «filter_cursor» = after e n (lineOf m) .cursor;
-      progress = record { «next_len» = n; «next_read» = 0; «tx_delay_padding» = record { 0 = padding } };
+      «next_transmission» = written (sampleAt R e (lineOf m)) n (m .«next_transmission»);
+      «filter_win» = after (R .p) e n (lineOf m) .window;
+      «filter_cursor» = after (R .p) e n (lineOf m) .cursor;
+      progress = restarted (R .p) (s .count) padding;
       pending = pending;
       buffer = m .buffer;
     }

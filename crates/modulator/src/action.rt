@@ -1,6 +1,4 @@
 // What the sender asks of its caller: the next action.
-ghost use mathlib.Core.Path.{_≡_};
-ghost use Rattle.modulator.specs.Calls.{reported, run-says};
 use super::AfterRun;
 use super::EndReport;
 use super::ModulatorAction;
@@ -8,6 +6,9 @@ use super::Pending;
 use super::SoftModulator;
 use super::fit::record_fit;
 use protocol::Refusal;
+ghost use mathlib.Core.Path.{_≡_};
+ghost use Rattle.modulator.specs.Control.{reported};
+ghost use Rattle.modulator.specs.Calls.{run-says};
 
 // What is pending once the end is reported: no end.
 fn reported(pending: Pending) -> Pending

@@ -1,8 +1,8 @@
 // A TxDelay counts steps, the card counts samples: the one conversion between them, and the difference of two counts of samples.
-ghost use mathlib.Core.Path.{_≡_};
-ghost use Prim.Native.Nat.{_-_, _*_};
 use super::DelaySteps;
 use super::SampleCount;
+ghost use mathlib.Core.Path.{_≡_};
+ghost use Prim.Native.Nat.{_-_, _*_};
 
 // What a step of ten milliseconds is at 48 kHz.
 const SAMPLES_PER_STEP: usize = 480;

@@ -1,13 +1,13 @@
 // Whether a record is one that the rules speak of: document 01's 'Unfit sender', one function for each group of its phrases.
-ghost use mathlib.Core.Path.{_≡_};
-ghost use Rattle.modulator.specs.Fit.{progressFit, countFit, bufferFit, reportFit, recordFit};
 use super::EndReport;
 use super::OutputBuffer;
 use super::Progress;
 use super::SampleCount;
 use super::SoftModulator;
-use super::pulse::FULL_SYMBOL;
 use super::within::all_within;
+use pulse::FULL_SYMBOL;
+ghost use mathlib.Core.Path.{_≡_};
+ghost use Rattle.modulator.specs.Fit.{progressFit, countFit, bufferFit, reportFit, recordFit};
 
 fn progress_fit(progress: Progress) -> bool
     ensures { λ r. ⌜ r ≡ progressFit 10 progress ⌝ }
@@ -43,7 +43,7 @@ fn report_fit(report: EndReport) -> bool
 }
 
 pub(crate) fn record_fit(m: SoftModulator) -> bool
-    ensures { λ r. ⌜ r ≡ recordFit m ⌝ }
+    ensures { λ r. ⌜ r ≡ recordFit 10 m ⌝ }
 {
     let pending = m.pending;
     let report = pending.report_tx_end;

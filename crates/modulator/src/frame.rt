@@ -1,11 +1,4 @@
 // Frames go in: each kind's symbols, the checks on symbols that are given, and the samples that they become.
-ghost use mathlib.Core.Path.{_≡_};
-ghost use Prim.Native.Nat.{_≤_, _<_};
-ghost use lib.ListN.{length};
-ghost use Rattle.numbers.specs.Firsts.{firsts};
-ghost use Rattle.modulator.specs.Frame.{listing, preamble, given, ending, paddingOf};
-ghost use Rattle.modulator.specs.Record.{framed, withPending};
-ghost use Rattle.modulator.specs.Calls.{dropped, ended, new-says, provide-next-frame-says};
 use super::AfterFrame;
 use super::DelaySteps;
 use super::EndReport;
@@ -17,10 +10,19 @@ use super::Provided;
 use super::SampleCount;
 use super::SoftModulator;
 use super::fit::record_fit;
-use super::pulse::SAMPLES_PER_SYMBOL;
-use super::pulse::push_symbols;
 use super::within::all_within;
 use protocol::Refusal;
+use pulse::SAMPLES_PER_SYMBOL;
+use pulse::push_symbols;
+ghost use mathlib.Core.Path.{_≡_};
+ghost use Prim.Native.Nat.{_≤_, _<_};
+ghost use lib.ListN.{length};
+ghost use Rattle.numbers.specs.Firsts.{firsts};
+ghost use Rattle.shaping.specs.Rate.{at48};
+ghost use Rattle.modulator.specs.Frame.{listing, preamble, given, ending, paddingOf};
+ghost use Rattle.modulator.specs.Record.{framed, withPending};
+ghost use Rattle.modulator.specs.Control.{dropped, ended};
+ghost use Rattle.modulator.specs.Calls.{new-says, provide-next-frame-says};
 
 // The end of transmission, and the zeros that empty the window after it.
 fn ending_symbols() -> [f32; 272]
@@ -44,7 +46,7 @@ fn framed(
     pending: Pending,
 ) -> SoftModulator
     requires { ⌜ (m .«filter_cursor» < 81) × (length (now symbols) ≤ 400) ⌝ }
-    ensures { λ r. ⌜ r ≡ framed 10 (listing (now (symbols .entry))) (padding .0) pending m ⌝ }
+    ensures { λ r. ⌜ r ≡ framed at48 (listing (now (symbols .entry))) (padding .0) pending m ⌝ }
 {
     let mut store = m.next_transmission;
     let mut window = m.filter_win;
@@ -69,7 +71,7 @@ fn framed(
 
 fn preamble(m: SoftModulator, tx_delay: DelaySteps) -> SoftModulator
     requires { ⌜ m .«filter_cursor» < 81 ⌝ }
-    ensures { λ r. ⌜ r ≡ framed 10 preamble (paddingOf 10 («tx_delay» .0) (m .buffer .«output_latency» .0)) (m .pending) m ⌝ }
+    ensures { λ r. ⌜ r ≡ framed at48 preamble (paddingOf 10 («tx_delay» .0) (m .buffer .«output_latency» .0)) (m .pending) m ⌝ }
 {
     let pending = m.pending;
     let latency = m.buffer.output_latency;
@@ -81,7 +83,7 @@ fn preamble(m: SoftModulator, tx_delay: DelaySteps) -> SoftModulator
 
 fn given(m: SoftModulator, symbols: &[f32]) -> SoftModulator
     requires { ⌜ (m .«filter_cursor» < 81) × (length (now symbols) ≡ 192) ⌝ }
-    ensures { λ r. ⌜ r ≡ framed 10 (given (now (symbols .entry))) (m .progress .«tx_delay_padding» .0) (m .pending) m ⌝ }
+    ensures { λ r. ⌜ r ≡ framed at48 (given (now (symbols .entry))) (m .progress .«tx_delay_padding» .0) (m .pending) m ⌝ }
 {
     let pending = m.pending;
     let padding = m.progress.tx_delay_padding;
@@ -90,7 +92,7 @@ fn given(m: SoftModulator, symbols: &[f32]) -> SoftModulator
 
 fn end_of_transmission(m: SoftModulator) -> SoftModulator
     requires { ⌜ m .«filter_cursor» < 81 ⌝ }
-    ensures { λ r. ⌜ r ≡ framed 10 ending (m .progress .«tx_delay_padding» .0) (ended (m .pending)) m ⌝ }
+    ensures { λ r. ⌜ r ≡ framed at48 ending (m .progress .«tx_delay_padding» .0) (ended (m .pending)) m ⌝ }
 {
     let mut pending = m.pending;
     pending.calculate_tx_end = true;

@@ -6,7 +6,6 @@ mod counts;
 mod fit;
 mod frame;
 mod output;
-mod pulse;
 mod within;
 
 // A TxDelay, in steps of ten milliseconds.

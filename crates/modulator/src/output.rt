@@ -1,10 +1,4 @@
 // What the sender hands to the sound card, and what the card tells of its buffer: reads and updates.
-ghost use mathlib.Core.Path.{_≡_};
-ghost use Prim.Native.Nat.{ℕ, _+_, _-_, _≤_, min};
-ghost use lib.IntN.{pos};
-ghost use lib.ListN.{length, getD};
-ghost use Rattle.numbers.specs.Firsts.{written};
-ghost use Rattle.modulator.specs.Calls.{updatedPending, read-output-samples-says, update-output-buffer-says};
 use super::AfterRead;
 use super::AfterUpdate;
 use super::EndReport;
@@ -18,6 +12,13 @@ use super::Updated;
 use super::fit::count_fit;
 use super::fit::record_fit;
 use protocol::Refusal;
+ghost use mathlib.Core.Path.{_≡_};
+ghost use Prim.Native.Nat.{ℕ, _+_, _-_, _≤_, min};
+ghost use lib.IntN.{pos};
+ghost use lib.ListN.{length, getD};
+ghost use Rattle.numbers.specs.Firsts.{written};
+ghost use Rattle.modulator.specs.Control.{updatedPending};
+ghost use Rattle.modulator.specs.Calls.{read-output-samples-says, update-output-buffer-says};
 
 // `usize::min`.
 fn fewer(a: usize, b: usize) -> usize

@@ -1,40 +1,58 @@
--- What holds in each case of an update or an action holds of the call. Assumes nothing.
-use mathlib.Core.Path.{_≡_}
-use mathlib.Core.Bool.{true, false, not}
-use mathlib.Core.List.{[]}
-use Prim.Native.Nat.{ℕ, _≤_}
-use lib.Dec.{ltb}
-use borrow.Author.Tests.{ltb-false}
+-- What holds in each case of a call holds of what comes of it, for record and rules alike. Assumes nothing.
+use mathlib.Core.Path.{_≡_, refl}
+use mathlib.Core.Bool.{Bool, true, false, not}
+use mathlib.Core.List.{List}
+use Prim.Native.Nat.{ℕ, _≤_, _<_}
+use borrow.Author.Tests.{ltb-true, ltb-false, not-false}
+use lib.Dec.{eqb, ltb}
+use lib.ListN.{length, getD}
+use lib.Ieee.{Float, nan}
+use Rattle.numbers.specs.Below.{allBelow}
 use Rattle.modulator.specs.declared.SampleCount.{SampleCount}
 use Rattle.modulator.specs.declared.EndReport.{EndReport}
 use Rattle.modulator.specs.declared.EndReport.the-variants.{Nothing, After}
-use Rattle.modulator.specs.declared.SoftModulator.{SoftModulator}
-use Rattle.modulator.specs.Fit.{recordFit}
-use Rattle.modulator.specs.Record.{bufferOf, withPending}
-use Rattle.modulator.specs.Calls.{Left, left, refusal, done, transmitEnd, readOutput, idle, getFrame, nothing, updated, updatedPending, ran, nextAction, reported, idled}
-use Rattle.modulator.proofs.Cases.{tooLarge}
+use Rattle.modulator.specs.Paper.{refusal, done, transmitEnd, readOutput, idle, getFrame, nothing}
+use Rattle.modulator.specs.Frame.{given, symbolFit}
+use Rattle.modulator.specs.Control.{Control, bufferOf, updatedPending, reported, idled}
+use Rattle.modulator.specs.Outcome.{Outcome, only, told, sends, givenOutcome, tooLarge, updateOutcome, actionBy, actionOutcome}
 use Rattle.modulator_laws.proofs.Picked.{picked}
 
-module _ (m : SoftModulator) (P : Left → Type 0) where
-  pub each-update : (fill capacity latency : ℕ) → P (left (refusal 1) m []) → P (left (refusal 8) m []) → P (left (refusal 9) m [])
-      → (tooLarge fill capacity latency ≡ false → fill ≤ capacity
-      → P (left done (withPending (updatedPending 10 fill capacity latency (m .pending)) (bufferOf fill capacity latency) m) []))
-      → P (updated m fill capacity latency)
-  unfolding updated
-  each-update fill capacity latency unfit large below taken =
-      picked P (not (recordFit m)) _ _ (λ e. unfit) λ e.
-      picked P (tooLarge fill capacity latency) _ _ (λ e. large) λ small.
-      picked P (ltb capacity fill) _ _ (λ e. below) λ l.
+module _ (s : Control) (P : Outcome → Type 0) where
+  pub each-given : (symbols : List Float) → P (only (refusal 6)) → P (only (refusal 7))
+      → (allBelow 192 (λ (i : ℕ). symbolFit (getD symbols i nan)) ≡ true → P (sends (given symbols) (s .progress .«tx_delay_padding» .0) (s .pending)))
+      → P (givenOutcome symbols s)
+  unfolding givenOutcome
+  each-given symbols miscounted outside taken =
+      let tested : Bool = allBelow 192 (λ (i : ℕ). symbolFit (getD symbols i nan)) in
+      picked P (not (eqb (length symbols) 192)) _ _ (λ _. miscounted) λ _.
+      picked P (not tested) _ _ (λ _. outside) λ e.
+      taken (not-false tested e)
+
+  pub each-update : (p fill capacity latency : ℕ) → (tooLarge fill capacity latency ≡ true → P (only (refusal 8))) → (tooLarge fill capacity latency ≡ false → capacity < fill → P (only (refusal 9)))
+      → (tooLarge fill capacity latency ≡ false → fill ≤ capacity → P (told done (updatedPending p fill capacity latency (s .pending)) (bufferOf fill capacity latency)))
+      → P (updateOutcome p fill capacity latency s)
+  unfolding updateOutcome
+  each-update p fill capacity latency large below taken =
+      picked P (tooLarge fill capacity latency) _ _ large λ small.
+      picked P (ltb capacity fill) _ _ (λ l. below small (ltb-true capacity fill l)) λ l.
       taken small (ltb-false capacity fill l)
 
-  pub each-action : P (left (refusal 1) m []) → ((end : SampleCount) → P (left (transmitEnd (end .0)) (withPending (reported (m .pending)) (m .buffer) m) [])) → P (left readOutput m [])
-      → P (left (idle true) (withPending (idled (m .pending)) (m .buffer) m) []) → P (left getFrame m []) → P (left nothing m []) → P (ran m)
-  unfolding ran nextAction
-  each-action unfit end more idles frame none = picked P (not (recordFit m)) _ _ (λ e. unfit) (λ e. by-report (m .pending .«report_tx_end»))
+  -- the cases of an action request, with what is known in each
+  pub record ActionCases : Type 0 where
+    pub told-end : (end : SampleCount) → s .pending .«report_tx_end» ≡ After end → P (told (transmitEnd (end .0)) (reported (s .pending)) (s .buffer))
+    pub unread : s .pending .«report_tx_end» ≡ Nothing → s .progress .«next_read» < s .progress .«next_len» → P (only readOutput)
+    pub idles : s .pending .«report_tx_end» ≡ Nothing → s .progress .«next_len» ≤ s .progress .«next_read» → s .pending .«update_idle» ≡ true → P (told (idle true) (idled (s .pending)) (s .buffer))
+    pub wishes : s .pending .«report_tx_end» ≡ Nothing → s .progress .«next_len» ≤ s .progress .«next_read» → s .pending .«update_idle» ≡ false → P (only getFrame)
+    pub rests : s .pending .«report_tx_end» ≡ Nothing → s .progress .«next_len» ≤ s .progress .«next_read» → s .pending .«update_idle» ≡ false → P (only nothing)
+
+  pub each-action : ActionCases → P (actionOutcome s)
+  unfolding actionBy
+  each-action k = by-report (s .pending .«report_tx_end») refl
     where
-      by-report : (report : EndReport) → P (nextAction m report)
-      by-report (After n) = end n
-      by-report Nothing =
-          picked P (ltb (m .progress .«next_read») (m .progress .«next_len»)) _ _ (λ e. more) λ e.
-          picked P (m .pending .«update_idle») _ _ (λ e. idles) λ e.
-          picked P (m .pending .«try_get_frame») _ _ (λ e. frame) (λ e. none)
+      by-report : (report : EndReport) → s .pending .«report_tx_end» ≡ report → P (actionBy report s)
+      by-report (After end) r = k .told-end end r
+      by-report Nothing r =
+          picked P (ltb (s .progress .«next_read») (s .progress .«next_len»)) _ _ (λ l. k .unread r (ltb-true _ _ l)) λ l.
+          let all = ltb-false _ _ l in
+          picked P (s .pending .«update_idle») _ _ (λ i. k .idles r all i) λ i.
+          picked P (s .pending .«try_get_frame») _ _ (λ _. k .wishes r all i) (λ _. k .rests r all i)

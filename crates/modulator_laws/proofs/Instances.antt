@@ -1,4 +1,4 @@
--- Small records that meet what the laws of the sender ask, and what the calls make of them. Assumes nothing.
+-- Small records that meet what the laws of the sender ask, and what the calls make of them, at 48 kHz. Assumes nothing.
 use mathlib.Core.Path.{_≡_, refl}
 use mathlib.Core.Bool.{true, false}
 use mathlib.Core.List.{[], _∷_}
@@ -7,11 +7,15 @@ use lib.IntN.{pos}
 use lib.ListN.{replicate}
 use lib.Ieee.{ofBits, le}
 use Rattle.numbers.specs.Below.{allBelow}
+use Rattle.numbers.specs.Firsts.{firsts}
+use Rattle.shaping.specs.Rate.{at48}
 use Rattle.modulator.specs.declared.EndReport.the-variants.{Nothing, After}
 use Rattle.modulator.specs.declared.SoftModulator.{SoftModulator}
-use Rattle.modulator.specs.Fit.{pulseFit, windowFit, recordFit}
+use Rattle.modulator.specs.Paper.{wrote, transmitEnd, readOutput, idle}
+use Rattle.modulator.specs.Control.{handedOut}
 use Rattle.modulator.specs.Record.{fresh, withPending}
-use Rattle.modulator.specs.Calls.{left, wrote, transmitEnd, readOutput, idle, handedOut, read, drained, updated, ran}
+use Rattle.modulator.specs.Fit.{pulseFit, windowFit, recordFit}
+use Rattle.modulator.specs.Calls.{left, drained, read, updated, ran}
 use Rattle.modulator.proofs.Fitness.{RecordFacts, record-facts}
 use Rattle.modulator.proofs.Cases.{read-fit, run-end, run-read, run-idle}
 use Rattle.modulator_laws.proofs.Kept.{read-keeps, update-keeps, run-keeps}
@@ -42,66 +46,66 @@ astray = record {
   buffer = fresh .buffer;
 }
 
-pub fresh-fit : recordFit fresh ≡ true
+pub fresh-fit : recordFit 10 fresh ≡ true
 unfolding recordFit windowFit fresh allBelow pulseFit ofBits le
 fresh-fit = refl
 
-sending-fit : recordFit sending ≡ true
+sending-fit : recordFit 10 sending ≡ true
 unfolding recordFit windowFit fresh allBelow pulseFit ofBits le
 sending-fit = refl
 
-ending-fit : recordFit ending ≡ true
+ending-fit : recordFit 10 ending ≡ true
 unfolding recordFit windowFit fresh allBelow pulseFit ofBits le
 ending-fit = refl
 
-pub astray-unfit : recordFit astray ≡ false
+pub astray-unfit : recordFit 10 astray ≡ false
 unfolding recordFit windowFit fresh allBelow pulseFit ofBits le
 astray-unfit = refl
 
 -- ---- the laws at them
-sending-facts : RecordFacts sending
-sending-facts = record-facts sending sending-fit
+sending-facts : RecordFacts 10 sending
+sending-facts = record-facts 10 sending sending-fit
 
-sending-in-pieces : InPieces sending (pos 7 ∷ []) (pos 8 ∷ pos 9 ∷ [])
-sending-in-pieces = in-pieces sending sending-fit (pos 7 ∷ []) (pos 8 ∷ pos 9 ∷ [])
+sending-in-pieces : InPieces at48 sending (pos 7 ∷ []) (pos 8 ∷ pos 9 ∷ [])
+sending-in-pieces = in-pieces at48 sending sending-fit (pos 7 ∷ []) (pos 8 ∷ pos 9 ∷ [])
 
-sending-kept : recordFit (read sending (pos 7 ∷ []) .modulator) ≡ true
-sending-kept = read-keeps sending sending-fit (pos 7 ∷ [])
+sending-kept : recordFit 10 (read at48 sending (pos 7 ∷ []) .modulator) ≡ true
+sending-kept = read-keeps at48 sending sending-fit (pos 7 ∷ [])
 
-fresh-kept : recordFit (updated fresh 100 3000 50 .modulator) ≡ true
-fresh-kept = update-keeps fresh fresh-fit 100 3000 50
+fresh-kept : recordFit 10 (updated at48 fresh 100 3000 50 .modulator) ≡ true
+fresh-kept = update-keeps at48 fresh fresh-fit 100 3000 50
 
-ending-kept : recordFit (ran ending .modulator) ≡ true
-ending-kept = run-keeps ending ending-fit
+ending-kept : recordFit 10 (ran at48 ending .modulator) ≡ true
+ending-kept = run-keeps at48 ending ending-fit
 
 -- ---- the calls at them
 -- the room's last place is as it was
-read-sending : read sending (pos 7 ∷ pos 7 ∷ pos 7 ∷ pos 7 ∷ pos 7 ∷ pos 7 ∷ []) .room ≡ pos 0 ∷ pos 0 ∷ pos 11 ∷ pos 12 ∷ pos 13 ∷ pos 7 ∷ []
-unfolding drained handedOut fresh
-read-sending = rw (read-fit sending (pos 7 ∷ pos 7 ∷ pos 7 ∷ pos 7 ∷ pos 7 ∷ pos 7 ∷ []) sending-fit)
+read-sending : read at48 sending (pos 7 ∷ pos 7 ∷ pos 7 ∷ pos 7 ∷ pos 7 ∷ pos 7 ∷ []) .room ≡ pos 0 ∷ pos 0 ∷ pos 11 ∷ pos 12 ∷ pos 13 ∷ pos 7 ∷ []
+unfolding drained handedOut firsts fresh
+read-sending = rw (read-fit at48 sending (pos 7 ∷ pos 7 ∷ pos 7 ∷ pos 7 ∷ pos 7 ∷ pos 7 ∷ []) sending-fit)
 
-run-sending : ran sending .answer ≡ readOutput
+run-sending : ran at48 sending .answer ≡ readOutput
 unfolding fresh
-run-sending = rw (run-read sending sending-fit refl (lit< tt))
+run-sending = rw (run-read at48 sending sending-fit refl (lit< tt))
 
-run-ending : ran ending .answer ≡ transmitEnd 600
+run-ending : ran at48 ending .answer ≡ transmitEnd 600
 unfolding fresh
-run-ending = rw (run-end ending (record { 0 = 600 }) ending-fit refl)
+run-ending = rw (run-end at48 ending (record { 0 = 600 }) ending-fit refl)
 
-run-fresh : ran fresh .answer ≡ idle true
+run-fresh : ran at48 fresh .answer ≡ idle true
 unfolding fresh
-run-fresh = rw (run-idle fresh fresh-fit refl (lit≤ tt) refl)
+run-fresh = rw (run-idle at48 fresh fresh-fit refl (lit≤ tt) refl)
 
 -- ---- and the laws at these answers
-ending-once : ran ending .modulator .pending .«report_tx_end» ≡ Nothing
-ending-once = end-once ending 600 run-ending
+ending-once : ran at48 ending .modulator .pending .«report_tx_end» ≡ Nothing
+ending-once = end-once at48 ending 600 run-ending
 
-fresh-once : ran fresh .modulator .pending .«update_idle» ≡ false
-fresh-once = idle-once fresh run-fresh
+fresh-once : ran at48 fresh .modulator .pending .«update_idle» ≡ false
+fresh-once = idle-once at48 fresh run-fresh
 
 -- no room at all is left in the card's buffer
-ending-wishes : updated ending 3000 3000 0 .modulator .pending .«try_get_frame» ≡ true
-ending-wishes = wish-stays ending 3000 3000 0 refl
+ending-wishes : updated at48 ending 3000 3000 0 .modulator .pending .«try_get_frame» ≡ true
+ending-wishes = wish-stays at48 ending 3000 3000 0 refl
 
-sending-no-room : read sending [] ≡ left (wrote 0) sending []
-sending-no-room = no-room sending sending-fit
+sending-no-room : read at48 sending [] ≡ left (wrote 0) sending []
+sending-no-room = no-room at48 sending sending-fit

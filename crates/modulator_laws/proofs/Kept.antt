@@ -1,70 +1,98 @@
--- A fit record stays fit over a read, an update and a run. Assumes nothing.
+-- A fit record stays fit over each call, at every rate. Assumes nothing.
 use mathlib.Core.Path.{_≡_}
-use mathlib.Core.Bool.{Bool, true, false, cond}
+use mathlib.Core.Bool.{true}
 use mathlib.Core.List.{List}
-use Prim.Native.Nat.{ℕ, _+_, _≤_}
+use Prim.Native.Nat.{ℕ, _-_, _*_, _≤_, _<_}
+use native.Mathlib.Nat.{mul-le-mul-left}
 use native.Mathlib.Omega.{arith}
 use borrow.Author.Tests.{le-leb}
-use lib.Dec.{T}
+use lib.Dec.{T, le→leb}
 use lib.IntN.{ℤ}
-use Rattle.modulator.specs.declared.EndReport.{EndReport}
+use lib.ListN.{getD}
+use lib.Ieee.{Float, nan}
+use Rattle.numbers.proofs.Below.{all-below, below-all}
+use Rattle.shaping.specs.Rate.{Rate, tapCount, storePlaces, paddingLimit}
+use Rattle.pulse.specs.Pulse.{pulses}
+use Rattle.pulse.proofs.Stream.{cursor-stays}
 use Rattle.modulator.specs.declared.Progress.{Progress}
 use Rattle.modulator.specs.declared.Pending.{Pending}
 use Rattle.modulator.specs.declared.OutputBuffer.{OutputBuffer}
+use Rattle.modulator.specs.declared.ModulatorFrame.{ModulatorFrame}
 use Rattle.modulator.specs.declared.SoftModulator.{SoftModulator}
-use Rattle.modulator.specs.Record.{withProgress, withPending}
-use Rattle.modulator.specs.Fit.{windowFit, progressFit, bufferFit, reportFit, recordFit}
-use Rattle.modulator.specs.Calls.{Left, read, drained, updated, ran, endReport}
-use Rattle.modulator.proofs.Fitness.{ProgressFacts, BufferFacts, record-facts, groups, grouped}
-use Rattle.modulator.proofs.Cases.{counts-taken, read-fit}
-use Rattle.modulator_laws.proofs.EachCase.{each-update, each-action}
+use Rattle.modulator.specs.Frame.{Symbols}
+use Rattle.modulator.specs.Record.{lineOf, controlOf, withProgress, withPending, framed}
+use Rattle.modulator.specs.Fit.{pulseFit, windowFit, progressFit, bufferFit, reportFit, recordFit}
+use Rattle.modulator.specs.Outcome.{Outcome, only, told, sends, frameOutcome, updateOutcome, actionOutcome}
+use Rattle.modulator.specs.Calls.{settled, drained, provided, read, updated, ran}
+use Rattle.modulator.proofs.Fitness.{ProgressFacts, Groups, groups, grouped, record-facts}
+use Rattle.modulator.proofs.Cases.{read-fit}
+use Rattle.modulator_laws.proofs.Sizes.{pulses-size, within-pulse, window-stays, Small}
+use Rattle.modulator_laws.proofs.OutcomeLimits.{Byte, Few, frame-few, update-few, action-few, Sound, frame-sound, update-sound, action-sound}
 
--- ---- groups that are fit
-progress-fit : (s : Progress) → ProgressFacts s → T (progressFit 10 s)
-progress-fit s f = rw (le-leb (s .«next_len») 4000 (f .len), le-leb (s .«next_read») (s .«next_len») (f .read), le-leb (s .«tx_delay_padding» .0) 122400 (f .padding)) tt
+pub progress-fit : (p : ℕ) (s : Progress) → ProgressFacts p s → T (progressFit p s)
+progress-fit p s f = rw (le-leb (s .«next_len») (storePlaces p) (f .len), le-leb (s .«next_read») (s .«next_len») (f .read), le-leb (s .«tx_delay_padding» .0) (paddingLimit p) (f .padding)) tt
 
-buffer-fit : (b : OutputBuffer) → BufferFacts b → T (bufferFit b)
-buffer-fit b f =
-    rw (le-leb (b .«samples_in_buf» .0) 16777216 (f .fill), le-leb (b .«buf_capacity» .0) 16777216 (f .capacity), le-leb (b .«output_latency» .0) 16777216 (f .latency), le-leb (b .«samples_in_buf» .0) (b .«buf_capacity» .0) (f .room)) tt
+module _ (R : Rate) (m : SoftModulator) (fit : recordFit (R .p) m ≡ true) where
+  abbrev g : Groups (R .p) m
+  g = groups (R .p) m fit
 
--- ---- a fit record with one of them changed
-module _ (m : SoftModulator) (e : recordFit m ≡ true) where
-  with-progress : (s : Progress) → ProgressFacts s → recordFit (withProgress s m) ≡ true
+  short : m .progress .«tx_delay_padding» .0 ≤ paddingLimit (R .p)
+  short = record-facts (R .p) m fit .progress .padding
+
+  -- ---- with one of the groups changed
+  with-progress : (s : Progress) → ProgressFacts (R .p) s → recordFit (R .p) (withProgress s m) ≡ true
   unfolding windowFit
-  with-progress s f =
-      let g = groups m e in
-      grouped (withProgress s m) (record { cursor = g .cursor; window = g .window; progress = progress-fit s f; buffer = g .buffer; report = g .report })
+  with-progress s f = grouped (R .p) (withProgress s m) (record { cursor = g .cursor; window = g .window; progress = progress-fit (R .p) s f; buffer = g .buffer; report = g .report })
 
-  with-pending : (p : Pending) (b : OutputBuffer) → T (reportFit (p .«report_tx_end»)) → T (bufferFit b) → recordFit (withPending p b m) ≡ true
+  with-pending : (pending : Pending) (b : OutputBuffer) → T (reportFit (pending .«report_tx_end»)) → T (bufferFit b) → recordFit (R .p) (withPending pending b m) ≡ true
   unfolding windowFit
-  with-pending p b r f =
-      let g = groups m e in
-      grouped (withPending p b m) (record { cursor = g .cursor; window = g .window; progress = g .progress; buffer = f; report = r })
+  with-pending pending b r f = grouped (R .p) (withPending pending b m) (record { cursor = g .cursor; window = g .window; progress = g .progress; buffer = f; report = r })
 
-  -- ---- the calls
-  pub drained-fit : (room : List ℤ) → recordFit (drained m room .modulator) ≡ true
+  -- ---- with a frame
+  framed-fit : (s : Symbols) (padding : ℕ) (pending : Pending) → s .count ≤ 400 → Small s → padding ≤ paddingLimit (R .p)
+      → T (reportFit (pending .«report_tx_end»)) → recordFit (R .p) (framed R s padding pending m) ≡ true
+  unfolding framed windowFit
+  framed-fit s padding pending few small least report =
+      let p = R .p in
+      let e : ℕ → Float = pulses p (s .symbol) in
+      let n : ℕ = p * s .count in
+      let fits : (t : ℕ) → t < n → T (pulseFit (e t)) = λ t l. within-pulse (e t) (pulses-size p (s .symbol) (s .count) small t l) in
+      let inside = cursor-stays p e n (lineOf m) (record-facts p m fit .cursor) in
+      let stored : n ≤ p * 400 = mul-le-mul-left p few in
+      grouped p (framed R s padding pending m) (record {
+        cursor = le→leb _ (tapCount p - 1) (omega arith);
+        window = below-all (tapCount p) _ λ i l. window-stays p e n (lineOf m) i fits (all-below (tapCount p) (λ (j : ℕ). pulseFit (getD (m .«filter_win») j nan)) (g .window) i l);
+        progress = progress-fit p _ (record { len = omega arith; read = omega arith; padding = least });
+        buffer = g .buffer;
+        report = report;
+      })
+
+  -- ---- what comes of a call
+  settled-fit : (o : Outcome) → Few o → Sound (R .p) o → recordFit (R .p) (settled R m o .modulator) ≡ true
+  unfolding settled Few Sound
+  settled-fit (only answer) few sound = fit
+  settled-fit (told answer pending buffer) few sound = with-pending pending buffer (sound .0) (sound .1)
+  settled-fit (sends frame padding pending) few sound = framed-fit frame padding pending few (sound .0) (sound .1) (sound .2)
+
+  pub frame-keeps : (frame : ModulatorFrame) (symbols : List Float) → Byte frame → recordFit (R .p) (provided R m frame symbols .modulator) ≡ true
+  unfolding provided
+  frame-keeps frame symbols h =
+      rw fit (settled-fit (frameOutcome (R .p) frame symbols (controlOf m)) (frame-few (R .p) (controlOf m) frame symbols) (frame-sound (R .p) (controlOf m) short (g .buffer) (g .report) frame symbols h))
+
+  pub drained-fit : (room : List ℤ) → recordFit (R .p) (drained m room .modulator) ≡ true
   unfolding drained
   drained-fit room =
-      let f = record-facts m e .progress in
+      let f = record-facts (R .p) m fit .progress in
       with-progress _ (record { len = f .len; read = omega arith; padding = omega arith })
 
-  pub read-keeps : (room : List ℤ) → recordFit (read m room .modulator) ≡ true
-  read-keeps room = rw (read-fit m room e) (drained-fit room)
+  pub read-keeps : (room : List ℤ) → recordFit (R .p) (read R m room .modulator) ≡ true
+  read-keeps room = rw (read-fit R m room fit) (drained-fit room)
 
-  module _ (fill capacity latency : ℕ) where
-    report-fit : (owed : Bool) (old : EndReport) → fill + latency ≤ 33554432 → T (reportFit old) → T (reportFit (cond owed (endReport fill latency) old))
-    report-fit true old l t = rw (le-leb (fill + latency) 33554432 l) tt
-    report-fit false old l t = t
+  pub update-keeps : (fill capacity latency : ℕ) → recordFit (R .p) (updated R m fill capacity latency .modulator) ≡ true
+  unfolding updated
+  update-keeps fill capacity latency =
+      rw fit (settled-fit (updateOutcome (R .p) fill capacity latency (controlOf m)) (update-few (R .p) (controlOf m) fill capacity latency) (update-sound (R .p) (controlOf m) short (g .buffer) (g .report) fill capacity latency))
 
-    pub update-keeps : recordFit (updated m fill capacity latency .modulator) ≡ true
-    update-keeps =
-        each-update m (λ (o : Left). recordFit (o .modulator) ≡ true) fill capacity latency e e e λ small l.
-        let c = counts-taken fill capacity latency small in
-        with-pending _ _
-        (report-fit (m .pending .«calculate_tx_end») (m .pending .«report_tx_end») (omega arith) (groups m e .report))
-        (buffer-fit _ (record { fill = c .0; capacity = c .1; latency = c .2; room = l }))
-
-  pub run-keeps : recordFit (ran m .modulator) ≡ true
-  run-keeps =
-      let g = groups m e in
-      each-action m (λ (o : Left). recordFit (o .modulator) ≡ true) e (λ end. with-pending _ _ tt (g .buffer)) e (with-pending _ _ (g .report) (g .buffer)) e e
+  pub run-keeps : recordFit (R .p) (ran R m .modulator) ≡ true
+  unfolding ran
+  run-keeps = rw fit (settled-fit (actionOutcome (controlOf m)) (action-few (R .p) (controlOf m)) (action-sound (R .p) (controlOf m) short (g .buffer) (g .report)))

@@ -10,7 +10,7 @@ pub mod View
 pub mod EachCase
 -- a fit record stays fit
 pub mod Sizes
-pub mod FrameKept
+pub mod OutcomeLimits
 pub mod Kept
 pub mod FitAgain
 -- an empty room, the wish that stays, and what is told once

@@ -1,4 +1,4 @@
--- Each limit of 'Unfit sender', met and passed by one, worked out; a call of an unfit record is refused with 1. Assumes nothing.
+-- Each limit of 'Unfit sender', met and passed by one, worked out at 48 kHz; a call of an unfit record is refused with 1. Assumes nothing.
 use mathlib.Core.Path.{_≡_, refl}
 use mathlib.Core.Bool.{Bool, true, false}
 use mathlib.Core.List.{List}
@@ -10,8 +10,9 @@ use Rattle.modulator.specs.declared.EndReport.the-variants.{After}
 use Rattle.modulator.specs.declared.Progress.{Progress}
 use Rattle.modulator.specs.declared.OutputBuffer.{OutputBuffer}
 use Rattle.modulator.specs.declared.SoftModulator.{SoftModulator}
+use Rattle.modulator.specs.Control.{bufferOf}
+use Rattle.modulator.specs.Record.{fresh}
 use Rattle.modulator.specs.Fit.{pulseFit, windowFit, recordFit}
-use Rattle.modulator.specs.Record.{fresh, bufferOf}
 
 -- a record by the parts that have limits
 abbrev made : ℕ → List Float → Progress → OutputBuffer → ℕ → SoftModulator
@@ -38,7 +39,7 @@ abbrev fullest : OutputBuffer
 fullest = bufferOf 16777216 16777216 16777216
 
 abbrev fits : SoftModulator → Bool → Type 0
-fits m answer = recordFit m ≡ answer
+fits m answer = recordFit 10 m ≡ answer
 
 -- all limits at once
 highest : fits (made 80 loudest most fullest 33554432) true

@@ -10,7 +10,7 @@ use Rattle.modulator.specs.declared.Updated.{Updated}
 use Rattle.modulator.specs.declared.Updated.the-variants.{Refused as UpdateRefused, Done as Stored}
 use Rattle.modulator.specs.declared.ModulatorAction.{ModulatorAction}
 use Rattle.modulator.specs.declared.ModulatorAction.the-variants.{Refused as RunRefused, TransmissionWillEnd, ReadOutput, SetIdle, GetNextFrame, Nothing as NoAction}
-use Rattle.modulator.specs.Calls.{Paper, refusal, done, wrote, transmitEnd, readOutput, idle, getFrame, nothing, providedPaper, readPaper, updatedPaper, actionPaper}
+use Rattle.modulator.specs.Paper.{Paper, refusal, done, wrote, transmitEnd, readOutput, idle, getFrame, nothing, providedPaper, readPaper, updatedPaper, actionPaper}
 
 pub provided-once : (a b : Provided) → providedPaper a ≡ providedPaper b → a ≡ b
 provided-once (ProvideRefused a) (ProvideRefused b) e = ap ProvideRefused (number-once a b (cc))

@@ -1,26 +1,43 @@
--- What two rooms, one after the other, hold of zeros and of the samples behind them: as much as one room of both sizes. Assumes nothing.
-use mathlib.Core.Path.{_≡_, refl, _∙_}
+-- What two rooms, one after the other, hold of zeros and of the samples after them: as much as one room of both sizes. Assumes nothing.
+use mathlib.Core.Path.{_≡_, refl, sym, ap, _∙_}
 use mathlib.Core.Logic.{_⊎_, inl, inr}
 use mathlib.Core.Bool.{Bool, true, false}
 use mathlib.Core.List.{List, [], _++_, append-assoc, append-nil}
 use Prim.Native.Nat.{ℕ, _+_, _-_, _≤_, min}
-use native.Mathlib.Nat.{add-zero, zero-add}
+use native.Mathlib.Nat.{add-zero, add-assoc}
 use native.Mathlib.Omega.{arith}
 use borrow.Author.Tests.{leb-true, leb-false}
 use lib.Dec.{leb}
-use lib.ListN.{length, take, drop, replicate, replicate-append-replicate}
-use lib.Seq.{take-add, drop-drop, drop-append-add, drop-append-le, drop-length}
+use lib.ListN.{length, drop, replicate, length-append, length-replicate, replicate-append-replicate}
+use lib.Seq.{drop-append-add, drop-append-le, drop-length}
+use Rattle.numbers.specs.Firsts.{firsts}
+use Rattle.numbers.proofs.Firsts.{length-firsts, firsts-same, firsts-cut}
 
 -- ---- lists
--- zeros, and behind them a part of l
-module _ {A : Type 0} (x : A) (l : List A) where
+-- zeros, and after them the samples of a rule from a place on
+module _ {A : Type 0} (x : A) (f : ℕ → A) where
   abbrev pub out : ℕ → ℕ → ℕ → List A
-  out zeros from n = replicate zeros x ++ take n (drop from l)
+  out zeros from n = replicate zeros x ++ firsts (λ (i : ℕ). f (from + i)) n
+
+  pub length-out : (z r s : ℕ) → length (out z r s) ≡ z + s
+  length-out z r s = length-append (replicate z x) _ ∙ omega (arith, length-replicate z x, length-firsts (λ (i : ℕ). f (r + i)) s)
+
+  pub nothing-out : (z r s : ℕ) → z + s ≡ 0 → out z r s ≡ []
+  unfolding firsts
+  nothing-out z r s e =
+      let no-zeros : z ≡ 0 = omega arith in
+      let no-samples : s ≡ 0 = omega arith in
+      rw (no-zeros, no-samples)
 
   -- the second piece has no zeros, or the first has nothing else
   pub out-in-pieces : (z z′ r s s′ : ℕ) → (z′ ≡ 0) ⊎ (s ≡ 0) → out (z + z′) r (s + s′) ≡ out z r s ++ out z′ (r + s) s′
-  out-in-pieces z z′ r s s′ (inl e) = rw e (simp (add-zero, take-add, drop-drop, append-assoc))
-  out-in-pieces z z′ r s s′ (inr e) = rw (e, ← replicate-append-replicate) (simp (zero-add, add-zero, append-nil, append-assoc))
+  unfolding firsts
+  out-in-pieces z z′ r s s′ one =
+      let along : firsts (λ (i : ℕ). f (r + (s + i))) s′ ≡ firsts (λ (i : ℕ). f (r + s + i)) s′ = firsts-same _ _ s′ (λ i l. ap f (sym (add-assoc r s i))) in
+      rw (firsts-cut (λ (i : ℕ). f (r + i)) s s′, along) (elim one [
+        | inl e ↦ rw e (simp (add-zero, append-assoc))
+        | inr e ↦ rw (e, ← replicate-append-replicate) (simp (append-nil, append-assoc))
+      ])
 
 -- h and then h′ handed out: at the front of one room, and at the fronts of its two parts. The first part is full then, or the second gets nothing.
 pub rooms-joined : {A : Type 0} (h h′ a b : List A) (k k′ : ℕ) → k ≤ length a → (k ≡ length a) ⊎ ((k′ ≡ 0) × (h′ ≡ [])) → (h ++ h′) ++ drop (k + k′) (a ++ b) ≡ (h ++ drop k a) ++ (h′ ++ drop k′ b)

@@ -13,14 +13,14 @@ use lib.Ieee.Positive.{num, den, den-pos}
 use Rattle.numbers.specs.Within.{Within, reach}
 use Rattle.numbers.specs.Below.{allBelow}
 use Rattle.numbers.proofs.Below.{all-below}
-use Rattle.numbers.proofs.Bounds.{between, within→tests, within-more, mul-within, whole-within}
+use Rattle.numbers.proofs.Bounds.{within-more, between, within→tests, mul-within, whole-within}
 use Rattle.protocol.specs.declared.SyncBurst.the-variants.{EndOfTransmission as EndBurst}
 use Rattle.protocol.specs.Bursts.{signsOf}
 use Rattle.encode.specs.Frames.{preambleSign, endSign}
-use Rattle.modulator.specs.Pulse.{Line, after, pulses}
+use Rattle.pulse.specs.Pulse.{pulses, Line, after}
+use Rattle.pulse.proofs.Pulses.{symbol-inside}
 use Rattle.modulator.specs.Frame.{Symbols, preamble, given, ending, symbolFit}
 use Rattle.modulator.specs.Fit.{pulseFit}
-use Rattle.modulator.proofs.Pulses.{symbol-inside}
 use Rattle.modulator_laws.proofs.Picked.{picked}
 
 -- what holds of a value and of the places of a list is so once it is stored
@@ -75,12 +75,12 @@ within-pulse x w =
     and-i (le low x) (le x high) (both .0) (both .1)
 
 -- ---- the window
-pub window-stays : (e : ℕ → Float) (n : ℕ) (line : Line) (i : ℕ) → ((t : ℕ) → t < n → T (pulseFit (e t))) → T (pulseFit (getD (line .window) i nan))
-    → T (pulseFit (getD (after e n line .window) i nan))
+pub window-stays : (p : ℕ) (e : ℕ → Float) (n : ℕ) (line : Line) (i : ℕ) → ((t : ℕ) → t < n → T (pulseFit (e t))) → T (pulseFit (getD (line .window) i nan))
+    → T (pulseFit (getD (after p e n line .window) i nan))
 unfolding after
-window-stays e zero line i h w = w
-window-stays e (suc n) line i h w =
-    stored (λ (x : Float). T (pulseFit x)) (after e n line .window) (after e n line .cursor) i (e n) nan (h n (omega arith)) (window-stays e n line i (λ t l. h t (omega arith)) w)
+window-stays p e zero line i h w = w
+window-stays p e (suc n) line i h w =
+    stored (λ (x : Float). T (pulseFit x)) (after p e n line .window) (after p e n line .cursor) i (e n) nan (h n (omega arith)) (window-stays p e n line i (λ t l. h t (omega arith)) w)
 
 -- ---- the frames' symbols
 -- no symbol is larger than 1

@@ -1,79 +1,79 @@
--- What the filter sees of a line: its values from the oldest to the newest, wherever the cursor stands. A value that enters is the newest, and each other is one place
--- older; so what is seen hangs on what was seen before and the values that entered, and on nothing else. Assumes nothing.
-use mathlib.Core.Path.{_≡_, sym, ap, _∙_}
-use mathlib.Core.Logic.{⊎-elim, _≢_}
+-- What the filter sees of a line: its values from the oldest to the newest, wherever the cursor is. The ring law, of a stream of values: what is seen depends on what was
+-- seen before and the values that entered, and on nothing else. Assumes nothing.
+use mathlib.Core.Path.{_≡_, refl, sym, ap, _∙_}
+use mathlib.Core.Bool.{cond}
 use Prim.Native.Nat.{ℕ, zero, suc, _+_, _-_, _%_, _≤_, _<_}
-use native.Mathlib.Nat.{zero-add, eq-or-lt-of-le, le-of-suc-le-suc}
+use native.Mathlib.Nat.{add-zero, add-suc, mod-lt, mod-eq-of-lt, add-mod-mod, add-mod-right}
 use native.Mathlib.Omega.{arith}
-use lib.Dec.{lit≤, lit<}
-use lib.ListN.{length, replicate, length-replicate}
-use lib.Seq.{getD-set-same, getD-set-other}
+use borrow.Author.Tests.{lt-ltb, le-ltb}
+use lib.Dec.{ltb, lit≤, lit<}
+use lib.ListN.{length, getD, replicate, length-replicate, getD-replicate}
 use lib.Ieee.{Float, nan, binary32, ofBits}
+use Rattle.numbers.proofs.Ring.{Recent, push}
+use Rattle.shaping.specs.Rate.{tapCount}
 use Rattle.shaping.specs.Sum.{valueAt}
-use Rattle.modulator.specs.Pulse.{Line, pushed, after}
-use Rattle.modulator.proofs.Stream.{cursor-stays, window-keeps}
+use Rattle.pulse.specs.Pulse.{Line, after}
 
--- value i, the oldest being 0 and the newest 80
-abbrev pub view : Line → ℕ → Float
-view line i = valueAt (line .window) (line .cursor) i
+-- value i, the oldest being 0 and the newest 8p
+abbrev pub view : ℕ → Line → ℕ → Float
+view p line i = valueAt p (line .window) (line .cursor) i
 
--- a window of 81 places with the cursor in it
-pub record Ring (line : Line) : Type 0 where
-  pub places : length (line .window) ≡ 81
-  pub inside : line .cursor < 81
+-- the line holds the last 8p + 1 of f 1, .. f n
+abbrev pub Holds : ℕ → (ℕ → Float) → ℕ → Line → Type 0
+Holds p f n line = Recent (tapCount p) nan f n (line .window) (line .cursor)
 
-pub ring-after : (e : ℕ → Float) (n : ℕ) (line : Line) → Ring line → Ring (after e n line)
-ring-after e n line ring = record { places = window-keeps e n line ∙ ring .places; inside = cursor-stays e n line (ring .inside) }
+-- a stream that is what f goes on with
+pub holds-after : (p : ℕ) (e f : ℕ → Float) (n : ℕ) (line : Line) → Holds p f n line → (k : ℕ) → ((j : ℕ) → j < k → f (suc (n + j)) ≡ e j) → Holds p f (n + k) (after p e k line)
+unfolding after
+holds-after p e f n line r zero h = rw (add-zero n) r
+holds-after p e f n line r (suc k) h =
+    rw (add-suc n k)
+    (push (tapCount p) nan f f (n + k) (after p e k line .window) (after p e k line .cursor) (e k) (holds-after p e f n line r k (λ j l. h j (omega arith))) (λ _ _. refl) (h k (omega arith)))
 
--- ---- one value
-module _ (line : Line) (x : Float) (ring : Ring line) where
-  pub newest : view (pushed line x) 80 ≡ x
-  newest =
-      let c = line .cursor in
-      let at : ((c + 1) % 81 + 80) % 81 ≡ c = omega (arith, ring .inside) in
-      rw at (getD-set-same (line .window) c x nan (omega (arith, ring .places, ring .inside)))
+-- ---- a stream that goes into any line
+module _ (p : ℕ) (e : ℕ → Float) (line : Line) (long : tapCount p ≤ length (line .window)) (inside : line .cursor < tapCount p) where
+  -- what the line holds already, and then the stream
+  history : ℕ → Float
+  history k = cond (ltb (tapCount p) k) (e (k - suc (tapCount p))) (view p line (k - 1))
 
-  pub older : (i : ℕ) → i < 80 → view (pushed line x) i ≡ view line (suc i)
-  older i h =
-      let c = line .cursor in
-      let at : ((c + 1) % 81 + i) % 81 ≡ (c + suc i) % 81 = omega arith in
-      let other : (c + suc i) % 81 ≢ c = λ e. omega (arith, ring .inside) in
-      rw at (getD-set-other (line .window) c ((c + suc i) % 81) x nan other)
+  held : (i : ℕ) → i < tapCount p → view p line i ≡ history ((tapCount p + i + 1) - tapCount p)
+  unfolding history
+  held i l =
+      let at : (tapCount p + i + 1) - tapCount p ≡ suc i = omega arith in
+      let same : suc i - 1 ≡ i = omega arith in
+      rw (at, le-ltb (tapCount p) (suc i) l, same)
 
--- ---- a stream of values
-module _ (e : ℕ → Float) (line : Line) (ring : Ring line) where
-  -- what has not been pushed out yet
-  pub view-kept : (n i : ℕ) → n + i < 81 → view (after e n line) i ≡ view line (n + i)
-  unfolding after
-  view-kept zero i h = rw (zero-add i)
-  view-kept (suc n) i h =
-      let along : suc n + i ≡ n + suc i = omega arith in
-      older (after e n line) (e n) (ring-after e n line ring) i (omega arith) ∙ view-kept n (suc i) (omega arith) ∙ ap (view line) (sym along)
+  entering : (j : ℕ) → history (suc (tapCount p + j)) ≡ e j
+  unfolding history
+  entering j =
+      let same : suc (tapCount p + j) - suc (tapCount p) ≡ j = omega arith in
+      rw (lt-ltb (tapCount p) (suc (tapCount p + j)) (omega arith), same)
 
-  -- what has entered
-  pub view-entered : (n i : ℕ) → i < 81 → 81 ≤ n + i → view (after e n line) i ≡ e (n + i - 81)
-  unfolding after
-  view-entered zero i h k = let never : ⊥ = omega arith in absurd never
-  view-entered (suc n) i h k =
-      ⊎-elim
-      (λ (last : i ≡ 80).
-      let this : n ≡ suc n + 80 - 81 = omega arith in
-      rw last (newest (after e n line) (e n) (ring-after e n line ring) ∙ ap e this))
-      (λ (l : i < 80).
-      let along : n + suc i - 81 ≡ suc n + i - 81 = omega arith in
-      older (after e n line) (e n) (ring-after e n line ring) i l ∙ view-entered n (suc i) (omega arith) (omega arith) ∙ ap e along)
-      (eq-or-lt-of-le (le-of-suc-le-suc h))
+  -- once it has gone through, nothing else is seen
+  pub view-entered : (n i : ℕ) → i < tapCount p → tapCount p ≤ n + i → view p (after p e n line) i ≡ e (n + i - tapCount p)
+  view-entered n i l k =
+      let at : (tapCount p + n + i + 1) - tapCount p ≡ suc (tapCount p + (n + i - tapCount p)) = omega arith in
+      holds-after p e history (tapCount p) line (record { long = long; inside = inside; holds = held }) n (λ j _. entering j) .holds i l
+      ∙ ap history at
+      ∙ entering (n + i - tapCount p)
 
--- ---- the hypotheses can be met: a fresh window, and what is seen of it after one value
+-- each place of the window is seen somewhere
+pub place-seen : (p : ℕ) (line : Line) (x : Float) → line .cursor < tapCount p → ((i : ℕ) → i < tapCount p → view p line i ≡ x) → (j : ℕ) → j < tapCount p → getD (line .window) j nan ≡ x
+place-seen p line x inside seen j l =
+    let N = tapCount p in
+    let c = line .cursor in
+    let round : c + (j + (N - c)) ≡ j + N = omega arith in
+    let at : (c + (j + (N - c)) % N) % N ≡ j = add-mod-mod c (j + (N - c)) N ∙ ap (λ (k : ℕ). k % N) round ∙ add-mod-right j N ∙ mod-eq-of-lt l in
+    ap (λ (k : ℕ). getD (line .window) k nan) (sym at) ∙ seen ((j + (N - c)) % N) (mod-lt (j + (N - c)) (omega arith))
+
+-- ---- the hypotheses can be met: a fresh window at 48 kHz, and what is seen of it after one value
 fresh-line : Line
 fresh-line = record { window = replicate 81 (ofBits binary32 0); cursor = 0 }
 
-fresh-ring : Ring fresh-line
+fresh-entered : (e : ℕ → Float) → view 10 (after 10 e 1 fresh-line) 80 ≡ e 0
 unfolding fresh-line
-fresh-ring = record { places = length-replicate 81 (ofBits binary32 0); inside = lit< tt }
+fresh-entered e = view-entered 10 e fresh-line (let n = length-replicate 81 (ofBits binary32 0) in omega arith) (lit< tt) 1 80 (lit< tt) (lit≤ tt)
 
-fresh-entered : (e : ℕ → Float) → view (after e 1 fresh-line) 80 ≡ e 0
-fresh-entered e = view-entered e fresh-line fresh-ring 1 80 (lit< tt) (lit≤ tt)
-
-fresh-kept : (e : ℕ → Float) → view (after e 1 fresh-line) 79 ≡ view fresh-line 80
-fresh-kept e = view-kept e fresh-line fresh-ring 1 79 (lit< tt)
+fresh-place : getD (fresh-line .window) 7 nan ≡ ofBits binary32 0
+unfolding fresh-line
+fresh-place = place-seen 10 fresh-line (ofBits binary32 0) (lit< tt) (λ i l. getD-replicate 81 ((0 + i) % 81) (ofBits binary32 0) nan (mod-lt (0 + i) (lit< tt))) 7 (lit< tt)

@@ -1,98 +1,78 @@
--- `end-frame`: what the end of transmission leaves, from every fit record, reached or made up. Assumes nothing.
-use mathlib.Core.Path.{_≡_, refl, sym, ap, subst, _∙_}
+-- `end-frame`: what the end of transmission leaves, from every fit record, reached or made up. At every rate. Assumes nothing.
+use mathlib.Core.Path.{_≡_, refl, subst, _∙_}
 use mathlib.Core.Bool.{Bool, true, false}
 use mathlib.Core.List.{List}
-use Prim.Native.Nat.{ℕ, zero, suc, _+_, _-_, _%_, _≤_, _<_}
-use native.Mathlib.Nat.{mod-lt}
+use Prim.Native.Nat.{ℕ, suc, _+_, _-_, _*_, _≤_, _<_}
 use native.Mathlib.Omega.{arith}
 use borrow.Author.Tests.{leb-true, leb-false}
-use lib.Dec.{leb, lit<, lit≤}
+use lib.Dec.{leb}
 use lib.IntN.{pos}
-use lib.ListN.{length, getD, take, List·getD-eq-default}
-use lib.Seq.{length-take-le, take-set-lt, getD-take}
+use lib.ListN.{length, getD, List·getD-eq-default}
 use lib.Ieee.{Float, nan, binary32, ofBits}
 use Rattle.numbers.specs.Within.{Within}
-use Rattle.shaping.specs.Taps.{taps}
-use Rattle.shaping.proofs.Table.{taps-number, taps-finite}
+use Rattle.shaping.specs.Rate.{Rate, tapCount}
+use Rattle.shaping.proofs.RateFacts.{Facts}
+use Rattle.pulse.specs.Pulse.{pulses, after, sampleOf, sampleAt}
+use Rattle.pulse.proofs.Stream.{cursor-stays}
 use Rattle.modulator.specs.declared.ModulatorFrame.the-variants.{EndOfTransmission}
 use Rattle.modulator.specs.declared.SoftModulator.{SoftModulator}
-use Rattle.modulator.specs.Pulse.{Line, after, pulses, sampleOf, sampleAt}
 use Rattle.modulator.specs.Frame.{ending}
 use Rattle.modulator.specs.Record.{lineOf, framed}
 use Rattle.modulator.specs.Fit.{recordFit}
-use Rattle.modulator.specs.Calls.{provided, accepted}
-use Rattle.modulator.proofs.Stream.{cursor-stays}
-use Rattle.modulator_laws.proofs.View.{view, Ring, view-entered}
+use Rattle.modulator.specs.Outcome.{frameOutcome}
+use Rattle.modulator.specs.Calls.{settled, provided}
 use Rattle.modulator.proofs.Fitness.{record-facts}
+use Rattle.modulator_laws.proofs.View.{view, view-entered, place-seen}
 use Rattle.modulator_run.specs.EndFrame.{endSamples, silentSamples, EndFrame}
 use Rattle.modulator_run.proofs.NextFrame.{written-at}
 use Rattle.modulator_run.proofs.Flush.{silent-sum, flush-pulse}
 
--- ---- the 81 places that the filter reads, of a window that may be longer
-abbrev trimmed : Line → Line
-trimmed line = record { window = take 81 (line .window); cursor = line .cursor }
-
-trimmed-view : (line : Line) (i : ℕ) → view (trimmed line) i ≡ view line i
-trimmed-view line i = getD-take 81 (line .window) ((line .cursor + i) % 81) nan (mod-lt (line .cursor + i) (lit< tt))
-
-trimmed-after : (e : ℕ → Float) (n : ℕ) (line : Line) → line .cursor < 81 → after e n (trimmed line) ≡ trimmed (after e n line)
-unfolding after
-trimmed-after e zero line h = refl
-trimmed-after e (suc n) line h =
-    rw (trimmed-after e n line h, take-set-lt 81 (after e n line .window) (after e n line .cursor) (e n) (cursor-stays e n line h))
-
 -- a place past the window's end would not be fit
-long-enough : (window : List Float) → Within (getD window 80 nan) 35461 → 81 ≤ length window
-long-enough window w = by-test (leb 81 (length window)) refl
+long-enough : (n : ℕ) (window : List Float) → ((i : ℕ) → i < n → Within (getD window i nan) 35461) → n ≤ length window
+long-enough n window w = by-test (leb n (length window)) refl
   where
-    by-test : (b : Bool) → leb 81 (length window) ≡ b → 81 ≤ length window
-    by-test true e = leb-true 81 (length window) e
+    by-test : (b : Bool) → leb n (length window) ≡ b → n ≤ length window
+    by-test true e = leb-true n (length window) e
     by-test false e =
-        let short : length window ≤ 80 = omega (arith, leb-false 81 (length window) e) in
-        absurd (subst (λ (x : Float). Within x 35461) (List·getD-eq-default window nan short) w .0)
+        let short : length window < n = leb-false n (length window) e in
+        absurd (subst (λ (x : Float). Within x 35461) (List·getD-eq-default window nan (omega arith)) (w (length window) short) .0)
 
--- where a place of the ring is seen
-seen-at : (c j : ℕ) → c < 81 → j < 81 → (c + (j + (81 - c)) % 81) % 81 ≡ j
-seen-at c j h k = omega arith
-
-module _ (m : SoftModulator) (fit : recordFit m ≡ true) where
+module _ (R : Rate) (F : Facts R) (m : SoftModulator) (fit : recordFit (R .p) m ≡ true) where
   abbrev e : ℕ → Float
-  e = pulses 10 (ending .symbol)
+  e = pulses (R .p) (ending .symbol)
 
-  inside : m .«filter_cursor» < 81
-  inside = omega (arith, record-facts m fit .cursor)
+  inside : m .«filter_cursor» < tapCount (R .p)
+  inside = record-facts (R .p) m fit .cursor
 
-  ring : Ring (trimmed (lineOf m))
-  ring = record { places = length-take-le 81 (m .«filter_win») (long-enough (m .«filter_win») (record-facts m fit .window 80 (lit< tt))); inside = inside }
+  some : 0 < R .p
+  some = let u = F .some in omega arith
 
   -- once the last pulse has left, the filter sees zeros
-  all-zero : (n i : ℕ) → 1992 ≤ n → i < 81 → view (after e n (lineOf m)) i ≡ ofBits binary32 0
+  all-zero : (n i : ℕ) → 199 * R .p + 2 ≤ n → i < tapCount (R .p) → view (R .p) (after (R .p) e n (lineOf m)) i ≡ ofBits binary32 0
   all-zero n i late l =
-      sym (trimmed-view (after e n (lineOf m)) i)
-      ∙ ap (λ (line : Line). view line i) (sym (trimmed-after e n (lineOf m) inside))
-      ∙ view-entered e (trimmed (lineOf m)) ring n i l (omega arith)
-      ∙ flush-pulse 10 (lit< tt) (n + i - 81) (omega arith)
+      view-entered (R .p) e (lineOf m) (long-enough (tapCount (R .p)) (m .«filter_win») (record-facts (R .p) m fit .window)) inside n i l (omega arith)
+      ∙ flush-pulse (R .p) some (n + i - tapCount (R .p)) (omega arith)
 
-  silent-sample : (t : ℕ) → 1991 ≤ t → sampleAt e (lineOf m) t ≡ pos 0
+  silent-sample : (t : ℕ) → 199 * R .p + 1 ≤ t → sampleAt R e (lineOf m) t ≡ pos 0
   unfolding sampleOf
-  silent-sample t late = silent-sum taps taps-finite _ (λ i l. all-zero (suc t) i (omega arith) (rw taps-number at l))
+  silent-sample t late = silent-sum (R .taps) (F .finite) _ (λ i l. all-zero (suc t) i (omega arith) (rw (F .number) at l))
 
-  zero-place : (j : ℕ) → j < 81 → getD (after e 2720 (lineOf m) .window) j nan ≡ ofBits binary32 0
-  zero-place j l =
-      let c : ℕ = after e 2720 (lineOf m) .cursor in
-      let h : c < 81 = cursor-stays e 2720 (lineOf m) inside in
-      let i : ℕ = (j + (81 - c)) % 81 in
-      ap (λ (k : ℕ). getD (after e 2720 (lineOf m) .window) k nan) (sym (seen-at c j h l)) ∙ all-zero 2720 i (lit≤ tt) (mod-lt (j + (81 - c)) (lit< tt))
+  zero-place : (j : ℕ) → j < tapCount (R .p) → getD (after (R .p) e (endSamples (R .p)) (lineOf m) .window) j nan ≡ ofBits binary32 0
+  zero-place =
+      let late : 199 * R .p + 2 ≤ endSamples (R .p) = let u = some in omega arith in
+      place-seen (R .p) (after (R .p) e (endSamples (R .p)) (lineOf m)) (ofBits binary32 0) (cursor-stays (R .p) e (endSamples (R .p)) (lineOf m) inside) (λ i l. all-zero (endSamples (R .p)) i late l)
 
-  pub end-frame : (symbols : List Float) → EndFrame m (provided m EndOfTransmission symbols)
-  unfolding provided accepted framed
+  pub end-frame : (symbols : List Float) → EndFrame R m (provided R m EndOfTransmission symbols)
+  unfolding provided settled frameOutcome framed
   end-frame symbols =
       rw fit (record {
         answer = refl;
         number = refl;
         unread = refl;
-        samples = λ i l. written-at (sampleAt e (lineOf m)) 2720 i (m .«next_transmission») l;
-        silence = λ i l. written-at (sampleAt e (lineOf m)) 2720 ((endSamples 10 - silentSamples 10) + i) (m .«next_transmission») (omega arith) ∙ silent-sample ((endSamples 10 - silentSamples 10) + i) (omega arith);
+        samples = λ i l. written-at (sampleAt R e (lineOf m)) (endSamples (R .p)) i (m .«next_transmission») l;
+        silence = λ i l.
+            let t : ℕ = (endSamples (R .p) - silentSamples (R .p)) + i in
+            written-at (sampleAt R e (lineOf m)) (endSamples (R .p)) t (m .«next_transmission») (omega arith) ∙ silent-sample t (omega arith);
         window = zero-place;
         owed = refl;
       })

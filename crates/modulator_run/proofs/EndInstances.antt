@@ -8,19 +8,21 @@ use lib.ListN.{replicate}
 use lib.Ieee.{binary32, ofBits, le}
 use Rattle.numbers.specs.Below.{allBelow}
 use Rattle.numbers.specs.Firsts.{firsts}
-use Rattle.shaping.specs.Taps.{taps}
-use Rattle.shaping.proofs.Table.{taps-number, taps-finite}
+use Rattle.machine.specs.Runs.{run, answers, Each}
+use Rattle.shaping.specs.Rate.{at48}
+use Rattle.shaping.proofs.RateFacts.{facts48}
+use Rattle.pulse.specs.Pulse.{pulses}
 use Rattle.modulator.specs.declared.SoftModulator.{SoftModulator}
 use Rattle.modulator.specs.declared.ModulatorFrame.the-variants.{EndOfTransmission}
-use Rattle.modulator.specs.Pulse.{pulses}
+use Rattle.modulator.specs.Paper.{transmitEnd, idle}
 use Rattle.modulator.specs.Frame.{ending}
 use Rattle.modulator.specs.Record.{fresh}
-use Rattle.modulator.specs.Fit.{recordFit, windowFit, pulseFit}
-use Rattle.modulator.specs.Calls.{transmitEnd, idle, provided}
+use Rattle.modulator.specs.Fit.{pulseFit, windowFit, recordFit}
+use Rattle.modulator.specs.Calls.{provided}
 use Rattle.modulator.specs.Calls.{read as readInto}
 use Rattle.modulator_run.specs.Stream.{sentAt}
-use Rattle.modulator_run.specs.Rules.{Call, provide, update, ask, called, sentFrom, sentAll}
-use Rattle.modulator_run.specs.Run.{left, saidBy, recordAfter, answersFrom, Delay, Given, AllGiven}
+use Rattle.modulator_run.specs.Rules.{Call, provide, update, ask, called, sentAll}
+use Rattle.modulator_run.specs.Run.{left, saidBy, sender, recordAfter, Delay, Given}
 use Rattle.modulator_run.specs.Kinds.{stores, ends, none}
 use Rattle.modulator_run.specs.Reports.{Owed, NewReport, Free, FreeBefore}
 use Rattle.modulator_run.specs.EndFrame.{EndFrame}
@@ -46,19 +48,19 @@ made-up = record {
   buffer = fresh .buffer;
 }
 
-made-up-fit : recordFit made-up ≡ true
+made-up-fit : recordFit 10 made-up ≡ true
 unfolding recordFit windowFit pulseFit allBelow fresh ofBits le
 made-up-fit = refl
 
-made-up-ends : EndFrame made-up (provided made-up EndOfTransmission [])
-made-up-ends = end-frame made-up made-up-fit []
+made-up-ends : EndFrame at48 made-up (provided at48 made-up EndOfTransmission [])
+made-up-ends = end-frame at48 facts48 made-up made-up-fit []
 
 -- by the rules, at ten samples a symbol: behind one symbol the 2,720th sample of the end is zero
 last-flushed : pulses 10 (ending .symbol) 1911 ≡ ofBits binary32 0
 last-flushed = flush-pulse 10 (lit< tt) 1911 (lit< tt)
 
-last-silent : sentAt taps 10 (ofBits binary32 0x3f80_0000 ∷ firsts (ending .symbol) 272) 2730 ≡ pos 0
-last-silent = end-silent 10 (lit< tt) taps taps-finite taps-number (ofBits binary32 0x3f80_0000 ∷ []) 728 (lit< tt)
+last-silent : sentAt at48 (ofBits binary32 0x3f80_0000 ∷ firsts (ending .symbol) 272) 2730 ≡ pos 0
+last-silent = end-silent at48 facts48 (ofBits binary32 0x3f80_0000 ∷ []) 728 (lit< tt)
 
 -- ---- two ends, an update and a request; then another end, another update and a request
 abbrev end : Call
@@ -68,12 +70,12 @@ owed-twice : Owed (end ∷ end ∷ [])
 unfolding ends none
 owed-twice = record { before = end ∷ []; call = end; since = []; parts = refl; started = tt; unstopped = tt }
 
-owed-is : owed (sentAll taps 10 (end ∷ end ∷ [])) ≡ true
-owed-is = owed-exactly taps 10 (end ∷ end ∷ []) .1 owed-twice
+owed-is : owed (sentAll at48 (end ∷ end ∷ [])) ≡ true
+owed-is = owed-exactly at48 (end ∷ end ∷ []) .1 owed-twice
 
-first-told : called taps 10 (sentAll taps 10 (end ∷ end ∷ update 100 3000 50 ∷ [])) ask .said .answer ≡ transmitEnd 150
+first-told : called at48 (sentAll at48 (end ∷ end ∷ update 100 3000 50 ∷ [])) ask .said .answer ≡ transmitEnd 150
 unfolding stores none
-first-told = told-next taps 10 (end ∷ end ∷ []) owed-twice 100 3000 50 tt [] tt reporting-none
+first-told = told-next at48 (end ∷ end ∷ []) owed-twice 100 3000 50 tt [] tt reporting-none
 
 abbrev earlier : List Call
 earlier = end ∷ end ∷ update 100 3000 50 ∷ []
@@ -83,25 +85,25 @@ owed-again : (cs : List Call) → Owed (cs ++ end ∷ [])
 unfolding ends none
 owed-again cs = record { before = cs; call = end; since = []; parts = refl; started = tt; unstopped = tt }
 
-second-told : called taps 10 (sentAll taps 10 (end ∷ end ∷ update 100 3000 50 ∷ ask ∷ end ∷ update 7 2500 3 ∷ [])) ask .said .answer ≡ transmitEnd 10
+second-told : called at48 (sentAll at48 (end ∷ end ∷ update 100 3000 50 ∷ ask ∷ end ∷ update 7 2500 3 ∷ [])) ask .said .answer ≡ transmitEnd 10
 unfolding stores none
-second-told = told-next taps 10 (end ∷ end ∷ update 100 3000 50 ∷ ask ∷ end ∷ []) (owed-again (end ∷ end ∷ update 100 3000 50 ∷ ask ∷ [])) 7 2500 3 tt [] tt reporting-none
+second-told = told-next at48 (end ∷ end ∷ update 100 3000 50 ∷ ask ∷ end ∷ []) (owed-again (end ∷ end ∷ update 100 3000 50 ∷ ask ∷ [])) 7 2500 3 tt [] tt reporting-none
 
 second-new : NewReport earlier (end ∷ update 7 2500 3 ∷ []) 10
-second-new = told-once taps 10 earlier (end ∷ update 7 2500 3 ∷ []) 10 second-told
+second-new = told-once at48 earlier (end ∷ update 7 2500 3 ∷ []) 10 second-told
 
 -- the first report is replaced where it was not told
-replaced : called taps 10 (sentAll taps 10 (end ∷ end ∷ update 100 3000 50 ∷ end ∷ update 7 2500 3 ∷ [])) ask .said .answer ≡ transmitEnd 10
+replaced : called at48 (sentAll at48 (end ∷ end ∷ update 100 3000 50 ∷ end ∷ update 7 2500 3 ∷ [])) ask .said .answer ≡ transmitEnd 10
 unfolding stores none
-replaced = told-next taps 10 (end ∷ end ∷ update 100 3000 50 ∷ end ∷ []) (owed-again (end ∷ end ∷ update 100 3000 50 ∷ [])) 7 2500 3 tt [] tt reporting-none
+replaced = told-next at48 (end ∷ end ∷ update 100 3000 50 ∷ end ∷ []) (owed-again (end ∷ end ∷ update 100 3000 50 ∷ [])) 7 2500 3 tt [] tt reporting-none
 
-earlier-given : AllGiven earlier
-unfolding AllGiven Given Delay
+earlier-given : Each Given earlier
+unfolding Each Given Delay
 earlier-given = (tt, (tt, (tt, tt)))
 
-told-of-record : left (recordAfter earlier) ask .answer ≡ transmitEnd 150
+told-of-record : left at48 (recordAfter at48 earlier) ask .answer ≡ transmitEnd 150
 unfolding stores none
-told-of-record = told-by-record earlier earlier-given 150 .1 (record {
+told-of-record = told-by-record at48 facts48 earlier earlier-given 150 .1 (record {
   report = record { before = end ∷ end ∷ []; fill = 100; capacity = 3000; latency = 50; since = []; parts = refl; taken = tt; owed = owed-twice };
   samples = refl;
   unasked = tt;
@@ -109,28 +111,28 @@ told-of-record = told-by-record earlier earlier-given 150 .1 (record {
 })
 
 -- ---- the first request of all
-free-at-first : Free (sentAll taps 10 [])
-unfolding sentFrom
+free-at-first : Free (sentAll at48 [])
+unfolding run
 free-at-first = record { no-report = refl; all-read = lit≤ tt }
 
-none-earlier : FreeBefore taps 10 [] → ⊥
+none-earlier : FreeBefore at48 [] → ⊥
 none-earlier f = no-parts (f .before) ask (f .since) (f .parts)
 
-idle-at-first : called taps 10 (sentAll taps 10 []) ask .said .answer ≡ idle true
-idle-at-first = idle-first taps 10 [] free-at-first none-earlier
+idle-at-first : called at48 (sentAll at48 []) ask .said .answer ≡ idle true
+idle-at-first = idle-first at48 [] free-at-first none-earlier
 
-idle-because : (true ≡ true) × Free (sentAll taps 10 []) × (FreeBefore taps 10 [] → ⊥)
-idle-because = idle-only taps 10 [] true idle-at-first
+idle-because : (true ≡ true) × Free (sentAll at48 []) × (FreeBefore at48 [] → ⊥)
+idle-because = idle-only at48 [] true idle-at-first
 
-idle-of-record : left (recordAfter []) ask .answer ≡ idle true
-idle-of-record = idle-by-record [] (unfold AllGiven in tt) .1 (free-at-first, none-earlier)
+idle-of-record : left at48 (recordAfter at48 []) ask .answer ≡ idle true
+idle-of-record = idle-by-record at48 facts48 [] (unfold Each Given in tt) .1 (free-at-first, none-earlier)
 
 -- ---- three rooms, one of them empty
 abbrev rooms : List (List ℤ)
 rooms = (pos 1 ∷ pos 2 ∷ []) ∷ [] ∷ (pos 3 ∷ []) ∷ []
 
-made-up-read : SameLeft made-up rooms
-made-up-read = pieces-left rooms made-up made-up-fit
+made-up-read : SameLeft at48 made-up rooms
+made-up-read = pieces-left at48 rooms made-up made-up-fit
 
-opening-read-on : SameAs (answersFrom (recordAfter opening) (reads rooms)) (saidBy (readInto (recordAfter opening) (flatten rooms)))
-opening-read-on = pieces-read opening opening-given rooms
+opening-read-on : SameAs (answers (sender at48) (recordAfter at48 opening) (reads rooms)) (saidBy (readInto at48 (recordAfter at48 opening) (flatten rooms)))
+opening-read-on = pieces-read at48 facts48 opening opening-given rooms

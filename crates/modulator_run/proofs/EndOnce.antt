@@ -5,12 +5,13 @@ use mathlib.Core.Bool.{true, false, not}
 use mathlib.Core.List.{List, [], _∷_, _++_}
 use Prim.Native.Nat.{ℕ, _+_}
 use lib.Dec.{T}
-use lib.Ieee.{Float}
 use lib.Ieee.Fits.{and-r}
-use Rattle.shaping.specs.Taps.{taps}
-use Rattle.modulator.specs.Calls.{transmitEnd}
+use Rattle.machine.specs.Runs.{Each}
+use Rattle.shaping.specs.Rate.{Rate}
+use Rattle.shaping.proofs.RateFacts.{Facts}
+use Rattle.modulator.specs.Paper.{transmitEnd}
 use Rattle.modulator_run.specs.Rules.{Call, update, ask, Said, called, sentAll}
-use Rattle.modulator_run.specs.Run.{left, recordAfter, AllGiven}
+use Rattle.modulator_run.specs.Run.{left, recordAfter, Given}
 use Rattle.modulator_run.specs.Kinds.{stores, asks, none}
 use Rattle.modulator_run.specs.Reports.{Owed, Reporting, Untold, NewReport}
 use Rattle.modulator_run.proofs.SenderRun.{next-call}
@@ -44,15 +45,15 @@ behind (a ∷ cs) ds (b ∷ before) c since q t e =
     longer : Behind cs ds before c since → a ≡ b → Behind (a ∷ cs) ds (b ∷ before) c since
     longer r same = record { between = r .between; first = ap (λ (l : List Call). b ∷ l) (r .first) ∙ ap (λ (d : Call). d ∷ (cs ++ ask ∷ r .between)) (sym same); second = r .second }
 
-module _ (table : List Float) (p : ℕ) where
+module _ (R : Rate) where
   abbrev answer : List Call → Said
-  answer cs = called table p (sentAll table p cs) ask .said
+  answer cs = called R (sentAll R cs) ask .said
 
   -- An update that finds an end owed, by one end or by several, makes one report, in place of an untold one: the next request is answered with it.
   pub told-next : (before : List Call) → Owed before → (fill capacity latency : ℕ) → T (stores (update fill capacity latency)) → (since : List Call) → T (none asks since) → (Reporting since → ⊥)
       → answer (before ++ update fill capacity latency ∷ since) .answer ≡ transmitEnd (fill + latency)
   told-next before o fill capacity latency t since quiet newest =
-      told-exactly table p (before ++ update fill capacity latency ∷ since) (fill + latency) .1 (record {
+      told-exactly R (before ++ update fill capacity latency ∷ since) (fill + latency) .1 (record {
         report = record { before = before; fill = fill; capacity = capacity; latency = latency; since = since; parts = refl; taken = t; owed = o };
         samples = refl;
         unasked = quiet;
@@ -61,15 +62,15 @@ module _ (table : List Float) (p : ℕ) where
 
   pub one-report : (cs : List Call) (m n : ℕ) → Untold cs m → Untold cs n → m ≡ n
   one-report cs m n a b =
-      let x = told-exactly table p cs m .1 a in
-      let y = told-exactly table p cs n .1 b in
+      let x = told-exactly R cs m .1 a in
+      let y = told-exactly R cs n .1 b in
       cc
 
   -- No later request is, until another update finds an end owed.
   pub told-once : (cs ds : List Call) (n : ℕ) → answer (cs ++ ask ∷ ds) .answer ≡ transmitEnd n → NewReport cs ds n
   unfolding asks
   told-once cs ds n e =
-      let u = told-exactly table p (cs ++ ask ∷ ds) n .0 e in
+      let u = told-exactly R (cs ++ ask ∷ ds) n .0 e in
       let r = u .report in
       let b = behind cs ds (r .before) (update (r .fill) (r .capacity) (r .latency)) (r .since) refl (u .unasked) (r .parts) in
       record {
@@ -85,8 +86,8 @@ module _ (table : List Float) (p : ℕ) where
       }
 
 -- ---- the record, from a fresh start
-pub told-by-record : (cs : List Call) → AllGiven cs → (n : ℕ) → (left (recordAfter cs) ask .answer ≡ transmitEnd n) ↔ Untold cs n
-told-by-record cs g n =
-    let same = ap (λ (a : Said). a .answer) (next-call cs g ask) in
-    let told = told-exactly taps 10 cs n in
+pub told-by-record : (R : Rate) → Facts R → (cs : List Call) → Each Given cs → (n : ℕ) → (left R (recordAfter R cs) ask .answer ≡ transmitEnd n) ↔ Untold cs n
+told-by-record R F cs g n =
+    let same = ap (λ (a : Said). a .answer) (next-call R F cs g ask) in
+    let told = told-exactly R cs n in
     (λ e. told .0 (sym same ∙ e), λ u. same ∙ told .1 u)

@@ -11,8 +11,8 @@ use lib.Dec.{eqb, ltb}
 use lib.ListN.{length, getD, replicate, length-replicate, getD-replicate, List·getD-append}
 use lib.Seq.{getD-append-add}
 use lib.Ieee.{Float, binary32, ofBits, mul}
-use Rattle.modulator.specs.Pulse.{pulses}
-use Rattle.modulator.proofs.Pulses.{gap}
+use Rattle.pulse.specs.Pulse.{pulses}
+use Rattle.pulse.proofs.Pulses.{gap}
 use Rattle.modulator_run.specs.Stream.{entered, enteringAt}
 
 -- symbol i, and 0.0 past the last

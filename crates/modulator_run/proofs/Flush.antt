@@ -1,4 +1,4 @@
--- The zeros behind the end of transmission: they enter as 0.0, and a window of zeros makes a zero sample, with any finite table. Over p. Assumes nothing.
+-- The zeros after the end of transmission: they enter as 0.0, and a window of zeros makes a zero sample, with any finite table. Assumes nothing.
 use mathlib.Core.Path.{_≡_, refl, ap, _∙_}
 use mathlib.Core.Bool.{Bool, true, false, cond}
 use mathlib.Core.List.{List, _++_}
@@ -15,11 +15,12 @@ use Rattle.numbers.specs.Sum.{nought, totalTo}
 use Rattle.numbers.specs.Within.{reach}
 use Rattle.numbers.specs.Firsts.{firsts}
 use Rattle.numbers.proofs.Bounds.{cut-within}
+use Rattle.shaping.specs.Rate.{Rate}
 use Rattle.shaping.specs.Sum.{dot}
 use Rattle.shaping.specs.Reach.{Finite, sumReach}
-use Rattle.shaping.specs.Phase.{tapCount}
+use Rattle.shaping.proofs.RateFacts.{Facts}
 use Rattle.shaping.proofs.Reach.{dot-limit}
-use Rattle.modulator.specs.Pulse.{pulses}
+use Rattle.pulse.specs.Pulse.{pulses}
 use Rattle.modulator.specs.Frame.{ending}
 use Rattle.modulator_run.specs.Stream.{enteringAt, sentAt}
 use Rattle.modulator_run.specs.EndFrame.{endSamples, silentSamples}
@@ -68,15 +69,17 @@ module _ (p : ℕ) (some : 0 < p) where
       by-test true e = rw (le-ltb (t / p) 192 (flushed t l (eqb-true (t % p) 0 e))) no-pulse
       by-test false e = refl
 
-  -- ---- the stream
-  -- behind any symbols, the last 73p - 1 samples of the end are zero
-  pub end-silent : (table : List Float) → Finite table → length table ≡ tapCount p → (xs : List Float) (i : ℕ) → i < silentSamples p
-      → sentAt table p (xs ++ firsts (ending .symbol) (ending .count)) (p * length xs + ((endSamples p - silentSamples p) + i) + 1) ≡ pos 0
-  unfolding sentAt
-  end-silent table fine size xs i l =
-      silent-sum table fine _ λ j k.
-      let t : ℕ = (191 * p + 1) + (i + j) in
-      let at : (p * length xs + ((endSamples p - silentSamples p) + i) + 1 + j) - 8 * p ≡ suc (p * length xs + t) = omega arith in
-      ap (enteringAt p (xs ++ firsts (ending .symbol) (ending .count))) at
-      ∙ entering-new p xs (ending .symbol) (ending .count) t (omega (arith, size))
-      ∙ flush-pulse t (omega arith)
+-- ---- the stream
+-- after any symbols, the last 73p - 1 samples of the end are zero
+pub end-silent : (R : Rate) → Facts R → (xs : List Float) (i : ℕ) → i < silentSamples (R .p)
+    → sentAt R (xs ++ firsts (ending .symbol) (ending .count)) (R .p * length xs + ((endSamples (R .p) - silentSamples (R .p)) + i) + 1) ≡ pos 0
+unfolding sentAt
+end-silent R F xs i l =
+    silent-sum (R .taps) (F .finite) _ λ j k.
+    let p = R .p in
+    let some : 0 < p = let u = F .some in omega arith in
+    let t : ℕ = (191 * p + 1) + (i + j) in
+    let at : (p * length xs + ((endSamples p - silentSamples p) + i) + 1 + j) - 8 * p ≡ suc (p * length xs + t) = omega arith in
+    ap (enteringAt p (xs ++ firsts (ending .symbol) (ending .count))) at
+    ∙ entering-new p xs (ending .symbol) (ending .count) t (omega (arith, F .number))
+    ∙ flush-pulse p some t (omega arith)

@@ -1,16 +1,13 @@
--- A list of calls by its last call: what the rules have sent after it, what they said on the way, and how such a list is taken apart. Assumes nothing.
-use mathlib.Core.Path.{_≡_, refl, ap}
+-- A list of calls by its last call, and how such a list is taken apart. Assumes nothing.
+use mathlib.Core.Path.{_≡_, refl}
 use mathlib.Core.Logic.{_⊎_, inl, inr}
 use mathlib.Core.Bool.{Bool, true, false, not, _&&_}
 use mathlib.Core.List.{List, [], _∷_, _++_, append-assoc, append-nil}
 use Prim.Native.Nat.{ℕ}
 use native.Mathlib.Omega.{arith}
 use lib.Dec.{T}
-use lib.Ieee.{Float}
 use lib.Ieee.Fits.{and-i, and-l, and-r}
-use Rattle.modulator.specs.declared.SoftModulator.{SoftModulator}
-use Rattle.modulator_run.specs.Rules.{Call, Sent, Said, called, sentFrom, saidFrom}
-use Rattle.modulator_run.specs.Run.{left, saidBy, recordFrom, answersFrom}
+use Rattle.modulator_run.specs.Rules.{Call}
 use Rattle.modulator_run.specs.Kinds.{none}
 
 -- ---- one more call
@@ -21,30 +18,6 @@ by-last P base step cs = go [] base cs
     go : (front : List Call) → P front → (rest : List Call) → P (front ++ rest)
     go front h [] = rw (append-nil front) h
     go front h (c ∷ rest) = rw append-assoc at (go (front ++ c ∷ []) (step front c h) rest)
-
-module _ (table : List Float) (p : ℕ) where
-  pub sent-behind : (s : Sent) (cs ds : List Call) → sentFrom table p s (cs ++ ds) ≡ sentFrom table p (sentFrom table p s cs) ds
-  unfolding sentFrom
-  sent-behind s [] ds = refl
-  sent-behind s (c ∷ cs) ds = sent-behind (called table p s c .sent) cs ds
-
-  pub sent-last : (s : Sent) (cs : List Call) (c : Call) → sentFrom table p s (cs ++ c ∷ []) ≡ called table p (sentFrom table p s cs) c .sent
-  unfolding sentFrom
-  sent-last s cs c = sent-behind s cs (c ∷ [])
-
-  -- each call is answered from where the calls before it lead
-  pub said-in-place : (s : Sent) (cs : List Call) (c : Call) (ds : List Call)
-      → saidFrom table p s (cs ++ c ∷ ds) ≡ saidFrom table p s cs ++ called table p (sentFrom table p s cs) c .said ∷ saidFrom table p (called table p (sentFrom table p s cs) c .sent) ds
-  unfolding sentFrom saidFrom
-  said-in-place s [] c ds = refl
-  said-in-place s (b ∷ cs) c ds = ap (λ (l : List Said). called table p s b .said ∷ l) (said-in-place (called table p s b .sent) cs c ds)
-
--- and so with the record
-pub answers-in-place : (m : SoftModulator) (cs : List Call) (c : Call) (ds : List Call)
-    → answersFrom m (cs ++ c ∷ ds) ≡ answersFrom m cs ++ saidBy (left (recordFrom m cs) c) ∷ answersFrom (left (recordFrom m cs) c .modulator) ds
-unfolding recordFrom answersFrom
-answers-in-place m [] c ds = refl
-answers-in-place m (b ∷ cs) c ds = ap (λ (l : List Said). saidBy (left m b) ∷ l) (answers-in-place (left m b .modulator) cs c ds)
 
 -- ---- no call of a kind
 module _ (kind : Call → Bool) where

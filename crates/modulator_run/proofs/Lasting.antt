@@ -3,14 +3,15 @@ use mathlib.Core.Path.{_≡_, refl, sym, ap, subst, _∙_}
 use mathlib.Core.Logic.{_↔_}
 use mathlib.Core.Bool.{Bool, true, false, not, cond}
 use mathlib.Core.List.{List, [], _∷_, _++_, append-assoc}
-use Prim.Native.Nat.{ℕ}
 use lib.Dec.{T}
-use lib.Ieee.{Float}
 use lib.Ieee.Bits.{is-true}
 use lib.Ieee.Fits.{and-l, and-r}
-use Rattle.modulator_run.specs.Rules.{Call, Sent, called, sentFrom}
+use Rattle.machine.specs.Runs.{run}
+use Rattle.machine.proofs.Parts.{run-joined, run-last}
+use Rattle.shaping.specs.Rate.{Rate}
+use Rattle.modulator_run.specs.Rules.{Call, Sent, called, rules}
 use Rattle.modulator_run.specs.Kinds.{none, Lasting}
-use Rattle.modulator_run.proofs.LastCall.{by-last, sent-behind, sent-last, none-more}
+use Rattle.modulator_run.proofs.LastCall.{by-last, none-more}
 
 module _ (starts stops : Call → Bool) where
   -- whether it is there after a call, by whether it was before
@@ -47,35 +48,35 @@ module _ (starts stops : Call → Bool) where
       by-tests false s false t e = lasting-more cs c t (h e)
 
 -- ---- a flag of what the rules have sent, by one call and by all
-module _ (table : List Float) (p : ℕ) (starts stops : Call → Bool) (flag : Sent → Bool)
-    (next : (s : Sent) (c : Call) → flag (called table p s c .sent) ≡ lasted starts stops c (flag s))
+module _ (R : Rate) (starts stops : Call → Bool) (flag : Sent → Bool)
+    (next : (s : Sent) (c : Call) → flag (called R s c .sent) ≡ lasted starts stops c (flag s))
   where
-    still-there : (cs : List Call) (s : Sent) → flag s ≡ true → T (none stops cs) → flag (sentFrom table p s cs) ≡ true
-    unfolding sentFrom none
+    still-there : (cs : List Call) (s : Sent) → flag s ≡ true → T (none stops cs) → flag (run (rules R) s cs) ≡ true
+    unfolding run none
     still-there [] s e t = e
     still-there (c ∷ cs) s e t =
         let kept = unstopped-by starts stops c (and-l (not (stops c)) (none stops cs) t) in
-        still-there cs (called table p s c .sent) (next s c ∙ ap (lasted starts stops c) e ∙ kept) (and-r (not (stops c)) (none stops cs) t)
+        still-there cs (called R s c .sent) (next s c ∙ ap (lasted starts stops c) e ∙ kept) (and-r (not (stops c)) (none stops cs) t)
 
     -- from where it is not there
     module _ (s : Sent) (free : flag s ≡ false) where
-      there-after : (cs : List Call) → Lasting starts stops cs → flag (sentFrom table p s cs) ≡ true
-      unfolding sentFrom
+      there-after : (cs : List Call) → Lasting starts stops cs → flag (run (rules R) s cs) ≡ true
+      unfolding run
       there-after cs l =
-          let before : Sent = sentFrom table p s (l .before) in
-          ap (λ (ds : List Call). flag (sentFrom table p s ds)) (l .parts)
-          ∙ ap flag (sent-behind table p s (l .before) (l .call ∷ l .since))
-          ∙ still-there (l .since) (called table p before (l .call) .sent) (next before (l .call) ∙ started-by starts stops (l .call) (flag before) (l .started)) (l .unstopped)
+          let before : Sent = run (rules R) s (l .before) in
+          ap (λ (ds : List Call). flag (run (rules R) s ds)) (l .parts)
+          ∙ ap flag (run-joined (rules R) (l .before) (l .call ∷ l .since) s)
+          ∙ still-there (l .since) (called R before (l .call) .sent) (next before (l .call) ∙ started-by starts stops (l .call) (flag before) (l .started)) (l .unstopped)
 
-      not-yet : flag (sentFrom table p s []) ≡ true → ⊥
-      unfolding sentFrom
+      not-yet : flag (run (rules R) s []) ≡ true → ⊥
+      unfolding run
       not-yet e = subst T (sym e ∙ free) tt
 
-      there-by : (cs : List Call) → flag (sentFrom table p s cs) ≡ true → Lasting starts stops cs
+      there-by : (cs : List Call) → flag (run (rules R) s cs) ≡ true → Lasting starts stops cs
       there-by =
-          by-last (λ (cs : List Call). flag (sentFrom table p s cs) ≡ true → Lasting starts stops cs)
+          by-last (λ (cs : List Call). flag (run (rules R) s cs) ≡ true → Lasting starts stops cs)
           (λ e. absurd (not-yet e))
-          (λ cs c before e. lasting-last starts stops cs c (flag (sentFrom table p s cs)) before (sym (next (sentFrom table p s cs) c) ∙ ap flag (sym (sent-last table p s cs c)) ∙ e))
+          (λ cs c before e. lasting-last starts stops cs c (flag (run (rules R) s cs)) before (sym (next (run (rules R) s cs) c) ∙ ap flag (sym (run-last (rules R) cs c s)) ∙ e))
 
-      pub lasting-exactly : (cs : List Call) → (flag (sentFrom table p s cs) ≡ true) ↔ Lasting starts stops cs
+      pub lasting-exactly : (cs : List Call) → (flag (run (rules R) s cs) ≡ true) ↔ Lasting starts stops cs
       lasting-exactly cs = (there-by cs, there-after cs)

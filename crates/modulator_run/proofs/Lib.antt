@@ -37,7 +37,6 @@ pub mod Padding
 pub mod Flush
 pub mod EndFrame
 -- reads in pieces
-pub mod TwoPieces
 pub mod AnyPieces
 -- examples, computed
 pub mod Worked

@@ -1,4 +1,4 @@
--- A stream of symbols with more symbols behind it: what entered before them is as it was, and then the new ones enter. Assumes nothing.
+-- A stream of symbols with more symbols after it: what entered before them is as it was, and then the new ones enter. Assumes nothing.
 use mathlib.Core.Path.{_≡_, refl, sym, ap, _∙_}
 use mathlib.Core.List.{List, _++_}
 use Prim.Native.Nat.{ℕ, zero, suc, _+_, _-_, _*_, _/_, _≤_, _<_}
@@ -9,10 +9,11 @@ use lib.Seq.{getD-append-add}
 use lib.Ieee.{Float, binary32, ofBits, toSigned}
 use Rattle.numbers.specs.Firsts.{firsts}
 use Rattle.numbers.proofs.Firsts.{firsts-at}
-use Rattle.shaping.specs.Phase.{tapCount}
+use Rattle.shaping.specs.Rate.{Rate}
+use Rattle.shaping.proofs.RateFacts.{Facts}
 use Rattle.shaping.proofs.Dot.{dot-same}
-use Rattle.modulator.specs.Pulse.{pulses}
-use Rattle.modulator.proofs.Pulses.{symbol-inside, pulses-same}
+use Rattle.pulse.specs.Pulse.{pulses}
+use Rattle.pulse.proofs.Pulses.{symbol-inside, pulses-same}
 use Rattle.modulator_run.specs.Stream.{enteringAt, sentAt}
 use Rattle.modulator_run.proofs.Entered.{symbolNo, entering-pulse}
 
@@ -41,8 +42,8 @@ module _ (p : ℕ) (xs : List Float) where
       let some = some-made p n t h in
       rw (entering-pulse p some (xs ++ firsts symbol n) (p * length xs + t), place t some, mul-add-mod-self-left p (length xs) t, getD-append-add xs (firsts symbol n) (t / p) (ofBits binary32 0), firsts-at symbol n (t / p) (ofBits binary32 0) (symbol-inside p n t h))
 
-  -- a sample is made of what has entered with it
-  pub sent-old : (table : List Float) → length table ≡ tapCount p → (ys : List Float) (t : ℕ) → t ≤ p * length xs → sentAt table p (xs ++ ys) t ≡ sentAt table p xs t
-  unfolding sentAt
-  sent-old table size ys t h =
-      ap (toSigned 15) (dot-same table _ _ λ i l. entering-old ys ((t + i) - 8 * p) (omega (arith, size, h, l)))
+-- a sample is made of what has entered with it
+pub sent-old : (R : Rate) → Facts R → (xs ys : List Float) (t : ℕ) → t ≤ R .p * length xs → sentAt R (xs ++ ys) t ≡ sentAt R xs t
+unfolding sentAt
+sent-old R F xs ys t h =
+    ap (toSigned 15) (dot-same (R .taps) _ _ λ i l. entering-old (R .p) xs ys ((t + i) - 8 * R .p) (omega (arith, F .number, h, l)))

@@ -5,11 +5,12 @@ use mathlib.Core.Bool.{Bool, false, not}
 use mathlib.Core.List.{List, [], _∷_, List·Memᴰ, List·Memᴰ·not-nil, List·Memᴰ·cases-cons}
 use Prim.Native.Nat.{ℕ}
 use lib.Dec.{T, eqb}
-use lib.Ieee.{Float}
-use Rattle.shaping.specs.Taps.{taps}
-use Rattle.modulator.specs.Calls.{Paper, refusal, done, wrote, transmitEnd, readOutput, idle, getFrame, nothing}
-use Rattle.modulator_run.specs.Rules.{Call, Sent, Said, After, start, drained, called, saidFrom}
-use Rattle.modulator_run.specs.Run.{answersTo, AllGiven}
+use Rattle.machine.specs.Runs.{answers, Each}
+use Rattle.shaping.specs.Rate.{Rate}
+use Rattle.shaping.proofs.RateFacts.{Facts}
+use Rattle.modulator.specs.Paper.{Paper, refusal, done, wrote, transmitEnd, readOutput, idle, getFrame, nothing}
+use Rattle.modulator_run.specs.Rules.{Call, Sent, Said, After, start, drained, called, rules}
+use Rattle.modulator_run.specs.Run.{answersTo, Given}
 use Rattle.modulator_run.proofs.EachCall.{Refusing, miscounted, outside, large, below, each-call}
 use Rattle.modulator_run.proofs.SenderRun.{sender-run}
 
@@ -30,11 +31,11 @@ other-number c number outside = tt
 other-number c number (large e) = tt
 other-number c number (below e) = tt
 
-module _ (table : List Float) (p : ℕ) where
-  fine-called : (s : Sent) (c : Call) → T (not (unfit (called table p s c .said .answer)))
+module _ (R : Rate) where
+  fine-called : (s : Sent) (c : Call) → T (not (unfit (called R s c .said .answer)))
   unfolding drained
   fine-called s =
-      each-call table p s (λ (_ : Call) (a : After). T (not (unfit (a .said .answer)))) (record {
+      each-call R s (λ (_ : Call) (a : After). T (not (unfit (a .said .answer)))) (record {
         refused = other-number;
         no-frame = λ _. tt;
         delayed = λ _ _. tt;
@@ -49,17 +50,16 @@ module _ (table : List Float) (p : ℕ) where
         rests = λ _ _ _. tt;
       })
 
-  fine-all : (cs : List Call) (s : Sent) (a : Said) → List·Memᴰ a (saidFrom table p s cs) → T (not (unfit (a .answer)))
-  unfolding saidFrom
+  fine-all : (cs : List Call) (s : Sent) (a : Said) → List·Memᴰ a (answers (rules R) s cs) → T (not (unfit (a .answer)))
+  unfolding answers
   fine-all [] s a i = absurd (List·Memᴰ·not-nil i)
   fine-all (c ∷ cs) s a i = elim (List·Memᴰ·cases-cons i) [
     | inl e ↦ subst (λ (b : Said). T (not (unfit (b .answer)))) (sym e) (fine-called s c)
-    | inr j ↦ fine-all cs (called table p s c .sent) a j
+    | inr j ↦ fine-all cs (called R s c .sent) a j
   ]
 
-  -- for every p and every table
-  pub rules-never-unfit : (cs : List Call) (s : Sent) (a : Said) → List·Memᴰ a (saidFrom table p s cs) → a .answer ≡ refusal 1 → ⊥
+  pub rules-never-unfit : (cs : List Call) (s : Sent) (a : Said) → List·Memᴰ a (answers (rules R) s cs) → a .answer ≡ refusal 1 → ⊥
   rules-never-unfit cs s a i e = subst (λ (b : Paper). T (not (unfit b))) e (fine-all cs s a i)
 
-pub never-unfit : (cs : List Call) → AllGiven cs → (a : Said) → List·Memᴰ a (answersTo cs) → a .answer ≡ refusal 1 → ⊥
-never-unfit cs g a i = rules-never-unfit taps 10 cs start a (rw (sender-run cs g .1) at i)
+pub never-unfit : (R : Rate) → Facts R → (cs : List Call) → Each Given cs → (a : Said) → List·Memᴰ a (answersTo R cs) → a .answer ≡ refusal 1 → ⊥
+never-unfit R F cs g a i = rules-never-unfit R cs start a (rw (sender-run R F cs g .1) at i)

@@ -4,8 +4,9 @@ use mathlib.Core.Logic.{_↔_}
 use mathlib.Core.Bool.{Bool, true, false}
 use mathlib.Core.List.{List}
 use Prim.Native.Nat.{ℕ}
-use lib.Ieee.{Float}
-use Rattle.modulator_run.specs.Rules.{Call, Sent, After, start, framed, drained, called, sentFrom, sentAll}
+use Rattle.machine.specs.Runs.{run}
+use Rattle.shaping.specs.Rate.{Rate}
+use Rattle.modulator_run.specs.Rules.{Call, Sent, After, start, framed, drained, called, rules, sentAll}
 use Rattle.modulator_run.specs.Kinds.{stores, ends}
 use Rattle.modulator_run.specs.Reports.{Owed}
 use Rattle.modulator_run.proofs.EachCall.{Refusing, miscounted, outside, large, below, each-call}
@@ -21,11 +22,11 @@ refused-owed c number o outside = refl
 refused-owed c number o (large e) = rw e
 refused-owed c number o (below e) = rw e
 
-module _ (table : List Float) (p : ℕ) where
-  pub owed-next : (s : Sent) (c : Call) → owed (called table p s c .sent) ≡ lasted ends stores c (owed s)
+module _ (R : Rate) where
+  pub owed-next : (s : Sent) (c : Call) → owed (called R s c .sent) ≡ lasted ends stores c (owed s)
   unfolding ends stores framed drained
   owed-next s =
-      each-call table p s (λ (c : Call) (a : After). owed (a .sent) ≡ lasted ends stores c (owed s)) (record {
+      each-call R s (λ (c : Call) (a : After). owed (a .sent) ≡ lasted ends stores c (owed s)) (record {
         refused = λ c number e. refused-owed c number (owed s) e;
         no-frame = λ _. refl;
         delayed = λ _ _. refl;
@@ -41,8 +42,8 @@ module _ (table : List Float) (p : ℕ) where
       })
 
   -- from where no end is owed
-  pub owed-from : (s : Sent) → owed s ≡ false → (cs : List Call) → (owed (sentFrom table p s cs) ≡ true) ↔ Owed cs
-  owed-from = lasting-exactly table p ends stores owed owed-next
+  pub owed-from : (s : Sent) → owed s ≡ false → (cs : List Call) → (owed (run (rules R) s cs) ≡ true) ↔ Owed cs
+  owed-from = lasting-exactly R ends stores owed owed-next
 
-  pub owed-exactly : (cs : List Call) → (owed (sentAll table p cs) ≡ true) ↔ Owed cs
+  pub owed-exactly : (cs : List Call) → (owed (sentAll R cs) ≡ true) ↔ Owed cs
   owed-exactly = owed-from start refl

@@ -3,23 +3,27 @@ use mathlib.Core.Path.{_≡_, refl, sym, ap, subst, _∙_}
 use mathlib.Core.Logic.{_↔_}
 use mathlib.Core.Bool.{Bool, true, false, not, cond, _&&_}
 use mathlib.Core.List.{List, [], _∷_, _++_, append-assoc}
-use Prim.Native.Nat.{ℕ, _+_, _-_}
+use Prim.Native.Nat.{ℕ, _-_}
 use native.Mathlib.Nat.{sub-add-eq}
 use native.Mathlib.Omega.{arith}
 use lib.Dec.{T}
 use lib.Ieee.{Float}
 use lib.Ieee.Fits.{and-l, and-r}
-use Rattle.shaping.specs.Taps.{taps}
+use Rattle.machine.specs.Runs.{run, Each}
+use Rattle.machine.proofs.Parts.{run-joined}
+use Rattle.shaping.specs.Rate.{Rate}
+use Rattle.shaping.proofs.RateFacts.{Facts}
 use Rattle.modulator.specs.declared.DelaySteps.{DelaySteps}
 use Rattle.modulator.specs.declared.ModulatorFrame.the-variants.{Nothing as NoFrame, Preamble, Symbols as GivenSymbols, EndOfTransmission}
 use Rattle.modulator.specs.declared.Progress.{Progress}
 use Rattle.modulator.specs.Frame.{paddingOf}
-use Rattle.modulator_run.specs.Rules.{Call, provide, read, update, ask, Sent, After, start, framed, provided, drained, called, sentFrom, sentAll}
-use Rattle.modulator_run.specs.Run.{recordAfter, AllGiven}
+use Rattle.modulator.specs.Outcome.{frameOutcome}
+use Rattle.modulator_run.specs.Rules.{Call, provide, read, update, ask, Sent, After, start, framed, settled, drained, called, rules, sentAll}
+use Rattle.modulator_run.specs.Run.{recordAfter, Given}
 use Rattle.modulator_run.specs.Kinds.{stores, delays, none}
 use Rattle.modulator_run.specs.Padding.{latencyOf, lastLatency, placesOf, placesRead, PaddingLeft, unset, set}
 use Rattle.modulator_run.proofs.EachCall.{Refusing, miscounted, outside, large, below, each-call}
-use Rattle.modulator_run.proofs.LastCall.{by-last, sent-behind, none-more}
+use Rattle.modulator_run.proofs.LastCall.{by-last, none-more}
 use Rattle.modulator_run.proofs.SenderRun.{sender-run}
 
 abbrev pub padding : Sent → ℕ
@@ -48,11 +52,11 @@ unfolding none lastLatency
 none-stored [] = refl
 none-stored (c ∷ cs) = sym (last-one (stores c) (none stores cs) (latencyOf c) 0 (lastLatency cs))
 
-module _ (table : List Float) (p : ℕ) where
-  latency-next : (s : Sent) (c : Call) → latency (called table p s c .sent) ≡ cond (stores c) (latencyOf c) (latency s)
+module _ (R : Rate) where
+  latency-next : (s : Sent) (c : Call) → latency (called R s c .sent) ≡ cond (stores c) (latencyOf c) (latency s)
   unfolding stores latencyOf framed drained
   latency-next s =
-      each-call table p s (λ (c : Call) (a : After). latency (a .sent) ≡ cond (stores c) (latencyOf c) (latency s)) (record {
+      each-call R s (λ (c : Call) (a : After). latency (a .sent) ≡ cond (stores c) (latencyOf c) (latency s)) (record {
         refused = λ c number e. refused-latency c number (latency s) e;
         no-frame = λ _. refl;
         delayed = λ _ _. refl;
@@ -68,18 +72,18 @@ module _ (table : List Float) (p : ℕ) where
       })
 
   -- after calls, by the last update among them
-  latency-from : (cs : List Call) (s : Sent) → latency (sentFrom table p s cs) ≡ cond (none stores cs) (latency s) (lastLatency cs)
-  unfolding sentFrom none lastLatency
+  latency-from : (cs : List Call) (s : Sent) → latency (run (rules R) s cs) ≡ cond (none stores cs) (latency s) (lastLatency cs)
+  unfolding run none lastLatency
   latency-from [] s = refl
   latency-from (c ∷ cs) s =
-      latency-from cs (called table p s c .sent) ∙ rw (latency-next s c) (last-one (stores c) (none stores cs) (latencyOf c) (latency s) (lastLatency cs))
+      latency-from cs (called R s c .sent) ∙ rw (latency-next s c) (last-one (stores c) (none stores cs) (latencyOf c) (latency s) (lastLatency cs))
 
-  latency-all : (cs : List Call) → latency (sentAll table p cs) ≡ lastLatency cs
+  latency-all : (cs : List Call) → latency (sentAll R cs) ≡ lastLatency cs
   latency-all cs = latency-from cs start ∙ none-stored cs
 
   -- ---- the padding, by one call
-  padding-set : (s : Sent) (steps : DelaySteps) (symbols : List Float) → padding (called table p s (provide (Preamble steps) symbols) .sent) ≡ paddingOf p (steps .0) (latency s)
-  unfolding called provided framed
+  padding-set : (s : Sent) (steps : DelaySteps) (symbols : List Float) → padding (called R s (provide (Preamble steps) symbols) .sent) ≡ paddingOf (R .p) (steps .0) (latency s)
+  unfolding called frameOutcome settled framed
   padding-set s steps symbols = refl
 
   no-places : (c : Call) (number n : ℕ) → Refusing c number → n ≡ n - placesOf c
@@ -89,10 +93,10 @@ module _ (table : List Float) (p : ℕ) where
   no-places c number n (large e) = omega arith
   no-places c number n (below e) = omega arith
 
-  padding-read : (s : Sent) (c : Call) → T (not (delays c)) → padding (called table p s c .sent) ≡ padding s - placesOf c
+  padding-read : (s : Sent) (c : Call) → T (not (delays c)) → padding (called R s c .sent) ≡ padding s - placesOf c
   unfolding delays placesOf framed drained
   padding-read s =
-      each-call table p s (λ (c : Call) (a : After). T (not (delays c)) → padding (a .sent) ≡ padding s - placesOf c) (record {
+      each-call R s (λ (c : Call) (a : After). T (not (delays c)) → padding (a .sent) ≡ padding s - placesOf c) (record {
         refused = λ c number e _. no-places c number (padding s) e;
         no-frame = λ _ _. omega arith;
         delayed = λ _ _ t. absurd t;
@@ -108,22 +112,22 @@ module _ (table : List Float) (p : ℕ) where
       })
 
   -- ---- by all
-  padding-since : (cs : List Call) (s : Sent) → T (none delays cs) → padding (sentFrom table p s cs) ≡ padding s - placesRead cs
-  unfolding sentFrom none placesRead
+  padding-since : (cs : List Call) (s : Sent) → T (none delays cs) → padding (run (rules R) s cs) ≡ padding s - placesRead cs
+  unfolding run none placesRead
   padding-since [] s t = omega arith
   padding-since (c ∷ cs) s t =
-      padding-since cs (called table p s c .sent) (and-r (not (delays c)) (none delays cs) t)
+      padding-since cs (called R s c .sent) (and-r (not (delays c)) (none delays cs) t)
       ∙ rw (padding-read s c (and-l (not (delays c)) (none delays cs) t), sub-add-eq (padding s) (placesOf c) (placesRead cs))
 
-  left-after : (cs : List Call) (n : ℕ) → PaddingLeft p cs n → padding (sentAll table p cs) ≡ n
-  unfolding sentFrom
+  left-after : (cs : List Call) (n : ℕ) → PaddingLeft (R .p) cs n → padding (sentAll R cs) ≡ n
+  unfolding run
   left-after cs n (unset t) = padding-since cs start t ∙ omega arith
   left-after cs n (set before steps symbols since parts t) =
-      let there : Sent = sentAll table p before in
+      let there : Sent = sentAll R before in
       let delay : Call = provide (Preamble steps) symbols in
-      ap (λ (ds : List Call). padding (sentAll table p ds)) parts
-      ∙ ap padding (sent-behind table p start before (delay ∷ since))
-      ∙ padding-since since (called table p there delay .sent) t
+      ap (λ (ds : List Call). padding (sentAll R ds)) parts
+      ∙ ap padding (run-joined (rules R) before (delay ∷ since) start)
+      ∙ padding-since since (called R there delay .sent) t
       ∙ rw (padding-set there steps symbols, latency-all before)
 
 -- ---- each list of calls leaves some padding
@@ -153,16 +157,16 @@ module _ (p : ℕ) where
   some = by-last (Some p) (0, unset tt) some-last
 
 -- ---- exactly
-module _ (table : List Float) (p : ℕ) where
-  pub padding-exactly : (cs : List Call) (n : ℕ) → (padding (sentAll table p cs) ≡ n) ↔ PaddingLeft p cs n
+module _ (R : Rate) where
+  pub padding-exactly : (cs : List Call) (n : ℕ) → (padding (sentAll R cs) ≡ n) ↔ PaddingLeft (R .p) cs n
   unfolding Some
   padding-exactly cs n =
-      let l = some p cs in
-      (λ e. subst (PaddingLeft p cs) (sym (left-after table p cs (l .0) (l .1)) ∙ e) (l .1), left-after table p cs n)
+      let l = some (R .p) cs in
+      (λ e. subst (PaddingLeft (R .p) cs) (sym (left-after R cs (l .0) (l .1)) ∙ e) (l .1), left-after R cs n)
 
 -- the record, from a fresh start
-pub padding-by-record : (cs : List Call) → AllGiven cs → (n : ℕ) → (recordAfter cs .progress .«tx_delay_padding» .0 ≡ n) ↔ PaddingLeft 10 cs n
-padding-by-record cs g n =
-    let same = ap (λ (s : Progress). s .«tx_delay_padding» .0) (sender-run cs g .0 .progress) in
-    let left = padding-exactly taps 10 cs n in
+pub padding-by-record : (R : Rate) → Facts R → (cs : List Call) → Each Given cs → (n : ℕ) → (recordAfter R cs .progress .«tx_delay_padding» .0 ≡ n) ↔ PaddingLeft (R .p) cs n
+padding-by-record R F cs g n =
+    let same = ap (λ (s : Progress). s .«tx_delay_padding» .0) (sender-run R F cs g .0 .progress) in
+    let left = padding-exactly R cs n in
     (λ e. left .0 (sym same ∙ e), λ l. same ∙ left .1 l)

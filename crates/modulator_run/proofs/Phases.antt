@@ -3,21 +3,23 @@ use mathlib.Core.Path.{_≡_, refl, sym, ap, _∙_}
 use mathlib.Core.Logic.{_≢_}
 use mathlib.Core.Bool.{Bool, true, false}
 use mathlib.Core.List.{List}
-use Prim.Native.Nat.{ℕ, zero, suc, _+_, _-_, _*_, _/_, _%_, _^_, _≤_}
+use Prim.Native.Nat.{ℕ, zero, suc, _+_, _-_, _*_, _/_, _%_, _^_, _≤_, _<_}
 use native.Mathlib.Nat.{mod-lt, suc-mul, add-mul-mod-self-left, mul-add-mod-self-left, div-add-mod}
 use native.Mathlib.Omega.{arith}
 use borrow.Author.Tests.{ltb-true, ltb-false, ne-eqb}
 use lib.Dec.{T, ltb}
 use lib.IntN.{natAbs}
 use lib.ListN.{length, getD, List·getD-eq-default}
-use lib.Ieee.{Float, nan, binary32, prec, ofBits}
+use lib.Ieee.{Float, nan, binary32, prec, ofBits, toSigned}
 use Rattle.numbers.specs.Within.{Within}
 use Rattle.numbers.proofs.Bounds.{cut-within}
+use Rattle.shaping.specs.Rate.{Rate, tapCount}
+use Rattle.shaping.specs.Sum.{dot}
 use Rattle.shaping.specs.Reach.{Finite}
-use Rattle.shaping.specs.Phase.{tapCount, fullSymbol, Phase, phasesFit}
+use Rattle.shaping.specs.Phase.{fullSymbol, Phase, phasesFit}
 use Rattle.shaping.proofs.Dot.{inside}
 use Rattle.shaping.proofs.Sender.{phase-limit}
-use Rattle.modulator.specs.Pulse.{pulses}
+use Rattle.pulse.specs.Pulse.{pulses}
 use Rattle.modulator_laws.proofs.Sizes.{symbol-size, pulses-size}
 use Rattle.modulator_run.specs.Stream.{enteringAt, sentAt}
 use Rattle.modulator_run.specs.Loudness.{SymbolsFit}
@@ -67,9 +69,13 @@ module _ (q : ℕ) (symbols : List Float) (fit : SymbolsFit symbols) where
   pub at-phase : (t : ℕ) → Phase p (phaseOf q t) fullSymbol (λ (i : ℕ). enteringAt p symbols ((t + i) - 8 * p))
   at-phase t = record { symbols = λ i l e. entering-within ((t + i) - 8 * p); gaps = λ i l n. gap-within t i ((t + i) - 8 * p) refl n }
 
-  -- for any table whose phases come to the limit at most
-  pub stream-within : (table : List Float) (limit : ℕ) → Finite table → length table ≡ tapCount p → T (phasesFit table p fullSymbol limit) → limit ≤ 2 ^ prec binary32
-      → (t : ℕ) → natAbs (sentAt table p symbols t) ≤ limit
-  unfolding sentAt
-  stream-within table limit fine size fits L t =
-      cut-within 15 _ limit (phase-limit table p fullSymbol limit fine size fits L (phaseOf q t) (mod-lt (1 + q * t) (omega arith)) _ (at-phase t))
+-- at every rate whose phases come to the limit at most
+pub stream-within : (R : Rate) (limit : ℕ) → 0 < R .p → Finite (R .taps) → length (R .taps) ≡ tapCount (R .p) → T (phasesFit (R .taps) (R .p) fullSymbol limit) → limit ≤ 2 ^ prec binary32
+    → (symbols : List Float) → SymbolsFit symbols → (t : ℕ) → natAbs (sentAt R symbols t) ≤ limit
+unfolding sentAt
+stream-within R limit some fine size fits L symbols fit t = by-samples (R .p) some size fits
+  where
+    by-samples : (p : ℕ) → 0 < p → length (R .taps) ≡ tapCount p → T (phasesFit (R .taps) p fullSymbol limit)
+        → natAbs (toSigned 15 (dot (R .taps) (λ (i : ℕ). enteringAt p symbols ((t + i) - 8 * p)))) ≤ limit
+    by-samples zero some size fits = let never : ⊥ = omega arith in absurd never
+    by-samples (suc q) some size fits = cut-within 15 _ limit (phase-limit (R .taps) (suc q) fullSymbol limit fine size fits L (phaseOf q t) (mod-lt (1 + q * t) (omega arith)) _ (at-phase q symbols fit t))

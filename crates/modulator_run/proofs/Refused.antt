@@ -1,26 +1,27 @@
 -- "Every refusal returns its number only, with record and buffers as they were": of the rules, at whatever they have sent, and of every record, made-up ones too. Assumes nothing.
 use mathlib.Core.Path.{_≡_, refl, ap}
-use mathlib.Core.Bool.{Bool, true, false, not, cond, _||_, _&&_}
+use mathlib.Core.Bool.{Bool, true, false, not, cond, _&&_}
 use mathlib.Core.List.{List, [], _∷_}
 use Prim.Native.Nat.{ℕ}
-use borrow.Author.Tests.{ltb-true, ltb-false, le-leb, lt-leb}
-use lib.Dec.{T, eqb, leb, ltb}
+use lib.Dec.{T, ltb}
 use lib.IntN.{ℤ}
-use lib.ListN.{length, getD}
-use lib.Ieee.{Float, nan}
-use Rattle.numbers.specs.Below.{allBelow}
+use lib.Ieee.{Float}
+use Rattle.machine.specs.Runs.{run, answers}
+use Rattle.shaping.specs.Rate.{Rate}
 use Rattle.modulator.specs.declared.ModulatorFrame.{ModulatorFrame}
 use Rattle.modulator.specs.declared.ModulatorFrame.the-variants.{Nothing as NoFrame, Preamble, Symbols as GivenSymbols, EndOfTransmission}
 use Rattle.modulator.specs.declared.SoftModulator.{SoftModulator}
-use Rattle.modulator.specs.Frame.{symbolFit}
-use Rattle.modulator.specs.Fit.{countFit, recordFit}
-use Rattle.modulator.specs.Calls.{Paper, refusal, done, wrote, transmitEnd, readOutput, idle, getFrame, nothing, Left, provided, accepted, givenFrame, drained}
-use Rattle.modulator.specs.Calls.{read as readInto}
+use Rattle.modulator.specs.Paper.{Paper, refusal, done, wrote, transmitEnd, readOutput, idle, getFrame, nothing}
+use Rattle.modulator.specs.Control.{bufferOf, updatedPending}
+use Rattle.modulator.specs.Record.{controlOf}
+use Rattle.modulator.specs.Fit.{recordFit}
+use Rattle.modulator.specs.Outcome.{Outcome, only, told, frameOutcome, tooLarge, updateOutcome, actionOutcome}
+use Rattle.modulator.specs.Calls.{Left, unlessUnfit, provided, updated, ran}
+use Rattle.modulator.specs.Calls.{settled as settledRecord, drained as drainedRecord, read as readInto}
 use Rattle.modulator_laws.proofs.Picked.{picked}
-use Rattle.modulator_laws.proofs.EachCase.{each-update, each-action}
-use Rattle.modulator_run.specs.Rules.{Call, provide, read, update, ask, Sent, After, after, updated, called, sentFrom, saidFrom}
-use Rattle.modulator_run.specs.Rules.{drained as drainedBy}
-use Rattle.modulator_run.specs.Run.{left, saidBy, recordFrom, answersFrom}
+use Rattle.modulator_laws.proofs.EachCase.{each-given, each-update, each-action}
+use Rattle.modulator_run.specs.Rules.{Call, provide, read, update, ask, Sent, After, settled, drained, called, rules}
+use Rattle.modulator_run.specs.Run.{left, saidBy, sender}
 use Rattle.modulator_run.specs.Kinds.{stores}
 use Rattle.modulator_run.proofs.EachCall.{Refusing, miscounted, outside, large, below, each-call}
 
@@ -51,14 +52,14 @@ no-room-lent c number outside = refl
 no-room-lent c number (large e) = refl
 no-room-lent c number (below e) = refl
 
-module _ (table : List Float) (p : ℕ) (s : Sent) where
+module _ (R : Rate) (s : Sent) where
   abbrev Kept : Call → After → Type 0
   Kept c a = T (refuses (a .said .answer)) → (a .sent ≡ s) × (a .said .room ≡ lent c)
 
-  kept : (c : Call) → Kept c (called table p s c)
-  unfolding drainedBy
+  kept : (c : Call) → Kept c (called R s c)
+  unfolding drained
   kept =
-      each-call table p s Kept (record {
+      each-call R s Kept (record {
         refused = λ c number e _. (refl, no-room-lent c number e);
         no-frame = λ _ t. absurd t;
         delayed = λ _ _ t. absurd t;
@@ -73,62 +74,68 @@ module _ (table : List Float) (p : ℕ) (s : Sent) where
         rests = λ _ _ _ t. absurd t;
       })
 
-  pub refused-nothing : (c : Call) (number : ℕ) → called table p s c .said .answer ≡ refusal number → (called table p s c .sent ≡ s) × (called table p s c .said .room ≡ lent c)
+  pub refused-nothing : (c : Call) (number : ℕ) → called R s c .said .answer ≡ refusal number → (called R s c .sent ≡ s) × (called R s c .said .room ≡ lent c)
   refused-nothing c number e = kept c (refused-by _ number e)
 
   -- and so it counts for nothing: what comes after it is as if it had not been made
-  pub refused-skipped : (c : Call) (number : ℕ) (cs : List Call) → called table p s c .said .answer ≡ refusal number
-      → (sentFrom table p s (c ∷ cs) ≡ sentFrom table p s cs) × (saidFrom table p s (c ∷ cs) ≡ called table p s c .said ∷ saidFrom table p s cs)
-  unfolding sentFrom saidFrom
+  pub refused-skipped : (c : Call) (number : ℕ) (cs : List Call) → called R s c .said .answer ≡ refusal number
+      → (run (rules R) s (c ∷ cs) ≡ run (rules R) s cs) × (answers (rules R) s (c ∷ cs) ≡ called R s c .said ∷ answers (rules R) s cs)
+  unfolding run answers
   refused-skipped c number cs e =
       let k = refused-nothing c number e .0 in
-      (ap (λ (t : Sent). sentFrom table p t cs) k, ap (λ (t : Sent). called table p s c .said ∷ saidFrom table p t cs) k)
+      (ap (λ (t : Sent). run (rules R) t cs) k, ap (λ (t : Sent). called R s c .said ∷ answers (rules R) t cs) k)
 
   -- "an update that is not refused" is one that stores, whatever came before
-  pub stores-exactly : (fill capacity latency : ℕ) → refuses (called table p s (update fill capacity latency) .said .answer) ≡ not (stores (update fill capacity latency))
-  unfolding called updated stores
-  stores-exactly fill capacity latency = by-tests _ (countFit fill) (countFit capacity) (countFit latency) (ltb capacity fill) refl
+  pub stores-exactly : (fill capacity latency : ℕ) → refuses (called R s (update fill capacity latency) .said .answer) ≡ not (stores (update fill capacity latency))
+  unfolding called updateOutcome settled stores
+  stores-exactly fill capacity latency = by-tests (tooLarge fill capacity latency) (ltb capacity fill)
     where
-      by-tests : (next : Sent) (a b c l : Bool) → ltb capacity fill ≡ l
-          → refuses (cond (not a || not b || not c) (after (refusal 8) [] s) (cond l (after (refusal 9) [] s) (after done [] next)) .said .answer) ≡ not (a && b && c && leb fill capacity)
-      by-tests next false b c l e = refl
-      by-tests next true false c l e = refl
-      by-tests next true true false l e = refl
-      by-tests next true true true true e = rw (lt-leb fill capacity (ltb-true capacity fill e))
-      by-tests next true true true false e = rw (le-leb fill capacity (ltb-false capacity fill e))
+      by-tests : (a b : Bool)
+          → refuses (settled R s (cond a (only (refusal 8)) (cond b (only (refusal 9)) (told done (updatedPending (R .p) fill capacity latency (s .pending)) (bufferOf fill capacity latency)))) .said .answer) ≡ not (not a && not b)
+      by-tests true b = refl
+      by-tests false true = refl
+      by-tests false false = refl
 
 -- ---- every record
-module _ (m : SoftModulator) where
+module _ (R : Rate) (m : SoftModulator) where
   abbrev KeptRecord : List ℤ → Left → Type 0
   KeptRecord room l = T (refuses (l .answer)) → (l .modulator ≡ m) × (l .room ≡ room)
 
-  kept-given : (symbols : List Float) → KeptRecord [] (givenFrame m symbols)
-  unfolding givenFrame
-  kept-given symbols =
-      picked (KeptRecord []) (not (eqb (length symbols) 192)) _ _ (λ _ _. (refl, refl)) λ _.
-      picked (KeptRecord []) (not (allBelow 192 (λ (i : ℕ). symbolFit (getD symbols i nan)))) _ _ (λ _ _. (refl, refl)) (λ _ t. absurd t)
+  abbrev KeptBy : Outcome → Type 0
+  KeptBy o = KeptRecord [] (settledRecord R m o)
 
-  kept-accepted : (frame : ModulatorFrame) (symbols : List Float) → KeptRecord [] (accepted m frame symbols)
-  unfolding accepted
-  kept-accepted NoFrame symbols t = absurd t
-  kept-accepted (Preamble steps) symbols t = absurd t
-  kept-accepted GivenSymbols symbols t = kept-given symbols t
-  kept-accepted EndOfTransmission symbols t = absurd t
+  kept-frame : (frame : ModulatorFrame) (symbols : List Float) → KeptBy (frameOutcome (R .p) frame symbols (controlOf m))
+  unfolding settledRecord frameOutcome
+  kept-frame NoFrame symbols t = absurd t
+  kept-frame (Preamble steps) symbols t = absurd t
+  kept-frame GivenSymbols symbols t = each-given (controlOf m) KeptBy symbols (λ _. (refl, refl)) (λ _. (refl, refl)) (λ _ u. absurd u) t
+  kept-frame EndOfTransmission symbols t = absurd t
 
-  kept-record : (c : Call) → KeptRecord (lent c) (left m c)
-  unfolding left provided readInto drained
-  kept-record (provide frame symbols) = picked (KeptRecord []) (not (recordFit m)) _ _ (λ _ _. (refl, refl)) (λ _. kept-accepted frame symbols)
-  kept-record (read room) = picked (KeptRecord room) (not (recordFit m)) _ _ (λ _ _. (refl, refl)) (λ _ t. absurd t)
-  kept-record (update fill capacity latency) =
-      each-update m (KeptRecord []) fill capacity latency (λ _. (refl, refl)) (λ _. (refl, refl)) (λ _. (refl, refl)) (λ _ _ t. absurd t)
-  kept-record ask = each-action m (KeptRecord []) (λ _. (refl, refl)) (λ _ t. absurd t) (λ t. absurd t) (λ t. absurd t) (λ t. absurd t) (λ t. absurd t)
+  kept-update : (fill capacity latency : ℕ) → KeptBy (updateOutcome (R .p) fill capacity latency (controlOf m))
+  unfolding settledRecord
+  kept-update fill capacity latency = each-update (controlOf m) KeptBy (R .p) fill capacity latency (λ _ _. (refl, refl)) (λ _ _ _. (refl, refl)) (λ _ _ t. absurd t)
 
-  pub refused-record : (c : Call) (number : ℕ) → left m c .answer ≡ refusal number → (left m c .modulator ≡ m) × (left m c .room ≡ lent c)
+  kept-action : KeptBy (actionOutcome (controlOf m))
+  unfolding settledRecord
+  kept-action = each-action (controlOf m) KeptBy (record { told-end = λ _ _ t. absurd t; unread = λ _ _ t. absurd t; idles = λ _ _ _ t. absurd t; wishes = λ _ _ _ t. absurd t; rests = λ _ _ _ t. absurd t })
+
+  -- 1: "record unfit"
+  unless-unfit : (room : List ℤ) (l : Left) → KeptRecord room l → KeptRecord room (unlessUnfit (R .p) m room l)
+  unless-unfit room l k = picked (KeptRecord room) (not (recordFit (R .p) m)) _ _ (λ _ _. (refl, refl)) (λ _. k)
+
+  kept-record : (c : Call) → KeptRecord (lent c) (left R m c)
+  unfolding left provided readInto updated ran drainedRecord
+  kept-record (provide frame symbols) = unless-unfit [] _ (kept-frame frame symbols)
+  kept-record (read room) = unless-unfit room _ (λ t. absurd t)
+  kept-record (update fill capacity latency) = unless-unfit [] _ (kept-update fill capacity latency)
+  kept-record ask = unless-unfit [] _ kept-action
+
+  pub refused-record : (c : Call) (number : ℕ) → left R m c .answer ≡ refusal number → (left R m c .modulator ≡ m) × (left R m c .room ≡ lent c)
   refused-record c number e = kept-record c (refused-by _ number e)
 
-  pub skipped-record : (c : Call) (number : ℕ) (cs : List Call) → left m c .answer ≡ refusal number
-      → (recordFrom m (c ∷ cs) ≡ recordFrom m cs) × (answersFrom m (c ∷ cs) ≡ saidBy (left m c) ∷ answersFrom m cs)
-  unfolding recordFrom answersFrom
+  pub skipped-record : (c : Call) (number : ℕ) (cs : List Call) → left R m c .answer ≡ refusal number
+      → (run (sender R) m (c ∷ cs) ≡ run (sender R) m cs) × (answers (sender R) m (c ∷ cs) ≡ saidBy (left R m c) ∷ answers (sender R) m cs)
+  unfolding run answers
   skipped-record c number cs e =
       let k = refused-record c number e .0 in
-      (ap (λ (n : SoftModulator). recordFrom n cs) k, ap (λ (n : SoftModulator). saidBy (left m c) ∷ answersFrom n cs) k)
+      (ap (λ (n : SoftModulator). run (sender R) n cs) k, ap (λ (n : SoftModulator). saidBy (left R m c) ∷ answers (sender R) n cs) k)

@@ -1,29 +1,32 @@
 -- Demand 2: the sender over every list of calls since a fresh start, those that will be refused included. Assumes nothing.
 use mathlib.Core.Path.{_≡_, refl}
 use mathlib.Core.Bool.{true}
-use mathlib.Core.List.{List, [], _∷_, _++_}
-use Prim.Native.Nat.{ℕ}
+use mathlib.Core.List.{List, _++_}
+use Prim.Native.Nat.{ℕ, _-_, zero-le}
+use native.Mathlib.Nat.{lt-of-lt-of-le}
 use native.Mathlib.Omega.{arith}
-use lib.Ieee.{ofBits, le}
-use Rattle.numbers.specs.Below.{allBelow}
-use Rattle.shaping.specs.Taps.{taps}
+use lib.Dec.{T, le→leb}
+use lib.ListN.{getD-replicate}
+use lib.Ieee.{nan, binary32, ofBits, le}
+use Rattle.numbers.proofs.Below.{below-all}
+use Rattle.machine.specs.Runs.{answers, Each, Simulates}
+use Rattle.machine.proofs.Parts.{each-front}
+use Rattle.machine.proofs.Simulation.{runs-related, answers-alike}
+use Rattle.shaping.specs.Rate.{Rate, tapCount}
+use Rattle.shaping.proofs.RateFacts.{Facts}
 use Rattle.modulator.specs.declared.ModulatorFrame.{ModulatorFrame}
 use Rattle.modulator.specs.declared.ModulatorFrame.the-variants.{Nothing as NoFrame, Preamble, Symbols as GivenSymbols, EndOfTransmission}
 use Rattle.modulator.specs.declared.SoftModulator.{SoftModulator}
 use Rattle.modulator.specs.Record.{fresh}
 use Rattle.modulator.specs.Fit.{pulseFit, windowFit, recordFit}
-use Rattle.modulator_laws.proofs.FrameKept.{Byte, frame-fit}
-use Rattle.modulator_laws.proofs.Kept.{read-keeps, update-keeps, run-keeps}
-use Rattle.modulator_run.specs.Rules.{Call, provide, read, update, ask, Sent, start, called, sentFrom, saidFrom, sentAll, saidAll}
-use Rattle.modulator_run.specs.Run.{left, saidBy, recordFrom, answersFrom, recordAfter, answersTo, Delay, Given, AllGiven}
+use Rattle.modulator.proofs.Fitness.{grouped}
+use Rattle.modulator_laws.proofs.OutcomeLimits.{Byte}
+use Rattle.modulator_laws.proofs.Kept.{progress-fit, frame-keeps, read-keeps, update-keeps, run-keeps}
+use Rattle.modulator_run.specs.Rules.{Call, provide, read, update, ask, Sent, Said, start, called, rules, sentAll, saidAll}
+use Rattle.modulator_run.specs.Run.{left, saidBy, sender, recordAfter, answersTo, Delay, Given}
 use Rattle.modulator_run.specs.Represents.{Represents}
-use Rattle.modulator_run.proofs.NextFrame.{fresh-remembers}
+use Rattle.modulator_run.proofs.NextFrame.{window-inside, fresh-remembers}
 use Rattle.modulator_run.proofs.Step.{call-agrees}
-
--- ---- where a run stands
-pub record Stands (m : SoftModulator) (s : Sent) : Type 0 where
-  pub represents : Represents m s
-  pub fit : recordFit m ≡ true
 
 byte : (frame : ModulatorFrame) → Delay frame → Byte frame
 unfolding Delay
@@ -32,57 +35,65 @@ byte (Preamble given) d steps e = let same : given .0 ≡ steps .0 = cc in omega
 byte GivenSymbols d steps e = let z : _≡_ {A = ℕ} 0 1 = cc in omega arith
 byte EndOfTransmission d steps e = let z : _≡_ {A = ℕ} 0 1 = cc in omega arith
 
-module _ (m : SoftModulator) (fit : recordFit m ≡ true) where
-  pub stays-fit : (c : Call) → Given c → recordFit (left m c .modulator) ≡ true
-  unfolding left Given
-  stays-fit (provide frame symbols) g = frame-fit m symbols fit frame (byte frame g)
-  stays-fit (read room) g = read-keeps m fit room
-  stays-fit (update fill capacity latency) g = update-keeps m fit fill capacity latency
-  stays-fit ask g = run-keeps m fit
+pub stays-fit : (R : Rate) (m : SoftModulator) → recordFit (R .p) m ≡ true → (c : Call) → Given c → recordFit (R .p) (left R m c .modulator) ≡ true
+unfolding left Given
+stays-fit R m fit (provide frame symbols) g = frame-keeps R m fit frame symbols (byte frame g)
+stays-fit R m fit (read room) g = read-keeps R m fit room
+stays-fit R m fit (update fill capacity latency) g = update-keeps R m fit fill capacity latency
+stays-fit R m fit ask g = run-keeps R m fit
 
-next : (m : SoftModulator) (s : Sent) → Stands m s → (c : Call) → Given c → Stands (left m c .modulator) (called taps 10 s c .sent)
-next m s st c g = record { represents = call-agrees m s (st .represents) (st .fit) c .represents; fit = stays-fit m (st .fit) c g }
+module _ (R : Rate) (F : Facts R) where
+  -- ---- where a run stands
+  pub record Stands (m : SoftModulator) (s : Sent) : Type 0 where
+    pub represents : Represents R m s
+    pub fit : recordFit (R .p) m ≡ true
 
-stands-from : (cs : List Call) (m : SoftModulator) (s : Sent) → AllGiven cs → Stands m s → Stands (recordFrom m cs) (sentFrom taps 10 s cs)
-unfolding AllGiven recordFrom sentFrom
-stands-from [] m s g st = st
-stands-from (c ∷ cs) m s g st = stands-from cs (left m c .modulator) (called taps 10 s c .sent) (g .1) (next m s st c (g .0))
+  nought-fits : T (pulseFit (ofBits binary32 0))
+  unfolding pulseFit ofBits le
+  nought-fits = tt
 
-says-from : (cs : List Call) (m : SoftModulator) (s : Sent) → AllGiven cs → Stands m s → answersFrom m cs ≡ saidFrom taps 10 s cs
-unfolding AllGiven answersFrom saidFrom
-says-from [] m s g st = refl
-says-from (c ∷ cs) m s g st =
-    rw (call-agrees m s (st .represents) (st .fit) c .says, says-from cs (left m c .modulator) (called taps 10 s c .sent) (g .1) (next m s st c (g .0)))
+  fresh-fits : recordFit (R .p) fresh ≡ true
+  unfolding fresh windowFit
+  fresh-fits =
+      grouped (R .p) fresh (record {
+        cursor = le→leb 0 (tapCount (R .p) - 1) zero-le;
+        window = below-all (tapCount (R .p)) _ λ i l. rw (getD-replicate 81 i (ofBits binary32 0) nan (lt-of-lt-of-le l (window-inside R F))) nought-fits;
+        progress = progress-fit (R .p) (fresh .progress) (record { len = zero-le; read = zero-le; padding = zero-le });
+        buffer = tt;
+        report = tt;
+      })
 
-stands-start : Stands fresh start
-unfolding fresh recordFit windowFit allBelow pulseFit ofBits le
-stands-start = record { represents = record { remembers = fresh-remembers; progress = refl; pending = refl; buffer = refl }; fit = refl }
+  stands-start : Stands fresh start
+  unfolding fresh
+  stands-start = record { represents = record { remembers = fresh-remembers R F; progress = refl; pending = refl; buffer = refl }; fit = fresh-fits }
 
-stands : (cs : List Call) → AllGiven cs → Stands (recordAfter cs) (sentAll taps 10 cs)
-stands cs g = stands-from cs fresh start g stands-start
+  -- ---- the record simulates the rules
+  follows : Simulates SoftModulator Sent Call Said (sender R) (rules R) Stands Given
+  follows = record {
+    alike = λ m s st c g. call-agrees R F m s (st .represents) (st .fit) c .says;
+    related = λ m s st c g. record { represents = call-agrees R F m s (st .represents) (st .fit) c .represents; fit = stays-fit R m (st .fit) c g };
+  }
 
--- ---- demand 2
--- After any calls the record holds what the rules say, and every answer, with the room of its call, is the rules'.
-pub sender-run : (cs : List Call) → AllGiven cs → Represents (recordAfter cs) (sentAll taps 10 cs) × (answersTo cs ≡ saidAll taps 10 cs)
-sender-run cs g = (stands cs g .represents, says-from cs fresh start g stands-start)
+  stands : (cs : List Call) → Each Given cs → Stands (recordAfter R cs) (sentAll R cs)
+  stands cs g = runs-related follows cs g fresh start stands-start
 
-given-front : (cs ds : List Call) → AllGiven (cs ++ ds) → AllGiven cs
-unfolding AllGiven
-given-front [] ds g = tt
-given-front (c ∷ cs) ds g = (g .0, given-front cs ds (g .1))
+  -- ---- demand 2
+  -- After any calls the record holds what the rules say, and every answer, with the room of its call, is the rules'.
+  pub sender-run : (cs : List Call) → Each Given cs → Represents R (recordAfter R cs) (sentAll R cs) × (answersTo R cs ≡ saidAll R cs)
+  sender-run cs g = (stands cs g .represents, answers-alike follows cs g fresh start stands-start)
 
--- after each call of a list: each stretch from the start is itself a list
-pub after-each : (cs ds : List Call) → AllGiven (cs ++ ds) → Represents (recordAfter cs) (sentAll taps 10 cs) × (answersTo cs ≡ saidAll taps 10 cs)
-after-each cs ds g = sender-run cs (given-front cs ds g)
+  -- after each call of a list: each part from the start is itself a list
+  pub after-each : (cs ds : List Call) → Each Given (cs ++ ds) → Represents R (recordAfter R cs) (sentAll R cs) × (answersTo R cs ≡ saidAll R cs)
+  after-each cs ds g = sender-run cs (each-front Given cs ds g)
 
--- ---- more calls
-pub answers-from : (cs ds : List Call) → AllGiven cs → AllGiven ds → answersFrom (recordAfter cs) ds ≡ saidFrom taps 10 (sentAll taps 10 cs) ds
-answers-from cs ds g h = says-from ds (recordAfter cs) (sentAll taps 10 cs) h (stands cs g)
+  -- ---- more calls
+  pub answers-from : (cs ds : List Call) → Each Given cs → Each Given ds → answers (sender R) (recordAfter R cs) ds ≡ answers (rules R) (sentAll R cs) ds
+  answers-from cs ds g h = answers-alike follows ds h (recordAfter R cs) (sentAll R cs) (stands cs g)
 
--- the record is fit
-pub fit-throughout : (cs : List Call) → AllGiven cs → recordFit (recordAfter cs) ≡ true
-fit-throughout cs g = stands cs g .fit
+  -- the record is fit
+  pub fit-throughout : (cs : List Call) → Each Given cs → recordFit (R .p) (recordAfter R cs) ≡ true
+  fit-throughout cs g = stands cs g .fit
 
--- and so the record answers any next call as the rules do
-pub next-call : (cs : List Call) → AllGiven cs → (c : Call) → saidBy (left (recordAfter cs) c) ≡ called taps 10 (sentAll taps 10 cs) c .said
-next-call cs g c = call-agrees (recordAfter cs) (sentAll taps 10 cs) (stands cs g .represents) (stands cs g .fit) c .says
+  -- and so the record answers any next call as the rules do
+  pub next-call : (cs : List Call) → Each Given cs → (c : Call) → saidBy (left R (recordAfter R cs) c) ≡ called R (sentAll R cs) c .said
+  next-call cs g c = call-agrees R F (recordAfter R cs) (sentAll R cs) (stands cs g .represents) (stands cs g .fit) c .says

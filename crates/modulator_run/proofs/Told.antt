@@ -5,20 +5,24 @@ use mathlib.Core.Bool.{Bool, true, false, cond}
 use mathlib.Core.List.{List, [], _∷_, _++_}
 use Prim.Native.Nat.{ℕ, _+_}
 use native.Mathlib.Omega.{arith}
-use lib.Dec.{T, ltb}
-use lib.Ieee.{Float}
+use lib.Dec.{T}
 use lib.Ieee.Bits.{is-true}
+use Rattle.machine.specs.Runs.{run}
+use Rattle.machine.proofs.Parts.{run-joined, run-last}
+use Rattle.shaping.specs.Rate.{Rate}
 use Rattle.modulator.specs.declared.EndReport.{EndReport}
 use Rattle.modulator.specs.declared.EndReport.the-variants.{Nothing as NoReport, After as Reported}
 use Rattle.modulator.specs.declared.SampleCount.{SampleCount}
-use Rattle.modulator.specs.Calls.{transmitEnd, endReport}
-use Rattle.modulator_run.specs.Rules.{Call, provide, read, update, ask, Sent, After, start, framed, drained, asked, called, sentFrom, sentAll}
+use Rattle.modulator.specs.Paper.{transmitEnd}
+use Rattle.modulator.specs.Control.{endReport}
+use Rattle.modulator.specs.Outcome.{Outcome, actionBy}
+use Rattle.modulator_laws.proofs.EachCase.{each-action}
+use Rattle.modulator_run.specs.Rules.{Call, provide, read, update, ask, Sent, After, start, controlIn, framed, settled, drained, called, rules, sentAll}
 use Rattle.modulator_run.specs.Kinds.{stores, asks, ends, none}
 use Rattle.modulator_run.specs.Reports.{Owed, Reporting, Untold}
-use Rattle.modulator_laws.proofs.Picked.{picked}
 use Rattle.modulator_run.proofs.EachCall.{Refusing, miscounted, outside, large, below, each-call}
-use Rattle.modulator_run.proofs.LastCall.{by-last, sent-behind, sent-last, none-fewer}
-use Rattle.modulator_run.proofs.ReportParts.{reporting-more, reporting-here, reporting-none, untold-more}
+use Rattle.modulator_run.proofs.LastCall.{by-last, none-fewer}
+use Rattle.modulator_run.proofs.ReportParts.{reporting-more, untold-more, reporting-here, reporting-none}
 use Rattle.modulator_run.proofs.Lasting.{lasted}
 use Rattle.modulator_run.proofs.Owed.{owed, owed-next, owed-from, owed-exactly}
 
@@ -39,11 +43,11 @@ refused-report c number o r outside = refl
 refused-report c number o r (large e) = rw e
 refused-report c number o r (below e) = rw e
 
-module _ (table : List Float) (p : ℕ) where
-  report-next : (s : Sent) (c : Call) → report (called table p s c .sent) ≡ reportNext c (owed s) (report s)
+module _ (R : Rate) where
+  report-next : (s : Sent) (c : Call) → report (called R s c .sent) ≡ reportNext c (owed s) (report s)
   unfolding reportNext framed drained
   report-next s =
-      each-call table p s (λ (c : Call) (a : After). report (a .sent) ≡ reportNext c (owed s) (report s)) (record {
+      each-call R s (λ (c : Call) (a : After). report (a .sent) ≡ reportNext c (owed s) (report s)) (record {
         refused = λ c number e. refused-report c number (owed s) (report s) e;
         no-frame = λ _. refl;
         delayed = λ _ _. refl;
@@ -59,26 +63,20 @@ module _ (table : List Float) (p : ℕ) where
       })
 
   -- the answer tells what is reported
-  none-told : (s : Sent) (n : ℕ) → asked table p NoReport s .said .answer ≡ transmitEnd n → ⊥
-  unfolding asked
-  none-told s n =
-      let Other : After → Type 0 = λ a. a .said .answer ≡ transmitEnd n → ⊥ in
-      picked Other (ltb (s .progress .«next_read») (s .progress .«next_len»)) _ _ (λ _ e. let z : _≡_ {A = ℕ} 0 1 = cc in omega arith) λ _.
-      picked Other (s .pending .«update_idle») _ _ (λ _ e. let z : _≡_ {A = ℕ} 0 1 = cc in omega arith) λ _.
-      picked Other (s .pending .«try_get_frame») _ _ (λ _ e. let z : _≡_ {A = ℕ} 0 1 = cc in omega arith) (λ _ e. let z : _≡_ {A = ℕ} 0 1 = cc in omega arith)
+  told-forth : (s : Sent) (n : ℕ) → called R s ask .said .answer ≡ transmitEnd n → report s ≡ Reported (record { 0 = n })
+  unfolding called settled
+  told-forth s n =
+      each-action (controlIn s) (λ (o : Outcome). settled R s o .said .answer ≡ transmitEnd n → report s ≡ Reported (record { 0 = n })) (record {
+        told-end = λ end r e. let same : end .0 ≡ n = cc in r ∙ ap (λ (k : ℕ). Reported (record { 0 = k })) same;
+        unread = λ _ _ e. cc;
+        idles = λ _ _ _ e. cc;
+        wishes = λ _ _ _ e. cc;
+        rests = λ _ _ _ e. cc;
+      })
 
-  told-forth : (s : Sent) (n : ℕ) (r : EndReport) → asked table p r s .said .answer ≡ transmitEnd n → r ≡ Reported (record { 0 = n })
-  unfolding asked
-  told-forth s n (Reported end) e = let same : end .0 ≡ n = cc in ap (λ (k : ℕ). Reported (record { 0 = k })) same
-  told-forth s n NoReport e = absurd (none-told s n e)
-
-  told-back : (s : Sent) (n : ℕ) (r : EndReport) → r ≡ Reported (record { 0 = n }) → asked table p r s .said .answer ≡ transmitEnd n
-  unfolding asked
-  told-back s n r e = rw e
-
-  told-report : (s : Sent) (n : ℕ) → (called table p s ask .said .answer ≡ transmitEnd n) ↔ (report s ≡ Reported (record { 0 = n }))
-  unfolding called
-  told-report s n = (told-forth s n (report s), told-back s n (report s))
+  told-back : (s : Sent) (n : ℕ) → report s ≡ Reported (record { 0 = n }) → called R s ask .said .answer ≡ transmitEnd n
+  unfolding called settled actionBy
+  told-back s n e = rw e
 
 -- ---- all calls
 kept-report : (c : Call) (o : Bool) (r : EndReport) → asks c ≡ false → (T (stores c) → o ≡ false) → reportNext c o r ≡ r
@@ -124,45 +122,44 @@ module _ (fill capacity latency : ℕ) where
   unfolding ends
   freed-by o t = rw (is-true (stores (update fill capacity latency)) t)
 
-module _ (table : List Float) (p : ℕ) where
+module _ (R : Rate) where
   -- a report stays until it is told or replaced
-  still-reported : (s : Sent) (r : EndReport) → owed s ≡ false → report s ≡ r → (cs : List Call) → T (none asks cs) → (Reporting cs → ⊥) → report (sentFrom table p s cs) ≡ r
+  still-reported : (s : Sent) (r : EndReport) → owed s ≡ false → report s ≡ r → (cs : List Call) → T (none asks cs) → (Reporting cs → ⊥) → report (run (rules R) s cs) ≡ r
   still-reported s r free e =
-      by-last (λ (cs : List Call). T (none asks cs) → (Reporting cs → ⊥) → report (sentFrom table p s cs) ≡ r)
-      (λ _ _. unfold sentFrom in e)
+      by-last (λ (cs : List Call). T (none asks cs) → (Reporting cs → ⊥) → report (run (rules R) s cs) ≡ r)
+      (λ _ _. unfold run in e)
       (λ cs c before t newest.
       let fewer = none-fewer asks cs c t in
-      let there : Sent = sentFrom table p s cs in
-      let none-owed : T (stores c) → owed there ≡ false = λ taken. never-owed (owed there) λ o. newest (reporting-here cs c taken (owed-from table p s free cs .0 o)) in
-      ap report (sent-last table p s cs c)
-      ∙ report-next table p there c
+      let there : Sent = run (rules R) s cs in
+      let none-owed : T (stores c) → owed there ≡ false = λ taken. never-owed (owed there) λ o. newest (reporting-here cs c taken (owed-from R s free cs .0 o)) in
+      ap report (run-last (rules R) cs c s)
+      ∙ report-next R there c
       ∙ ap (reportNext c (owed there)) (before (fewer .0) (λ old. newest (reporting-more cs c old)))
       ∙ kept-report c (owed there) r (fewer .1) none-owed)
 
-  reported-after : (cs : List Call) (n : ℕ) → Untold cs n → report (sentAll table p cs) ≡ Reported (record { 0 = n })
-  unfolding sentFrom
+  reported-after : (cs : List Call) (n : ℕ) → Untold cs n → report (sentAll R cs) ≡ Reported (record { 0 = n })
+  unfolding run
   reported-after cs n u =
       let r = u .report in
       let c : Call = update (r .fill) (r .capacity) (r .latency) in
-      let there : Sent = sentAll table p (r .before) in
-      let made : report (called table p there c .sent) ≡ Reported (record { 0 = n }) = report-next table p there c ∙ made-by (r .fill) (r .capacity) (r .latency) n (owed there) (report there) (r .taken) (owed-exactly table p (r .before) .1 (r .owed)) (u .samples) in
-      let free : owed (called table p there c .sent) ≡ false = owed-next table p there c ∙ freed-by (r .fill) (r .capacity) (r .latency) (owed there) (r .taken) in
-      ap (λ (ds : List Call). report (sentAll table p ds)) (r .parts)
-      ∙ ap report (sent-behind table p start (r .before) (c ∷ r .since))
-      ∙ still-reported (called table p there c .sent) (Reported (record { 0 = n })) free made (r .since) (u .unasked) (u .newest)
+      let there : Sent = sentAll R (r .before) in
+      let made : report (called R there c .sent) ≡ Reported (record { 0 = n }) = report-next R there c ∙ made-by (r .fill) (r .capacity) (r .latency) n (owed there) (report there) (r .taken) (owed-exactly R (r .before) .1 (r .owed)) (u .samples) in
+      let free : owed (called R there c .sent) ≡ false = owed-next R there c ∙ freed-by (r .fill) (r .capacity) (r .latency) (owed there) (r .taken) in
+      ap (λ (ds : List Call). report (sentAll R ds)) (r .parts)
+      ∙ ap report (run-joined (rules R) (r .before) (c ∷ r .since) start)
+      ∙ still-reported (called R there c .sent) (Reported (record { 0 = n })) free made (r .since) (u .unasked) (u .newest)
 
-  none-yet : (n : ℕ) → report (sentAll table p []) ≡ Reported (record { 0 = n }) → Untold [] n
-  unfolding sentFrom
+  none-yet : (n : ℕ) → report (sentAll R []) ≡ Reported (record { 0 = n }) → Untold [] n
+  unfolding run
   none-yet n e = let z : _≡_ {A = ℕ} 0 1 = cc in let never : ⊥ = omega arith in absurd never
 
-  untold-by : (cs : List Call) (n : ℕ) → report (sentAll table p cs) ≡ Reported (record { 0 = n }) → Untold cs n
+  untold-by : (cs : List Call) (n : ℕ) → report (sentAll R cs) ≡ Reported (record { 0 = n }) → Untold cs n
   untold-by =
-      by-last (λ (cs : List Call). (n : ℕ) → report (sentAll table p cs) ≡ Reported (record { 0 = n }) → Untold cs n)
+      by-last (λ (cs : List Call). (n : ℕ) → report (sentAll R cs) ≡ Reported (record { 0 = n }) → Untold cs n)
       none-yet
       (λ cs c before n e.
-      more-untold cs c (owed (sentAll table p cs)) (report (sentAll table p cs)) (owed-exactly table p cs) before n (sym (report-next table p (sentAll table p cs) c) ∙ ap report (sym (sent-last table p start cs c)) ∙ e))
+      more-untold cs c (owed (sentAll R cs)) (report (sentAll R cs)) (owed-exactly R cs) before n (sym (report-next R (sentAll R cs) c) ∙ ap report (sym (run-last (rules R) cs c start)) ∙ e))
 
-  pub told-exactly : (cs : List Call) (n : ℕ) → (called table p (sentAll table p cs) ask .said .answer ≡ transmitEnd n) ↔ Untold cs n
+  pub told-exactly : (cs : List Call) (n : ℕ) → (called R (sentAll R cs) ask .said .answer ≡ transmitEnd n) ↔ Untold cs n
   told-exactly cs n =
-      let told = told-report table p (sentAll table p cs) n in
-      (λ e. untold-by cs n (told .0 e), λ u. told .1 (reported-after cs n u))
+      (λ e. untold-by cs n (told-forth R (sentAll R cs) n e), λ u. told-back R (sentAll R cs) n (reported-after cs n u))

@@ -5,13 +5,16 @@ use mathlib.Core.List.{List, [], _∷_, _++_}
 use lib.Dec.{T, lit<}
 use lib.IntN.{ℤ, pos}
 use lib.ListN.{replicate}
-use Rattle.shaping.specs.Taps.{taps}
+use Rattle.machine.specs.Runs.{run, answers, Each}
+use Rattle.shaping.specs.Rate.{at48}
+use Rattle.shaping.proofs.RateFacts.{facts48}
 use Rattle.modulator.specs.declared.ModulatorFrame.the-variants.{Nothing as NoFrame, Preamble, EndOfTransmission}
-use Rattle.modulator.specs.Calls.{refusal}
+use Rattle.modulator.specs.Paper.{refusal}
+use Rattle.modulator.specs.Outcome.{frameOutcome, updateOutcome, actionBy}
 use Rattle.modulator.proofs.Cases.{read-unfit}
 use Rattle.modulator_laws.proofs.Instances.{astray, astray-unfit}
-use Rattle.modulator_run.specs.Rules.{Call, provide, read, update, ask, start, framed, provided, updated, asked, called, sentFrom, saidFrom, sentAll}
-use Rattle.modulator_run.specs.Run.{left, recordFrom, recordAfter, Delay, Given, AllGiven}
+use Rattle.modulator_run.specs.Rules.{Call, provide, read, update, ask, start, framed, settled, called, rules, sentAll}
+use Rattle.modulator_run.specs.Run.{left, sender, recordAfter, Delay, Given}
 use Rattle.modulator_run.specs.Kinds.{stores, raises, drops, delays, none}
 use Rattle.modulator_run.specs.Wish.{Wished}
 use Rattle.modulator_run.specs.Padding.{latencyOf, lastLatency, placesOf, placesRead, PaddingLeft, unset, set}
@@ -23,26 +26,26 @@ use Rattle.modulator_run.proofs.Refused.{refused-nothing, refused-skipp
 abbrev wishing : List Call
 wishing = update 100 2100 0 ∷ update 1 2000 0 ∷ provide EndOfTransmission [] ∷ ask ∷ []
 
-wishing-given : AllGiven wishing
-unfolding AllGiven Given Delay
+wishing-given : Each Given wishing
+unfolding Each Given Delay
 wishing-given = (tt, (tt, (tt, (tt, tt))))
 
 wished : Wished 10 wishing
 unfolding raises stores drops none
 wished = record { before = []; call = update 100 2100 0; since = update 1 2000 0 ∷ provide EndOfTransmission [] ∷ ask ∷ []; parts = refl; started = tt; unstopped = tt }
 
-wish-there : wish (sentAll taps 10 wishing) ≡ true
-wish-there = wish-exactly taps 10 wishing .1 wished
+wish-there : wish (sentAll at48 wishing) ≡ true
+wish-there = wish-exactly at48 wishing .1 wished
 
-wish-of-record : recordAfter wishing .pending .«try_get_frame» ≡ true
-wish-of-record = wish-by-record wishing wishing-given .1 wished
+wish-of-record : recordAfter at48 wishing .pending .«try_get_frame» ≡ true
+wish-of-record = wish-by-record at48 facts48 wishing wishing-given .1 wished
 
-wish-dropped : wish (sentAll taps 10 (wishing ++ provide NoFrame [] ∷ update 1 2000 0 ∷ [])) ≡ false
-unfolding sentFrom called provided framed updated asked
+wish-dropped : wish (sentAll at48 (wishing ++ provide NoFrame [] ∷ update 1 2000 0 ∷ [])) ≡ false
+unfolding run called frameOutcome settled framed updateOutcome actionBy
 wish-dropped = refl
 
 unwished : Wished 10 (wishing ++ provide NoFrame [] ∷ update 1 2000 0 ∷ []) → ⊥
-unwished w = subst T (sym (wish-exactly taps 10 (wishing ++ provide NoFrame [] ∷ update 1 2000 0 ∷ []) .1 w) ∙ wish-dropped) tt
+unwished w = subst T (sym (wish-exactly at48 (wishing ++ provide NoFrame [] ∷ update 1 2000 0 ∷ []) .1 w) ∙ wish-dropped) tt
 
 -- ---- a latency of 400 when the preamble comes, and two reads since: 25 * 480 - 400 - (600 + 1,000)
 abbrev readSince : List Call
@@ -51,43 +54,43 @@ readSince = read (replicate 600 (pos 7)) ∷ update 9 5 0 ∷ update 0 2000 9 �
 abbrev delaying : List Call
 delaying = update 0 2000 400 ∷ provide (Preamble (record { 0 = 25 })) [] ∷ readSince
 
-delaying-given : AllGiven delaying
-unfolding AllGiven Given Delay
+delaying-given : Each Given delaying
+unfolding Each Given Delay
 delaying-given = (tt, (lit< tt, (tt, (tt, (tt, (tt, (tt, tt)))))))
 
 left-of-it : PaddingLeft 10 delaying 10000
 unfolding stores delays none latencyOf lastLatency placesOf placesRead
 left-of-it = set (update 0 2000 400 ∷ []) (record { 0 = 25 }) [] readSince refl tt
 
-padding-there : padding (sentAll taps 10 delaying) ≡ 10000
-padding-there = padding-exactly taps 10 delaying 10000 .1 left-of-it
+padding-there : padding (sentAll at48 delaying) ≡ 10000
+padding-there = padding-exactly at48 delaying 10000 .1 left-of-it
 
-padding-of-record : recordAfter delaying .progress .«tx_delay_padding» .0 ≡ 10000
-padding-of-record = padding-by-record delaying delaying-given 10000 .1 left-of-it
+padding-of-record : recordAfter at48 delaying .progress .«tx_delay_padding» .0 ≡ 10000
+padding-of-record = padding-by-record at48 facts48 delaying delaying-given 10000 .1 left-of-it
 
 -- without a preamble
-none-set : padding (sentAll taps 10 readSince) ≡ 0
+none-set : padding (sentAll at48 readSince) ≡ 0
 unfolding delays none
-none-set = padding-exactly taps 10 readSince 0 .1 (unset tt)
+none-set = padding-exactly at48 readSince 0 .1 (unset tt)
 
 -- ---- capacity below fill, by the rules; and a read of an unfit record
-below-unsent : called taps 10 start (update 9 5 0) .sent ≡ start
-unfolding called updated
-below-unsent = refused-nothing taps 10 start (update 9 5 0) 9 refl .0
+below-unsent : called at48 start (update 9 5 0) .sent ≡ start
+unfolding called updateOutcome settled
+below-unsent = refused-nothing at48 start (update 9 5 0) 9 refl .0
 
-below-skipped : saidFrom taps 10 start (update 9 5 0 ∷ wishing) ≡ called taps 10 start (update 9 5 0) .said ∷ saidFrom taps 10 start wishing
-unfolding called updated
-below-skipped = refused-skipped taps 10 start (update 9 5 0) 9 wishing refl .1
+below-skipped : answers (rules at48) start (update 9 5 0 ∷ wishing) ≡ called at48 start (update 9 5 0) .said ∷ answers (rules at48) start wishing
+unfolding called updateOutcome settled
+below-skipped = refused-skipped at48 start (update 9 5 0) 9 wishing refl .1
 
 abbrev room : List ℤ
 room = pos 7 ∷ []
 
-astray-refuses : left astray (read room) .answer ≡ refusal 1
+astray-refuses : left at48 astray (read room) .answer ≡ refusal 1
 unfolding left
-astray-refuses = rw (read-unfit astray room astray-unfit)
+astray-refuses = rw (read-unfit at48 astray room astray-unfit)
 
-astray-kept : left astray (read room) .room ≡ room
-astray-kept = refused-record astray (read room) 1 astray-refuses .1
+astray-kept : left at48 astray (read room) .room ≡ room
+astray-kept = refused-record at48 astray (read room) 1 astray-refuses .1
 
-astray-skipped : recordFrom astray (read room ∷ wishing) ≡ recordFrom astray wishing
-astray-skipped = skipped-record astray (read room) 1 wishing astray-refuses .0
+astray-skipped : run (sender at48) astray (read room ∷ wishing) ≡ run (sender at48) astray wishing
+astray-skipped = skipped-record at48 astray (read room) 1 wishing astray-refuses .0

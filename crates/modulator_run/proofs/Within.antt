@@ -3,11 +3,10 @@ use mathlib.Core.Path.{_≡_, refl, sym, ap, subst, _∙_}
 use mathlib.Core.Logic.{inl, inr}
 use mathlib.Core.Bool.{Bool, true, false}
 use mathlib.Core.List.{List, [], _∷_, _++_, List·Memᴰ, List·Memᴰ·not-nil, List·Memᴰ·cases-cons}
-use Prim.Native.Nat.{ℕ, _+_, _-_, _*_, _≤_, _<_}
-use native.Mathlib.Nat.{mod-lt}
+use Prim.Native.Nat.{ℕ, _+_, _-_, _≤_, _<_}
 use native.Mathlib.Omega.{arith}
 use borrow.Author.Tests.{ltb-true, ltb-false}
-use lib.Dec.{T, ltb, lit<}
+use lib.Dec.{T, ltb, lit≤}
 use lib.IntN.{ℤ, pos, natAbs}
 use lib.ListN.{length, getD, drop, replicate, length-append, length-replicate, getD-replicate, List·getD-append}
 use lib.Seq.{getD-append-add}
@@ -17,24 +16,27 @@ use Rattle.numbers.specs.Firsts.{firsts}
 use Rattle.numbers.specs.Within.{Within}
 use Rattle.numbers.proofs.Bounds.{within→tests}
 use Rattle.numbers.proofs.Firsts.{length-firsts, firsts-at}
-use Rattle.shaping.specs.Taps.{taps}
-use Rattle.shaping.proofs.Sender.{sent-cut}
+use Rattle.machine.specs.Runs.{run, answers, Each}
+use Rattle.shaping.specs.Rate.{Rate}
+use Rattle.shaping.specs.Phase.{sampleLimit}
+use Rattle.shaping.proofs.RateFacts.{Facts}
+use Rattle.modulator.specs.Paper.{wrote}
 use Rattle.modulator.specs.Frame.{Symbols, preamble, given, ending, symbolFit}
-use Rattle.modulator.specs.Calls.{wrote}
+use Rattle.modulator.specs.Control.{zerosRead, samplesRead, handedOut}
+use Rattle.modulator.specs.Record.{storedSample}
 use Rattle.modulator_laws.proofs.Sizes.{Small, preamble-small, ending-small, given-small}
 use Rattle.modulator_run.specs.Stream.{sentAt}
-use Rattle.modulator_run.specs.Rules.{Call, Sent, Said, After, start, framed, zerosRead, samplesRead, frameSample, drained, called, sentFrom, saidFrom, sentAll, saidAll}
-use Rattle.modulator_run.specs.Run.{recordAfter, answersTo, AllGiven}
+use Rattle.modulator_run.specs.Rules.{Call, Sent, Said, After, start, framed, frameSample, drained, called, rules, sentAll, saidAll}
+use Rattle.modulator_run.specs.Run.{recordAfter, answersTo, Given}
 use Rattle.modulator_run.specs.Loudness.{SymbolsFit, Quiet}
 use Rattle.modulator_run.specs.Pieces.{counted}
 use Rattle.modulator_run.proofs.EachCall.{each-call}
-use Rattle.modulator_run.proofs.Phases.{phaseOf, at-phase}
+use Rattle.modulator_run.proofs.Phases.{stream-within}
 use Rattle.modulator_run.proofs.SenderRun.{sender-run}
 
 -- ---- a stream
-pub within : (symbols : List Float) → SymbolsFit symbols → (t : ℕ) → Quiet (sentAt taps 10 symbols t)
-unfolding sentAt
-within symbols fit t = sent-cut (phaseOf 9 t) (mod-lt (1 + 9 * t) (lit< tt)) _ (at-phase 9 symbols fit t)
+pub within : (R : Rate) → Facts R → (symbols : List Float) → SymbolsFit symbols → (t : ℕ) → Quiet (sentAt R symbols t)
+within R F = stream-within R sampleLimit (let u = F .some in omega arith) (F .finite) (F .number) (F .phases) (lit≤ tt)
 
 -- ---- the symbols of every frame that is taken
 small-fits : (x : Float) → Within x 1 → T (symbolFit x)
@@ -63,14 +65,14 @@ more-fit xs frame fit small i l =
     let here : i - length xs < frame .count = omega (arith, length-append xs (firsts (frame .symbol) (frame .count)), length-firsts (frame .symbol) (frame .count)) in
     rw (firsts-at (frame .symbol) (frame .count) (i - length xs) nan here) (small-fits (frame .symbol (i - length xs)) (small (i - length xs) here))
 
-module _ (table : List Float) (p : ℕ) where
+module _ (R : Rate) where
   abbrev FitAfter : After → Type 0
   FitAfter a = SymbolsFit (a .sent .symbols)
 
-  fit-called : (s : Sent) → SymbolsFit (s .symbols) → (c : Call) → FitAfter (called table p s c)
+  fit-called : (s : Sent) → SymbolsFit (s .symbols) → (c : Call) → FitAfter (called R s c)
   unfolding framed drained
   fit-called s fit =
-      each-call table p s (λ (_ : Call). FitAfter) (record {
+      each-call R s (λ (_ : Call). FitAfter) (record {
         refused = λ _ _ _. fit;
         no-frame = λ _. fit;
         delayed = λ _ _. more-fit (s .symbols) preamble fit preamble-small;
@@ -85,25 +87,25 @@ module _ (table : List Float) (p : ℕ) where
         rests = λ _ _ _. fit;
       })
 
-  fit-from : (cs : List Call) (s : Sent) → SymbolsFit (s .symbols) → SymbolsFit (sentFrom table p s cs .symbols)
-  unfolding sentFrom
+  fit-from : (cs : List Call) (s : Sent) → SymbolsFit (s .symbols) → SymbolsFit (run (rules R) s cs .symbols)
+  unfolding run
   fit-from [] s fit = fit
-  fit-from (c ∷ cs) s fit = fit-from cs (called table p s c .sent) (fit-called s fit c)
+  fit-from (c ∷ cs) s fit = fit-from cs (called R s c .sent) (fit-called s fit c)
 
-  pub symbols-fit : (cs : List Call) → SymbolsFit (sentAll table p cs .symbols)
+  pub symbols-fit : (cs : List Call) → SymbolsFit (sentAll R cs .symbols)
   symbols-fit cs = fit-from cs start (λ i l. let never : ⊥ = omega arith in absurd never)
 
 -- ---- what the reads hand out
-module _ (table : List Float) (p limit : ℕ) (bound : (symbols : List Float) → SymbolsFit symbols → (t : ℕ) → natAbs (sentAt table p symbols t) ≤ limit) where
+module _ (R : Rate) (limit : ℕ) (bound : (symbols : List Float) → SymbolsFit symbols → (t : ℕ) → natAbs (sentAt R symbols t) ≤ limit) where
   abbrev QuietSaid : Said → Type 0
   QuietSaid a = (i : ℕ) → i < counted (a .answer) → natAbs (getD (a .room) i (pos 0)) ≤ limit
 
-  quiet-read : (s : Sent) → SymbolsFit (s .symbols) → (room : List ℤ) → QuietSaid (drained table p room s .said)
-  unfolding drained counted
+  quiet-read : (s : Sent) → SymbolsFit (s .symbols) → (room : List ℤ) → QuietSaid (drained R room s .said)
+  unfolding drained handedOut counted
   quiet-read s fit room i l =
-      let zeros : ℕ = zerosRead table p s (length room) in
-      let samples : ℕ = samplesRead table p s (length room) in
-      let made : ℕ → ℤ = λ j. frameSample table p s (s .progress .«next_read» + j) in
+      let zeros : ℕ = zerosRead (s .progress) (length room) in
+      let samples : ℕ = samplesRead (s .progress) (length room) in
+      let made : ℕ → ℤ = λ j. frameSample R s (s .progress .«next_read» + j) in
       let small : ℤ → Type 0 = λ x. natAbs x ≤ limit in
       let front : length (replicate zeros (pos 0) ++ firsts made samples) ≡ zeros + samples =
       length-append (replicate zeros (pos 0)) (firsts made samples) ∙ ap (λ (n : ℕ). n + length (firsts made samples)) (length-replicate zeros (pos 0)) ∙ ap (λ (n : ℕ). zeros + n) (length-firsts made samples)
@@ -114,10 +116,10 @@ module _ (table : List Float) (p limit : ℕ) (bound : (symbols : List Float) �
       (λ k. rw (firsts-at made samples (i - length (replicate zeros (pos 0))) (pos 0) (omega (arith, length-replicate zeros (pos 0)))) (bound (s .symbols) fit _)))
       (λ k. let never : ⊥ = omega (arith, front) in absurd never)
 
-  quiet-called : (s : Sent) → SymbolsFit (s .symbols) → (c : Call) → QuietSaid (called table p s c .said)
+  quiet-called : (s : Sent) → SymbolsFit (s .symbols) → (c : Call) → QuietSaid (called R s c .said)
   unfolding counted
   quiet-called s fit =
-      each-call table p s (λ (_ : Call) (a : After). QuietSaid (a .said)) (record {
+      each-call R s (λ (_ : Call) (a : After). QuietSaid (a .said)) (record {
         refused = λ _ _ _ i l. let never : ⊥ = omega arith in absurd never;
         no-frame = λ _ i l. let never : ⊥ = omega arith in absurd never;
         delayed = λ _ _ i l. let never : ⊥ = omega arith in absurd never;
@@ -132,26 +134,27 @@ module _ (table : List Float) (p limit : ℕ) (bound : (symbols : List Float) �
         rests = λ _ _ _ i l. let never : ⊥ = omega arith in absurd never;
       })
 
-  quiet-from : (cs : List Call) (s : Sent) → SymbolsFit (s .symbols) → (a : Said) → List·Memᴰ a (saidFrom table p s cs) → QuietSaid a
-  unfolding saidFrom
+  quiet-from : (cs : List Call) (s : Sent) → SymbolsFit (s .symbols) → (a : Said) → List·Memᴰ a (answers (rules R) s cs) → QuietSaid a
+  unfolding answers
   quiet-from [] s fit a i = absurd (List·Memᴰ·not-nil i)
   quiet-from (c ∷ cs) s fit a i = elim (List·Memᴰ·cases-cons i) [
     | inl e ↦ subst QuietSaid (sym e) (quiet-called s fit c)
-    | inr j ↦ quiet-from cs (called table p s c .sent) (fit-called table p s fit c) a j
+    | inr j ↦ quiet-from cs (called R s c .sent) (fit-called R s fit c) a j
   ]
 
-  -- for every p and every table that keeps the limit
-  pub rules-within : (cs : List Call) (a : Said) → List·Memᴰ a (saidAll table p cs) → (n : ℕ) → a .answer ≡ wrote n → (i : ℕ) → i < n → natAbs (getD (a .room) i (pos 0)) ≤ limit
+  -- at every rate that keeps the limit
+  pub rules-within : (cs : List Call) (a : Said) → List·Memᴰ a (saidAll R cs) → (n : ℕ) → a .answer ≡ wrote n → (i : ℕ) → i < n → natAbs (getD (a .room) i (pos 0)) ≤ limit
   unfolding counted
   rules-within cs a i n e j l = quiet-from cs start (λ k h. let never : ⊥ = omega arith in absurd never) a i j (rw e l)
 
 -- ---- over every run of the record
--- every sample that a read hands out
-pub within-read : (cs : List Call) → AllGiven cs → (a : Said) → List·Memᴰ a (answersTo cs) → (n : ℕ) → a .answer ≡ wrote n → (i : ℕ) → i < n → Quiet (getD (a .room) i (pos 0))
-within-read cs g a i n e j l = rules-within taps 10 16383 within cs a (rw (sender-run cs g .1) at i) n e j l
+module _ (R : Rate) (F : Facts R) where
+  -- every sample that a read hands out
+  pub within-read : (cs : List Call) → Each Given cs → (a : Said) → List·Memᴰ a (answersTo R cs) → (n : ℕ) → a .answer ≡ wrote n → (i : ℕ) → i < n → Quiet (getD (a .room) i (pos 0))
+  within-read cs g a i n e j l = rules-within R sampleLimit (within R F) cs a (rw (sender-run R F cs g .1) at i) n e j l
 
--- every sample of every frame that is made, read or replaced
-pub within-made : (cs : List Call) → AllGiven cs → (i : ℕ) → i < recordAfter cs .progress .«next_len» → Quiet (getD (recordAfter cs .«next_transmission») i (pos 0))
-within-made cs g i l =
-    let r = sender-run cs g .0 .remembers in
-    rw (r .store i l) (within (sentAll taps 10 cs .symbols) (symbols-fit taps 10 cs) _)
+  -- every sample of every frame that is made, read or replaced
+  pub within-made : (cs : List Call) → Each Given cs → (i : ℕ) → i < recordAfter R cs .progress .«next_len» → Quiet (storedSample (recordAfter R cs) i)
+  within-made cs g i l =
+      let r = sender-run R F cs g .0 .remembers in
+      rw (r .store i l) (within R F (sentAll R cs .symbols) (symbols-fit R cs) _)

@@ -10,16 +10,21 @@ use lib.Ieee.{Float, binary32, ofBits, ofInt, add, mul, le, toSigned}
 use Rattle.numbers.specs.Sum.{sumTo}
 use Rattle.numbers.specs.Below.{allBelow}
 use Rattle.numbers.specs.Firsts.{firsts}
+use Rattle.machine.specs.Runs.{run, answers, Each}
 use Rattle.shaping.specs.Taps.{taps}
+use Rattle.shaping.specs.Rate.{at48}
 use Rattle.shaping.specs.Sum.{dot}
+use Rattle.shaping.proofs.RateFacts.{facts48}
 use Rattle.encode.specs.Frames.{preambleSign}
 use Rattle.modulator.specs.declared.Progress.{Progress}
 use Rattle.modulator.specs.declared.ModulatorFrame.the-variants.{Nothing as NoFrame, Preamble, Symbols as GivenSymbols, EndOfTransmission}
+use Rattle.modulator.specs.Paper.{Paper, refusal, done, wrote, transmitEnd, readOutput, idle, getFrame, nothing}
 use Rattle.modulator.specs.Frame.{preamble, symbolFit, paddingOf}
-use Rattle.modulator.specs.Calls.{Paper, refusal, done, wrote, transmitEnd, readOutput, idle, getFrame, nothing}
+use Rattle.modulator.specs.Control.{handedOut}
+use Rattle.modulator.specs.Outcome.{givenOutcome, frameOutcome, updateOutcome, actionBy}
 use Rattle.modulator_run.specs.Stream.{entered, enteringAt, sentAt}
-use Rattle.modulator_run.specs.Rules.{Call, provide, read, update, ask, Said, framed, provided, drained, updated, asked, called, sentFrom, saidFrom, sentAll, saidAll}
-use Rattle.modulator_run.specs.Run.{recordAfter, answersTo, Delay, Given, AllGiven}
+use Rattle.modulator_run.specs.Rules.{Call, provide, read, update, ask, Said, framed, settled, drained, called, sentAll, saidAll}
+use Rattle.modulator_run.specs.Run.{recordAfter, answersTo, Delay, Given}
 use Rattle.modulator_run.proofs.SenderRun.{sender-run}
 
 -- ---- P2: "first five preamble samples: -113, -103, -68, -12, 54"
@@ -29,7 +34,7 @@ firstSymbols = firsts (preamble .symbol) 192
 abbrev p2Samples : List ℤ
 p2Samples = negsuc 112 ∷ negsuc 102 ∷ negsuc 67 ∷ negsuc 11 ∷ pos 54 ∷ []
 
-pub p2 : firsts (λ (i : ℕ). sentAt taps 10 firstSymbols (i + 1)) 5 ≡ p2Samples
+pub p2 : firsts (λ (i : ℕ). sentAt at48 firstSymbols (i + 1)) 5 ≡ p2Samples
 unfolding sentAt enteringAt entered firsts dot sumTo taps ofBits ofInt add mul toSigned preambleSign
 p2 = refl
 
@@ -37,16 +42,16 @@ p2 = refl
 abbrev pub opening : List Call
 opening = provide (Preamble (record { 0 = 0 })) [] ∷ read (replicate 5 (pos 7)) ∷ []
 
-opening-said : saidAll taps 10 opening ≡ record { answer = done; room = [] } ∷ record { answer = wrote 5; room = p2Samples } ∷ []
-unfolding saidFrom called provided framed drained sentAt enteringAt entered firsts dot sumTo taps ofBits ofInt add mul toSigned preambleSign
+opening-said : saidAll at48 opening ≡ record { answer = done; room = [] } ∷ record { answer = wrote 5; room = p2Samples } ∷ []
+unfolding answers called frameOutcome settled framed drained handedOut sentAt enteringAt entered firsts dot sumTo taps ofBits ofInt add mul toSigned preambleSign
 opening-said = refl
 
-pub opening-given : AllGiven opening
-unfolding AllGiven Given Delay
+pub opening-given : Each Given opening
+unfolding Each Given Delay
 opening-given = (lit< tt, (tt, tt))
 
-pub p2-run : answersTo opening ≡ record { answer = done; room = [] } ∷ record { answer = wrote 5; room = p2Samples } ∷ []
-p2-run = sender-run opening opening-given .1 ∙ opening-said
+pub p2-run : answersTo at48 opening ≡ record { answer = done; room = [] } ∷ record { answer = wrote 5; room = p2Samples } ∷ []
+p2-run = sender-run at48 facts48 opening opening-given .1 ∙ opening-said
 
 -- ---- P12: "latency 500, TxDelay 1: padding 0; latency 400: 80"
 pub p12-500 : paddingOf 10 1 500 ≡ 0
@@ -58,25 +63,25 @@ p12-400 = refl
 abbrev delayed : ℕ → List Call
 delayed latency = update 0 2000 latency ∷ provide (Preamble (record { 0 = 1 })) [] ∷ []
 
-delayed-given : (latency : ℕ) → AllGiven (delayed latency)
-unfolding AllGiven Given Delay
+delayed-given : (latency : ℕ) → Each Given (delayed latency)
+unfolding Each Given Delay
 delayed-given latency = (tt, (lit< tt, tt))
 
-delayed-500 : sentAll taps 10 (delayed 500) .progress .«tx_delay_padding» .0 ≡ 0
-unfolding sentFrom called updated provided framed
+delayed-500 : sentAll at48 (delayed 500) .progress .«tx_delay_padding» .0 ≡ 0
+unfolding run called updateOutcome settled frameOutcome framed
 delayed-500 = refl
 
-delayed-400 : sentAll taps 10 (delayed 400) .progress .«tx_delay_padding» .0 ≡ 80
-unfolding sentFrom called updated provided framed
+delayed-400 : sentAll at48 (delayed 400) .progress .«tx_delay_padding» .0 ≡ 80
+unfolding run called updateOutcome settled frameOutcome framed
 delayed-400 = refl
 
 abbrev paddingIn : Progress → ℕ
 paddingIn s = s .«tx_delay_padding» .0
 
-pub p12-run : (recordAfter (delayed 500) .progress .«tx_delay_padding» .0 ≡ 0) × (recordAfter (delayed 400) .progress .«tx_delay_padding» .0 ≡ 80)
+pub p12-run : (recordAfter at48 (delayed 500) .progress .«tx_delay_padding» .0 ≡ 0) × (recordAfter at48 (delayed 400) .progress .«tx_delay_padding» .0 ≡ 80)
 p12-run = (
-  ap paddingIn (sender-run (delayed 500) (delayed-given 500) .0 .progress) ∙ delayed-500,
-  ap paddingIn (sender-run (delayed 400) (delayed-given 400) .0 .progress) ∙ delayed-400,
+  ap paddingIn (sender-run at48 facts48 (delayed 500) (delayed-given 500) .0 .progress) ∙ delayed-500,
+  ap paddingIn (sender-run at48 facts48 (delayed 400) (delayed-given 400) .0 .progress) ∙ delayed-400,
 )
 
 -- ---- two ends before one update make one report, told once; then the unread samples of the end are asked for
@@ -86,22 +91,22 @@ endedTwice = provide EndOfTransmission [] ∷ provide EndOfTransmission [] ∷ u
 abbrev bare : Paper → Said
 bare answer = record { answer = answer; room = [] }
 
-pub one-report-said : saidAll taps 10 endedTwice ≡ bare done ∷ bare done ∷ bare done ∷ bare (transmitEnd 150) ∷ bare readOutput ∷ []
-unfolding saidFrom called updated provided framed asked
+pub one-report-said : saidAll at48 endedTwice ≡ bare done ∷ bare done ∷ bare done ∷ bare (transmitEnd 150) ∷ bare readOutput ∷ []
+unfolding answers called updateOutcome settled frameOutcome framed actionBy
 one-report-said = refl
 
 -- ---- "idle yes (once from a fresh start)"; then the wish that an update raises, until none drops it
 abbrev idling : List Call
 idling = ask ∷ ask ∷ update 0 2000 0 ∷ ask ∷ update 0 1999 0 ∷ ask ∷ provide NoFrame [] ∷ ask ∷ []
 
-pub idle-said : saidAll taps 10 idling ≡ bare (idle true) ∷ bare nothing ∷ bare done ∷ bare getFrame ∷ bare done ∷ bare getFrame ∷ bare done ∷ bare nothing ∷ []
-unfolding saidFrom called updated provided framed asked
+pub idle-said : saidAll at48 idling ≡ bare (idle true) ∷ bare nothing ∷ bare done ∷ bare getFrame ∷ bare done ∷ bare getFrame ∷ bare done ∷ bare nothing ∷ []
+unfolding answers called updateOutcome settled frameOutcome framed actionBy
 idle-said = refl
 
 -- ---- each refusal
 abbrev refusing : List Call
 refusing = provide GivenSymbols [] ∷ provide GivenSymbols (replicate 192 (ofBits binary32 0x4000_0000)) ∷ update 16777217 0 0 ∷ update 1 0 0 ∷ []
 
-pub refused-said : saidAll taps 10 refusing ≡ bare (refusal 6) ∷ bare (refusal 7) ∷ bare (refusal 8) ∷ bare (refusal 9) ∷ []
-unfolding saidFrom called updated provided allBelow symbolFit ofBits le
+pub refused-said : saidAll at48 refusing ≡ bare (refusal 6) ∷ bare (refusal 7) ∷ bare (refusal 8) ∷ bare (refusal 9) ∷ []
+unfolding answers called updateOutcome settled frameOutcome givenOutcome allBelow symbolFit ofBits le
 refused-said = refl

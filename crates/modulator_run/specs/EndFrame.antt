@@ -5,11 +5,13 @@ use Prim.Native.Nat.{ℕ, _+_, _-_, _*_, _<_}
 use lib.IntN.{pos}
 use lib.ListN.{getD}
 use lib.Ieee.{nan, binary32, ofBits}
+use Rattle.shaping.specs.Rate.{Rate, tapCount}
+use Rattle.pulse.specs.Pulse.{pulses, sampleAt}
 use Rattle.modulator.specs.declared.SoftModulator.{SoftModulator}
-use Rattle.modulator.specs.Pulse.{pulses, sampleAt}
+use Rattle.modulator.specs.Paper.{done}
 use Rattle.modulator.specs.Frame.{ending}
-use Rattle.modulator.specs.Record.{lineOf}
-use Rattle.modulator.specs.Calls.{Left, done}
+use Rattle.modulator.specs.Record.{lineOf, storedSample}
+use Rattle.modulator.specs.Calls.{Left}
 
 -- "80 zero symbols"
 abbrev pub flushSymbols : ℕ
@@ -24,11 +26,11 @@ abbrev pub silentSamples : ℕ → ℕ
 silentSamples p = 73 * p - 1
 
 -- what the end of transmission leaves, of the record m
-pub record EndFrame (m : SoftModulator) (left : Left) : Type 0 where
+pub record EndFrame (R : Rate) (m : SoftModulator) (left : Left) : Type 0 where
   pub answer : left .answer ≡ done
-  pub number : left .modulator .progress .«next_len» ≡ endSamples 10
+  pub number : left .modulator .progress .«next_len» ≡ endSamples (R .p)
   pub unread : left .modulator .progress .«next_read» ≡ 0
-  pub samples : (i : ℕ) → i < endSamples 10 → getD (left .modulator .«next_transmission») i (pos 0) ≡ sampleAt (pulses 10 (ending .symbol)) (lineOf m) i
-  pub silence : (i : ℕ) → i < silentSamples 10 → getD (left .modulator .«next_transmission») ((endSamples 10 - silentSamples 10) + i) (pos 0) ≡ pos 0
-  pub window : (i : ℕ) → i < 81 → getD (left .modulator .«filter_win») i nan ≡ ofBits binary32 0
+  pub samples : (i : ℕ) → i < endSamples (R .p) → storedSample (left .modulator) i ≡ sampleAt R (pulses (R .p) (ending .symbol)) (lineOf m) i
+  pub silence : (i : ℕ) → i < silentSamples (R .p) → storedSample (left .modulator) ((endSamples (R .p) - silentSamples (R .p)) + i) ≡ pos 0
+  pub window : (i : ℕ) → i < tapCount (R .p) → getD (left .modulator .«filter_win») i nan ≡ ofBits binary32 0
   pub owed : left .modulator .pending .«calculate_tx_end» ≡ true

@@ -2,24 +2,25 @@
 use mathlib.Core.Path.{_≡_}
 use mathlib.Core.Bool.{Bool, true, false, not, _&&_}
 use mathlib.Core.List.{List, [], _∷_, _++_}
-use Prim.Native.Nat.{ℕ, _-_, _*_}
-use lib.Dec.{T, leb}
+use Prim.Native.Nat.{ℕ, _-_}
+use lib.Dec.{T, leb, ltb}
+use Rattle.shaping.specs.Rate.{wishRoom}
 use Rattle.modulator.specs.declared.ModulatorFrame.the-variants.{Nothing as NoFrame, Preamble, Symbols as GivenSymbols, EndOfTransmission}
-use Rattle.modulator.specs.Fit.{countFit}
+use Rattle.modulator.specs.Outcome.{tooLarge}
 use Rattle.modulator_run.specs.Rules.{Call, provide, read, update, ask}
 
 -- an update that is not refused. 8: "fill, capacity or latency above 16,777,216"; 9: "capacity below fill"
 unfoldable pub stores : Call → Bool
 stores (provide frame symbols) = false
 stores (read room) = false
-stores (update fill capacity latency) = countFit fill && countFit capacity && countFit latency && leb fill capacity
+stores (update fill capacity latency) = not (tooLarge fill capacity latency) && not (ltb capacity fill)
 stores ask = false
 
 -- "If capacity - fill is at least 2,000 the wish for a frame is raised."
 unfoldable pub raises : ℕ → Call → Bool
 raises p (provide frame symbols) = false
 raises p (read room) = false
-raises p (update fill capacity latency) = stores (update fill capacity latency) && leb (200 * p) (capacity - fill)
+raises p (update fill capacity latency) = stores (update fill capacity latency) && leb (wishRoom p) (capacity - fill)
 raises p ask = false
 
 unfoldable pub asks : Call → Bool

@@ -4,11 +4,13 @@ use mathlib.Core.List.{List, [], _∷_, map, flatten}
 use Prim.Native.Nat.{ℕ, _+_}
 use lib.IntN.{ℤ}
 use lib.ListN.{take}
-use Rattle.modulator.specs.Calls.{Paper, refusal, done, wrote, transmitEnd, readOutput, idle, getFrame, nothing}
-use Rattle.modulator.specs.Calls.{read as readInto}
+use Rattle.machine.specs.Runs.{run, answers}
+use Rattle.shaping.specs.Rate.{Rate}
 use Rattle.modulator.specs.declared.SoftModulator.{SoftModulator}
+use Rattle.modulator.specs.Paper.{Paper, refusal, done, wrote, transmitEnd, readOutput, idle, getFrame, nothing}
+use Rattle.modulator.specs.Calls.{read as readInto}
 use Rattle.modulator_run.specs.Rules.{Call, read, Said}
-use Rattle.modulator_run.specs.Run.{recordFrom, answersFrom}
+use Rattle.modulator_run.specs.Run.{sender}
 
 -- how many samples an answer says were written
 unfoldable pub counted : Paper → ℕ
@@ -42,7 +44,7 @@ pub record SameAs (pieces : List Said) (once : Said) : Type 0 where
   pub rooms : flatten (map roomOf pieces) ≡ once .room
 
 -- the same of a record's reads, and of the record that they leave
-pub record SameLeft (m : SoftModulator) (rooms : List (List ℤ)) : Type 0 where
-  pub number : readInto m (flatten rooms) .answer ≡ wrote (total (answersFrom m (reads rooms)))
-  pub modulator : recordFrom m (reads rooms) ≡ readInto m (flatten rooms) .modulator
-  pub written : flatten (map roomOf (answersFrom m (reads rooms))) ≡ readInto m (flatten rooms) .room
+pub record SameLeft (R : Rate) (m : SoftModulator) (rooms : List (List ℤ)) : Type 0 where
+  pub number : readInto R m (flatten rooms) .answer ≡ wrote (total (answers (sender R) m (reads rooms)))
+  pub modulator : run (sender R) m (reads rooms) ≡ readInto R m (flatten rooms) .modulator
+  pub written : flatten (map roomOf (answers (sender R) m (reads rooms))) ≡ readInto R m (flatten rooms) .room

@@ -4,7 +4,7 @@ use mathlib.Core.Path.{_≡_}
 use mathlib.Core.List.{List, _∷_, _++_}
 use Prim.Native.Nat.{ℕ, _+_, _≤_}
 use lib.Dec.{T}
-use lib.Ieee.{Float}
+use Rattle.shaping.specs.Rate.{Rate}
 use Rattle.modulator.specs.declared.EndReport.the-variants.{Nothing as NoReport}
 use Rattle.modulator_run.specs.Rules.{Call, update, ask, Sent, sentAll}
 use Rattle.modulator_run.specs.Kinds.{stores, asks, ends, none, Lasting}
@@ -51,8 +51,8 @@ pub record Free (s : Sent) : Type 0 where
   pub all-read : s .progress .«next_len» ≤ s .progress .«next_read»
 
 -- some earlier action request found neither
-pub record FreeBefore (table : List Float) (p : ℕ) (cs : List Call) : Type 0 where
+pub record FreeBefore (R : Rate) (cs : List Call) : Type 0 where
   pub before : List Call
   pub since : List Call
   pub parts : cs ≡ before ++ ask ∷ since
-  pub free : Free (sentAll table p before)
+  pub free : Free (sentAll R before)

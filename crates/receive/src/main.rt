@@ -1,5 +1,5 @@
-// Reads i16 samples from standard input, low byte first, and writes the windows that it accepts to standard output, one line each. All that it does between its reads and its writes is the
-// library receiving. Where a read or a write fails, or a sample is refused, it stops and says so on standard error; what it wrote by then begins the right output.
+// Reads i16 samples from standard input, low byte first, and writes a line for each window that it accepts, by the library receiving.
+// Where a read or a write fails, or a sample is refused, it stops and says so on standard error: what it wrote begins the output.
 use house::Trouble;
 use libc::STDIN_FILENO;
 use libc::STDOUT_FILENO;
@@ -11,12 +11,12 @@ struct Turn {
     receiving: Receiving,
 }
 
-// The lines of one read's samples. There is room for a line of each, so bytes are left over only where the next sample would be refused.
+// The lines of one read's samples. There is room for a line of each, so bytes are left over only where a sample is refused.
 fn hear_some(receiving: Receiving, bytes: &[u8]) -> Turn {
     let mut lines = [0u8; 24832];
     let after = receiving.hear(bytes, &mut lines);
     let written = after.written;
-    let taken = after.taken;
+    let consumed = after.consumed;
     let next = after.receiving;
     if !io::write_all(STDOUT_FILENO, &lines[..written]) {
         telling::say(Trouble::Writing);
@@ -25,7 +25,7 @@ fn hear_some(receiving: Receiving, bytes: &[u8]) -> Turn {
             receiving: next,
         };
     }
-    let more = taken == bytes.len();
+    let more = consumed == bytes.len();
     if !more {
         telling::say(Trouble::Refused);
     }

@@ -1,20 +1,27 @@
 -- Small instances of what the laws ask. Assumes nothing.
 use mathlib.Core.Path.{_≡_, refl}
 use mathlib.Core.Logic.{inl, inr}
-use mathlib.Core.List.{List, [], _∷_, _++_}
+use mathlib.Core.List.{List, [], _∷_, _++_, flatMap}
 use Prim.Native.Nat.{ℕ, _^_, _≤_}
 use lib.Dec.{lit<, lit≤}
 use lib.IntN.{pos, negsuc}
 use lib.ListN.{length, take}
+use Rattle.machine.specs.Runs.{run, Each}
+use Rattle.shaping.specs.Rate.{at48}
+use Rattle.shaping.proofs.RateFacts.{facts48}
+use Rattle.demodulator.specs.Record.{fresh}
 use Rattle.demodulator.specs.Calls.{nothing}
 use Rattle.demodulator_run.specs.Rules.{start}
 use Rattle.house.specs.Samples.{numberOf, sampleOf}
 use Rattle.receiving.specs.declared.Odd.the-variants.{Held}
 use Rattle.receiving.specs.Pairs.{samplesOf, oddOf}
-use Rattle.receiving.specs.Receivers.{rulesFrom, receivedText}
+use Rattle.receiving.specs.Listener.{listener, offers, recordAt}
+use Rattle.receiving.specs.Text.{verdict}
 use Rattle.receiving.specs.Hear.{looked}
-use Rattle.receiving.specs.Caller.{Bytes, Read, Short, freshCaller, input, given, hearing, callerAfter, textOf, takenBy}
-use Rattle.receiving.proofs.NextCall.{Hears, ruled, hear-run, next-taken}
+use Rattle.receiving.specs.Caller.{Bytes, Read, Short, freshCaller, input, given, intakeAt, callerAfter, textOf, consumedBy}
+use Rattle.receiving.specs.Rules.{rulesAt, rules48, rulesIntake, receivedText}
+use Rattle.receiving.proofs.Agreement.{same-offers}
+use Rattle.receiving.proofs.NextCall.{bytes-fit, SameIntake, hear-run, next-taken}
 use Rattle.receiving.proofs.ReceiveRun.{Receives, ReceivesWhole, receive-run, receive-whole, all-taken, sizes-alike, output-prefix, failed-write}
 
 -- ---- five bytes, which are two samples and an odd one
@@ -34,27 +41,27 @@ cramped : List Read
 cramped = read (0x34 ∷ 0x12 ∷ 0xfe ∷ []) 96 ∷ read [] 97 ∷ read (0xff ∷ 0x07 ∷ []) 0 ∷ read [] 97 ∷ []
 
 low-first : samplesOf (input cut) ≡ pos 0x1234 ∷ negsuc 1 ∷ []
-unfolding cut input samplesOf sampleOf numberOf
+unfolding cut flatMap samplesOf sampleOf numberOf
 low-first = refl
 
 last-odd : oddOf (input cut) ≡ Held 0x07
-unfolding cut input oddOf
+unfolding cut flatMap oddOf
 last-odd = refl
 
 cut-short : Short cut
-unfolding cut Short
-cut-short = (lit≤ tt, lit≤ tt, (lit≤ tt, lit≤ tt, (lit≤ tt, lit≤ tt, (lit≤ tt, lit≤ tt, tt))))
+unfolding cut Each
+cut-short = ((lit≤ tt, lit≤ tt), ((lit≤ tt, lit≤ tt), ((lit≤ tt, lit≤ tt), ((lit≤ tt, lit≤ tt), tt))))
 
 whole-short : Short whole
-unfolding whole Short
-whole-short = (lit≤ tt, lit≤ tt, tt)
+unfolding whole Each
+whole-short = ((lit≤ tt, lit≤ tt), tt)
 
 cut-bytes : Bytes (input cut)
-unfolding cut input Bytes
+unfolding cut flatMap Each
 cut-bytes = (lit< tt, (lit< tt, (lit< tt, (lit< tt, (lit< tt, tt)))))
 
 cramped-bytes : Bytes (input cramped)
-unfolding cramped input Bytes
+unfolding cramped flatMap Each
 cramped-bytes = (lit< tt, (lit< tt, (lit< tt, (lit< tt, (lit< tt, tt)))))
 
 cramped-received : Receives cramped
@@ -64,14 +71,14 @@ cut-received : ReceivesWhole cut
 cut-received = receive-whole cut cut-short cut-bytes
 
 two-samples : length (samplesOf (input cut)) ≤ 2 ^ 63
-unfolding cut input samplesOf
+unfolding cut flatMap samplesOf
 two-samples = lit≤ tt
 
-cut-all-taken : (callerAfter freshCaller cut .untaken ≡ []) × (callerAfter freshCaller cut .receiving .odd ≡ oddOf (input cut))
+cut-all-taken : (callerAfter freshCaller cut .unused ≡ []) × (callerAfter freshCaller cut .receiving .odd ≡ oddOf (input cut))
 cut-all-taken = all-taken cut cut-short cut-bytes two-samples
 
 same-bytes : input cut ≡ input whole
-unfolding cut whole input
+unfolding cut whole flatMap
 same-bytes = refl
 
 cut-or-whole : textOf freshCaller cut ≡ textOf freshCaller whole
@@ -84,20 +91,24 @@ cut-begins back = output-prefix cut back cut-bytes
 cut-failed : (back : List Read) → (rest : List ℕ) × (receivedText (input (cut ++ back)) ≡ take 1 (textOf freshCaller cut) ++ rest)
 cut-failed back = failed-write cut back cut-bytes 1
 
--- and the next read of it is taken
+-- and the next read of it is consumed
 one-more : Read
 one-more = read (0x00 ∷ []) 24832
 
 six-bytes : Bytes (input cut ++ one-more .bytes)
-unfolding cut one-more input Bytes
+unfolding cut one-more flatMap Each
 six-bytes = (lit< tt, (lit< tt, (lit< tt, (lit< tt, (lit< tt, (lit< tt, tt))))))
 
 three-samples : length (samplesOf (input cut ++ one-more .bytes)) ≤ 2 ^ 63
-unfolding cut one-more input samplesOf
+unfolding cut one-more flatMap samplesOf
 three-samples = lit≤ tt
 
-cut-goes-on : hearing (callerAfter freshCaller cut) one-more .answer ≡ nothing
+cut-goes-on : intakeAt (callerAfter freshCaller cut) one-more .answer ≡ nothing
 cut-goes-on = next-taken cut one-more six-bytes three-samples .0
 
-cut-by-rules : let c = callerAfter freshCaller cut in Hears (hearing c one-more) (ruled (rulesFrom start (samplesOf (takenBy freshCaller cut))) (c .receiving .odd) (looked (given c one-more) (one-more .places)) (one-more .places))
+cut-by-rules : let c = callerAfter freshCaller cut in SameIntake (intakeAt c one-more) (rulesIntake (run (listener rules48 verdict) start (samplesOf (consumedBy freshCaller cut))) (c .receiving .odd) (looked (given c one-more) (one-more .places)) (one-more .places))
 cut-by-rules = hear-run cut one-more six-bytes
+
+-- ---- the list of offers
+cut-offers : offers (recordAt at48) verdict fresh (samplesOf (input cut)) ≡ offers (rulesAt at48) verdict start (samplesOf (input cut))
+cut-offers = same-offers at48 facts48 verdict (samplesOf (input cut)) (bytes-fit (input cut) cut-bytes)

@@ -1,33 +1,32 @@
 -- The laws of receiving.
+-- the list of offers
+pub mod Listener
 -- bytes in pairs
-pub mod Pairing
+pub mod BytePairs
 -- lines in a room
 pub mod Lines
+-- how many samples go in
+pub mod FedCount
 -- a stretch of samples
 pub mod FedStretch
--- an offer and a stretch as the code settles them
-pub mod Settling
+-- an offer, a stretch and an empty call as the code settles them
+pub mod Settlement
 -- all samples, stretch by stretch
 pub mod Progress
--- how many samples go in, and the bytes that they are
-pub mod GoIn
-pub mod TakenBytes
+-- the bytes of the samples that go in
+pub mod ConsumedBytes
 -- a call with bytes
-pub mod HearSays
+pub mod HearPromise
 -- a refused one
 pub mod RefusedHear
--- two lists of samples
-pub mod Joining
 -- reads of any sizes
 pub mod AnyReads
 -- reads of the program's sizes
 pub mod WholeReads
 -- the record and the rules
-pub mod Agreeing
--- receive as a list of calls
-pub mod AsCalls
+pub mod Agreement
 -- no reply is owed between samples
-pub mod Owing
+pub mod OwedReply
 -- the next call, by the rules
 pub mod NextCall
 -- the whole input

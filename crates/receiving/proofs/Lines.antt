@@ -1,37 +1,52 @@
 -- Lines in a room: how long they are, and what a tail that is lent comes back as. Assumes nothing.
-use mathlib.Core.Path.{_≡_, sym, _∙_}
-use mathlib.Core.Bool.{Bool, true, false, cond}
-use mathlib.Core.List.{List, [], _++_, append-nil}
+use mathlib.Core.Path.{_≡_, sym, ap, _∙_}
+use mathlib.Core.List.{List, [], _∷_, _++_, append-nil, flatMap}
 use Prim.Native.Nat.{ℕ, _-_, _≤_, _<_}
 use native.Mathlib.Omega.{arith}
 use lib.Dec.{lit≤}
+use lib.IntN.{ℤ}
 use lib.ListN.{length, getD, take, drop, length-append, length-drop, drop-of-length-le}
 use lib.Seq.{ext-getD, take-all}
 use lib.Ieee.{Float}
-use Rattle.protocol.specs.declared.Kind.{Kind}
 use Rattle.numbers.specs.Firsts.{firsts}
 use Rattle.numbers.proofs.Firsts.{length-firsts, firsts-at}
+use Rattle.machine.specs.Runs.{Machine, run}
+use Rattle.machine.proofs.Parts.{given-joined}
+use Rattle.search.specs.declared.Reply.{Reply}
+use Rattle.search.specs.declared.Reply.the-variants.{Accepted, Rejected}
 use Rattle.demodulator.specs.Calls.{Paper, refusal, nothing, frame, done, carrier}
+use Rattle.demodulator.specs.Singles.{Single, Said}
 use Rattle.house.specs.Line.{lineOf}
-use Rattle.house.specs.Accept.{accepted, symbolAt}
-use Rattle.receiving.specs.Answers.{acceptedLine, lineFor}
+use Rattle.receiving.specs.Listener.{Listed, listedOf, listener, offers}
+use Rattle.receiving.specs.Text.{verdict, ifAccepted, linesOf, textFrom}
+use Rattle.receiving.proofs.Listener.{offers-joined}
 
 -- ---- a line
 pub length-line : (window : List Float) → length (lineOf window) ≡ 97
 unfolding lineOf
 length-line window = simp (length-append, length-firsts)
 
-pub accepted-at-most : (kind : Kind) (window : List Float) → length (acceptedLine kind window) ≤ 97
-unfolding acceptedLine
-accepted-at-most kind window = by-verdict (accepted kind (symbolAt window))
-  where
-    by-verdict : (t : Bool) → length (cond t (lineOf window) []) ≤ 97
-    by-verdict true = omega (arith, length-line window)
-    by-verdict false = lit≤ tt
+accepted-at-most : (r : Reply) (window : List Float) → length (ifAccepted r (lineOf window)) ≤ 97
+unfolding ifAccepted
+accepted-at-most Accepted window = omega (arith, length-line window)
+accepted-at-most Rejected window = lit≤ tt
 
-pub line-short : (a : Paper) (window : List Float) → length (lineFor a window) ≤ 97
-unfolding lineFor
-line-short (frame kind d) window = accepted-at-most kind window
+-- ---- the lines of offers
+pub line-alone : (o : Listed) → linesOf (o ∷ []) ≡ ifAccepted (o .reply) (lineOf (o .symbols))
+unfolding linesOf flatMap
+line-alone o = append-nil (ifAccepted (o .reply) (lineOf (o .symbols)))
+
+pub lines-joined : (xs ys : List Listed) → linesOf (xs ++ ys) ≡ linesOf xs ++ linesOf ys
+unfolding linesOf
+lines-joined = given-joined (λ (o : Listed). ifAccepted (o .reply) (lineOf (o .symbols)))
+
+pub text-joined : {S : Type 0} (m : Machine S Single Said) (s : S) (xs ys : List ℤ) → textFrom m s (xs ++ ys) ≡ textFrom m s xs ++ textFrom m (run (listener m verdict) s xs) ys
+text-joined m s xs ys = ap linesOf (offers-joined m verdict s xs ys) ∙ lines-joined (offers m verdict s xs) _
+
+-- an answer makes one line at most
+pub line-short : (a : Paper) (window : List Float) → length (linesOf (listedOf verdict a window)) ≤ 97
+unfolding listedOf linesOf flatMap
+line-short (frame o) window = rw append-nil (accepted-at-most (verdict (o .kind) window) window)
 line-short (refusal number) window = lit≤ tt
 line-short nothing window = lit≤ tt
 line-short done window = lit≤ tt
@@ -57,5 +72,5 @@ module _ {A : Type 0} (room : List A) (at : ℕ) where
   -- and the room once the tail is back
   pub tail-back : (after : List A) → take at room ++ (after ++ drop (length room - at) (drop at room)) ≡ take at room ++ after
   tail-back after =
-      let behind : drop (length room - at) (drop at room) ≡ [] = drop-of-length-le (drop at room) no-longer in
-      rw (behind, append-nil after)
+      let past : drop (length room - at) (drop at room) ≡ [] = drop-of-length-le (drop at room) no-longer in
+      rw (past, append-nil after)

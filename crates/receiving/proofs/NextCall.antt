@@ -9,60 +9,70 @@ use borrow.Author.Tests.{eq-eqb}
 use lib.Dec.{ltb}
 use lib.IntN.{ℤ}
 use lib.ListN.{length, take, drop, length-append, take-append-drop}
+use mir.Syntax.{w16}
+use mir.Val.{SFits}
+use Rattle.machine.specs.Runs.{run, answers, Each}
+use Rattle.machine.proofs.Parts.{answers-long, each-front, each-back}
+use Rattle.machine.proofs.Simulation.{runs-related, answers-alike}
+use Rattle.shaping.specs.Rate.{at48}
+use Rattle.shaping.proofs.RateFacts.{facts48}
 use Rattle.demodulator.specs.declared.SoftDemodulator.{SoftDemodulator}
 use Rattle.demodulator.specs.Record.{fresh}
 use Rattle.demodulator.specs.Fit.{recordFit}
 use Rattle.demodulator.specs.Calls.{nothing}
-use Rattle.demodulator_run.specs.Rules.{Heard, start}
+use Rattle.demodulator.specs.Singles.{Said}
+use Rattle.demodulator_run.specs.Rules.{History, start}
 use Rattle.demodulator_run.specs.Represents.{Represents}
-use Rattle.demodulator_run.specs.Stretch.{Sixteen}
-use Rattle.demodulator_run.proofs.Sixteen.{sixteen-front, sixteen-back}
-use Rattle.demodulator_run.proofs.Whole.{Stands, stands-start}
+use Rattle.demodulator_run.proofs.Whole.{Stands, stands-fit, stands-start}
 use Rattle.house.proofs.Samples.{sample-fits}
 use Rattle.receiving.specs.declared.Odd.{Odd}
 use Rattle.receiving.specs.declared.Receiving.{Receiving}
 use Rattle.receiving.specs.Pairs.{samplesOf, oddOf, waiting}
-use Rattle.receiving.specs.Receivers.{recordSaid, recordNext, recordFrom, recordIn, recordTold, rulesSaid, rulesNext, rulesFrom, rulesLines, rulesIn}
-use Rattle.receiving.specs.Hear.{looked, samplesIn, takenOf, Hearing, heardOf}
-use Rattle.receiving.specs.Caller.{Bytes, Read, Caller, freshCaller, input, given, hearing, callerAfter, takenBy}
-use Rattle.receiving.proofs.Pairing.{samples-joined}
+use Rattle.receiving.specs.Listener.{listener}
+use Rattle.receiving.specs.Text.{verdict, linesOf, textFrom, goIn, batchOf, toldTo}
+use Rattle.receiving.specs.Hear.{looked, samplesIn, consumedOf, Intake, intakeOf, record48}
+use Rattle.receiving.specs.Caller.{Bytes, Read, Caller, freshCaller, input, given, intakeAt, callerAfter, consumedBy}
+use Rattle.receiving.specs.Rules.{rules48, rulesIntake}
+use Rattle.receiving.proofs.BytePairs.{samples-joined}
+use Rattle.receiving.proofs.FedCount.{NotRefused, told-nothing, all-in}
 use Rattle.receiving.proofs.AnyReads.{samples-cut, any-reads}
 use Rattle.receiving.proofs.WholeReads.{few-samples, looked-all}
-use Rattle.receiving.proofs.Agreeing.{agree}
-use Rattle.receiving.proofs.Owing.{Untroubled, untroubled, between-start}
+use Rattle.receiving.proofs.Agreement.{listens, offers-agree}
+use Rattle.receiving.proofs.OwedReply.{untroubled, between-start}
 
 -- ---- bytes make samples that a caller can give
-pub sixteen : (bytes : List ℕ) → Bytes bytes → Sixteen (samplesOf bytes)
-unfolding Bytes samplesOf Sixteen
-sixteen [] b = tt
-sixteen (x ∷ []) b = tt
-sixteen (low ∷ high ∷ bytes) b = (sfits-of (sample-fits low high (b .0) (b .1 .0)), sixteen bytes (b .1 .1))
+abbrev pub SixteenBits : List ℤ → Type 0
+SixteenBits = Each (SFits w16)
 
--- ---- a call by the rules, which have no unfit record
-abbrev pub ruled : Heard → Odd → List ℕ → ℕ → Hearing Heard
-ruled = heardOf Heard rulesSaid rulesNext (λ (h : Heard). true)
+pub bytes-fit : (bytes : List ℕ) → Bytes bytes → SixteenBits (samplesOf bytes)
+unfolding Each samplesOf
+bytes-fit [] b = tt
+bytes-fit (x ∷ []) b = tt
+bytes-fit (low ∷ high ∷ bytes) b = (sfits-of (sample-fits low high (b .0) (b .1 .0)), bytes-fit bytes (b .1 .1))
 
-pub record Hears (f : Hearing SoftDemodulator) (g : Hearing Heard) : Type 0 where
+-- ---- a call of the record and one of the rules
+pub record SameIntake (f : Intake SoftDemodulator) (g : Intake History) : Type 0 where
   pub answers : f .answer ≡ g .answer
-  pub takes : f .taken ≡ g .taken
+  pub consumes : f .consumed ≡ g .consumed
   pub text : f .text ≡ g .text
   pub odd : f .odd ≡ g .odd
-  pub represents : Represents (f .state) (g .state)
+  pub represents : Represents at48 (f .state) (g .state)
 
-hears : (m : SoftDemodulator) (h : Heard) (odd : Odd) (bytes : List ℕ) (places : ℕ) → Stands m h → Sixteen (samplesIn odd bytes) → Hears (heardOf SoftDemodulator recordSaid recordNext recordFit m odd bytes places) (ruled h odd bytes places)
-unfolding heardOf
-hears m h odd bytes places s f =
+same-intake : (m : SoftDemodulator) (h : History) (odd : Odd) (bytes : List ℕ) (places : ℕ) → Stands at48 facts48 m h → SixteenBits (samplesIn odd bytes) → SameIntake (intakeOf record48 (recordFit 10) m odd bytes places) (rulesIntake h odd bytes places)
+unfolding intakeOf batchOf
+same-intake m h odd bytes places s g =
     let xs : List ℤ = samplesIn odd bytes in
-    let n : ℕ = recordIn m xs places in
-    let all = agree xs m h f s in
-    let part = agree (take n xs) m h (sixteen-front (take n xs) (drop n xs) (subst Sixteen (sym (take-append-drop n xs)) f)) s in
-    let counted : n ≡ rulesIn h xs places = all .counts places in
+    let said = answers-alike (listens at48 facts48 verdict) xs g m h s in
+    let fit = stands-fit at48 facts48 m h s .for-query in
+    let n : ℕ = goIn (answers (listener record48 verdict) m xs) places in
+    let front = each-front (SFits w16) (take n xs) (drop n xs) (subst SixteenBits (sym (take-append-drop n xs)) g) in
+    let counted = ap (λ (l : List Said). goIn l places) said in
     record {
-      answers = all .told;
-      takes = λ i. takenOf odd bytes (all .told i) (counted i);
-      text = part .lines ∙ ap (λ (k : ℕ). rulesLines h (take k xs)) counted;
-      odd = λ i. oddOf (waiting odd ++ take (takenOf odd bytes (all .told i) (counted i)) bytes);
-      represents = subst (λ (k : ℕ). Represents (recordFrom m (take n xs)) (rulesFrom h (take k xs))) counted (part .stands .represents);
+      answers = λ i. toldTo (fit i) (said i);
+      consumes = λ i. consumedOf odd bytes (toldTo (fit i) (said i)) (counted i);
+      text = ap linesOf (offers-agree at48 facts48 verdict (take n xs) front m h s) ∙ ap (λ (k : ℕ). textFrom rules48 h (take k xs)) counted;
+      odd = λ i. oddOf (waiting odd ++ take (consumedOf odd bytes (toldTo (fit i) (said i)) (counted i)) bytes);
+      represents = subst (λ (k : ℕ). Represents at48 (run (listener record48 verdict) m (take n xs)) (run (listener rules48 verdict) h (take k xs))) counted (runs-related (listens at48 facts48 verdict) (take n xs) front m h s .represents);
     }
 
 -- ---- after any reads
@@ -71,7 +81,7 @@ module _ (reads : List Read) (r : Read) (b : Bytes (input reads ++ r .bytes)) wh
   c = callerAfter freshCaller reads
 
   abbrev before : List ℕ
-  before = takenBy freshCaller reads
+  before = consumedBy freshCaller reads
 
   abbrev odd : Odd
   odd = c .receiving .odd
@@ -94,47 +104,49 @@ module _ (reads : List Read) (r : Read) (b : Bytes (input reads ++ r .bytes)) wh
   made-odd : odd ≡ oddOf before
   made-odd = ap (λ (q : Receiving). q .odd) (any-reads reads freshCaller .leaves)
 
-  made-record : c .receiving .demodulator ≡ recordFrom fresh xs
+  made-record : c .receiving .demodulator ≡ run (listener record48 verdict) fresh xs
   made-record = ap (λ (q : Receiving). q .demodulator) (any-reads reads freshCaller .leaves)
 
   samples : samplesOf (input reads ++ r .bytes) ≡ xs ++ (ys ++ zs)
   samples =
-      let all-cut : before ++ given c r ≡ input reads ++ r .bytes = sym (append-assoc before (c .untaken) (r .bytes)) ∙ ap (λ (l : List ℕ). l ++ r .bytes) (any-reads reads freshCaller .cut) in
+      let all-cut : before ++ given c r ≡ input reads ++ r .bytes = sym (append-assoc before (c .unused) (r .bytes)) ∙ ap (λ (l : List ℕ). l ++ r .bytes) (any-reads reads freshCaller .cut) in
       ap samplesOf (sym all-cut)
       ∙ samples-joined before (given c r)
       ∙ ap (λ (o : Odd). xs ++ samplesIn o (given c r)) (sym made-odd)
       ∙ ap (λ (l : List ℕ). xs ++ samplesIn odd l) (sym (take-append-drop (cond (ltb (r .places) 97) 0 512) (given c r)))
       ∙ ap (λ (l : List ℤ). xs ++ l) (samples-cut odd seen unseen)
 
-  fits : Sixteen (xs ++ (ys ++ zs))
-  fits = subst Sixteen samples (sixteen (input reads ++ r .bytes) b)
+  fits : SixteenBits (xs ++ (ys ++ zs))
+  fits = subst SixteenBits samples (bytes-fit (input reads ++ r .bytes) b)
 
-  fits-now : Sixteen ys
-  fits-now = sixteen-front ys zs (sixteen-back xs (ys ++ zs) fits)
+  fits-now : SixteenBits ys
+  fits-now = each-front (SFits w16) ys zs (each-back (SFits w16) xs (ys ++ zs) fits)
 
-  stands : Stands (c .receiving .demodulator) (rulesFrom start xs)
-  stands = rw made-record (agree xs fresh start (sixteen-front xs (ys ++ zs) fits) stands-start .stands)
+  stands : Stands at48 facts48 (c .receiving .demodulator) (run (listener rules48 verdict) start xs)
+  stands = rw made-record (runs-related (listens at48 facts48 verdict) xs (each-front (SFits w16) xs (ys ++ zs) fits) fresh start (stands-start at48 facts48))
 
-  pub hear-run : Hears (hearing c r) (ruled (rulesFrom start xs) odd seen (r .places))
-  hear-run = hears (c .receiving .demodulator) (rulesFrom start xs) odd seen (r .places) stands fits-now
+  pub hear-run : SameIntake (intakeAt c r) (rulesIntake (run (listener rules48 verdict) start xs) odd seen (r .places))
+  hear-run = same-intake (c .receiving .demodulator) (run (listener rules48 verdict) start xs) odd seen (r .places) stands fits-now
 
   -- ---- within 2^63 samples
   module _ (l : length (samplesOf (input reads ++ r .bytes)) ≤ 2 ^ 63) where
-    calm : Untroubled (rulesFrom start xs) (0 + length xs) ys
+    calm : Each NotRefused (answers (listener rules48 verdict) (run (listener rules48 verdict) start xs) ys)
     calm =
         let long : length xs + length ys ≤ 2 ^ 63 = omega (arith, ap length samples ∙ length-append xs (ys ++ zs), length-append ys zs) in
-        untroubled ys (rulesFrom start xs) (0 + length xs) (untroubled xs start 0 between-start (omega arith) .between) (omega arith)
+        untroubled at48 verdict ys _ (0 + length xs) (untroubled at48 verdict xs start 0 between-start (omega arith) .1) (omega arith) .0
 
-    -- no sample is refused, neither for a reply that is owed; and with room for a line of each the call takes all
-    pub next-taken : (hearing c r .answer ≡ nothing) × (length (given c r) ≤ 512 → 24832 ≤ r .places → hearing c r .taken ≡ length (given c r))
-    unfolding heardOf
+    -- no sample is refused, neither for a reply that is owed; and with room for a line of each the call consumes all
+    pub next-taken : (intakeAt c r .answer ≡ nothing) × (length (given c r) ≤ 512 → 24832 ≤ r .places → intakeAt c r .consumed ≡ length (given c r))
+    unfolding intakeOf batchOf
     next-taken =
-        let same = agree ys (c .receiving .demodulator) (rulesFrom start xs) fits-now stands in
-        let told : recordTold (c .receiving .demodulator) ys ≡ nothing = same .told ∙ calm .told in (
-          told,
+        let same = hear-run in
+        let said = answers (listener rules48 verdict) (run (listener rules48 verdict) start xs) ys in
+        let told : toldTo true said ≡ nothing = told-nothing said calm in (
+          same .answers ∙ told,
           λ few enough.
               let whole : seen ≡ given c r = looked-all (given c r) (r .places) few (omega arith) in
               let short : length seen ≤ 512 = rw whole few in
-              let all : recordIn (c .receiving .demodulator) ys (r .places) ≡ length ys = same .counts (r .places) ∙ calm .all-in (r .places) (omega (arith, few-samples odd seen short)) in
-              rw (told, eq-eqb (recordIn (c .receiving .demodulator) ys (r .places)) (length ys) all) (ap length whole),
+              let long : length said ≡ length ys = answers-long (listener rules48 verdict) ys _ in
+              let all : goIn said (r .places) ≡ length ys = all-in said calm (r .places) (omega (arith, long, few-samples odd seen short)) ∙ long in
+              same .consumes ∙ rw (told, eq-eqb (goIn said (r .places)) (length ys) all) (ap length whole),
         )

@@ -1,15 +1,15 @@
--- How a caller goes on: what a call did not take is put before the next bytes. Reads of any sizes, and any room for each. Assumes nothing.
-use mathlib.Core.List.{List, [], _∷_, _++_}
+-- How a caller goes on, with reads of any sizes and any room for each: the bytes that a call did not consume go before the next.
+-- Assumes nothing.
+use mathlib.Core.List.{List, [], _++_, flatMap}
 use Prim.Native.Nat.{ℕ, _≤_, _<_}
 use lib.ListN.{length, take, drop}
+use Rattle.machine.specs.Runs.{Machine, run, answers, Each}
 use Rattle.demodulator.specs.declared.SoftDemodulator.{SoftDemodulator}
 use Rattle.receiving.specs.declared.Receiving.{Receiving}
-use Rattle.receiving.specs.Hear.{Hearing, heard, freshReceiving}
+use Rattle.receiving.specs.Hear.{Intake, recordIntake, freshReceiving}
 
--- a byte's value
-unfoldable pub Bytes : List ℕ → Type 0
-Bytes [] = Unit {0}
-Bytes (b ∷ bytes) = (b < 256) × Bytes bytes
+abbrev pub Bytes : List ℕ → Type 0
+Bytes = Each (λ (b : ℕ). b < 256)
 
 -- what a read brings, and how many bytes of lines its call has room for
 pub record Read : Type 0 where
@@ -17,45 +17,47 @@ pub record Read : Type 0 where
   pub places : ℕ
 
 -- all that the reads bring
-unfoldable pub input : List Read → List ℕ
-input [] = []
-input (r ∷ reads) = r .bytes ++ input reads
+abbrev pub input : List Read → List ℕ
+input = flatMap (λ (r : Read). r .bytes)
 
 -- as the program has it: 512 bytes at most, and room for a line of each of their samples
-unfoldable pub Short : List Read → Type 0
-Short [] = Unit {0}
-Short (r ∷ reads) = (length (r .bytes) ≤ 512) × (24832 ≤ r .places) × Short reads
+abbrev pub Short : List Read → Type 0
+Short = Each (λ (r : Read). (length (r .bytes) ≤ 512) × (24832 ≤ r .places))
 
--- ---- a caller: the record that the last call left, and the bytes that no call has taken
+-- ---- a caller: the record that the last call left, and the bytes that no call has consumed
 pub record Caller : Type 0 where
   pub receiving : Receiving
-  pub untaken : List ℕ
+  pub unused : List ℕ
 
 abbrev pub freshCaller : Caller
-freshCaller = record { receiving = freshReceiving; untaken = [] }
+freshCaller = record { receiving = freshReceiving; unused = [] }
 
 abbrev pub given : Caller → Read → List ℕ
-given c r = c .untaken ++ r .bytes
+given c r = c .unused ++ r .bytes
 
-abbrev pub hearing : Caller → Read → Hearing SoftDemodulator
-hearing c r = heard (c .receiving) (given c r) (r .places)
+abbrev pub intakeAt : Caller → Read → Intake SoftDemodulator
+intakeAt c r = recordIntake (c .receiving) (given c r) (r .places)
 
 abbrev pub after : Caller → Read → Caller
 after c r = record {
-  receiving = record { demodulator = hearing c r .state; odd = hearing c r .odd };
-  untaken = drop (hearing c r .taken) (given c r);
+  receiving = record { demodulator = intakeAt c r .state; odd = intakeAt c r .odd };
+  unused = drop (intakeAt c r .consumed) (given c r);
 }
 
-unfoldable pub callerAfter : Caller → List Read → Caller
-callerAfter c [] = c
-callerAfter c (r ∷ reads) = callerAfter (after c r) reads
+-- what one call consumes of its bytes, and what it writes
+pub record Turn : Type 0 where
+  pub bytes : List ℕ
+  pub text : List ℕ
 
--- what is written, one text after the other
-unfoldable pub textOf : Caller → List Read → List ℕ
-textOf c [] = []
-textOf c (r ∷ reads) = hearing c r .text ++ textOf (after c r) reads
+abbrev pub calling : Machine Caller Read Turn
+calling = record { next = after; says = λ c r. record { bytes = take (intakeAt c r .consumed) (given c r); text = intakeAt c r .text } }
 
--- and the bytes that the calls took, in order
-unfoldable pub takenBy : Caller → List Read → List ℕ
-takenBy c [] = []
-takenBy c (r ∷ reads) = take (hearing c r .taken) (given c r) ++ takenBy (after c r) reads
+-- ---- over all reads: where the caller is, what was written, one text after the other, and the bytes that were consumed
+abbrev pub callerAfter : Caller → List Read → Caller
+callerAfter = run calling
+
+abbrev pub textOf : Caller → List Read → List ℕ
+textOf c reads = flatMap (λ (t : Turn). t .text) (answers calling c reads)
+
+abbrev pub consumedBy : Caller → List Read → List ℕ
+consumedBy c reads = flatMap (λ (t : Turn). t .bytes) (answers calling c reads)

@@ -1,7 +1,9 @@
--- What receive does with the bytes that it reads: samples, answers, lines, and what its functions promise.
+-- What receive does with the bytes that it reads: samples, offers, lines, and what its functions promise.
 pub mod Pairs
-pub mod Answers
-pub mod Receivers
+pub mod Listener
+pub mod Text
 pub mod Hear
 pub mod Parts
 pub mod Caller
+-- the same by the rules since a fresh start
+pub mod Rules

@@ -1,17 +1,20 @@
 -- What the functions inside ask and promise. Assumes nothing.
 use mathlib.Core.Path.{_≡_}
 use mathlib.Core.Bool.{Bool, true, false, cond}
-use mathlib.Core.List.{List, [], _++_}
+use mathlib.Core.List.{List, [], _++_, map}
 use Prim.Native.Nat.{ℕ, _-_, _*_, _≤_}
 use lib.Dec.{eqb, ltb}
 use lib.IntN.{ℤ}
 use lib.ListN.{length, take, drop}
 use lib.Ieee.{Float}
+use Rattle.machine.specs.Runs.{run, answers}
+use Rattle.shaping.specs.Rate.{at48}
 use Rattle.protocol.specs.declared.Kind.{Kind}
 use Rattle.demodulator.specs.declared.SoftDemodulator.{SoftDemodulator}
+use Rattle.demodulator.specs.Fit.{recordFit}
 use Rattle.demodulator.specs.Calls.{Paper, refusal, nothing, frame, done, carrier, heardPaper, answered}
-use Rattle.demodulator.specs.Feed.{fedInto}
-use Rattle.demodulator.specs.Feed.{Stretch as FedStretch}
+use Rattle.demodulator.specs.Feed.{fedInto, Stretch as FedStretch}
+use Rattle.house.specs.Line.{lineOf}
 use Rattle.receiving.specs.declared.Odd.{Odd}
 use Rattle.receiving.specs.declared.Odd.the-variants.{Nothing}
 use Rattle.receiving.specs.declared.Receipt.{Receipt}
@@ -22,9 +25,9 @@ use Rattle.receiving.specs.declared.windows.Settled.{Settled}
 use Rattle.receiving.specs.declared.windows.Stretch.{Stretch}
 use Rattle.receiving.specs.declared.windows.AfterSamples.{AfterSamples}
 use Rattle.receiving.specs.Pairs.{samplesOf, oddOf, waiting}
-use Rattle.receiving.specs.Answers.{verdict, acceptedLine, lineFor, refusalIn, replied, silence}
-use Rattle.receiving.specs.Receivers.{recordSaid, recordNext, recordFrom, linesFrom, recordIn, recordTold}
-use Rattle.receiving.specs.Hear.{receiptPaper}
+use Rattle.receiving.specs.Listener.{Listed, listedOf, blank, replyTo, listener}
+use Rattle.receiving.specs.Text.{verdict, ifAccepted, linesOf, Batch, batchOf, refusalIn, toldTo}
+use Rattle.receiving.specs.Hear.{record48, receiptPaper}
 
 -- ---- an answer, as the code looks at it
 abbrev pub isAdmitted : Receipt → Bool
@@ -32,7 +35,7 @@ isAdmitted (Refused why) = false
 isAdmitted Admitted = true
 
 unfoldable pub isOffer : Paper → Bool
-isOffer (frame kind d) = true
+isOffer (frame o) = true
 isOffer (refusal number) = false
 isOffer nothing = false
 isOffer done = false
@@ -53,8 +56,8 @@ pub record PairsUp (odd : Odd) (bytes : List ℕ) (r : Paired) : Type 0 where
   pub samples : take (r .count) (r .samples) ≡ samplesOf (waiting odd ++ bytes)
   pub left-over : r .odd ≡ oddOf (waiting odd ++ bytes)
 
-pub record TakesPart (odd : Odd) (fed : ℕ) (r : Part) : Type 0 where
-  pub bytes : r .taken ≡ 2 * fed - length (waiting odd)
+pub record ConsumesPart (odd : Odd) (fed : ℕ) (r : Part) : Type 0 where
+  pub bytes : r .consumed ≡ 2 * fed - length (waiting odd)
   pub held : r .odd ≡ cond (eqb fed 0) odd Nothing
 
 -- ---- lines
@@ -62,28 +65,41 @@ pub record TakesPart (odd : Odd) (fed : ℕ) (r : Part) : Type 0 where
 abbrev pub inFront : List ℕ → List ℕ → List ℕ
 inFront text room = text ++ drop (length text) room
 
+-- the line of an offer that is accepted
+abbrev pub lineFor : Kind → List Float → List ℕ
+lineFor kind window = ifAccepted (verdict kind window) (lineOf window)
+
 -- an offer, settled by the rule of acceptance
 pub record Settles (m : SoftDemodulator) (kind : Kind) (window : List Float) (room : List ℕ) (r : Settled) (after : List ℕ) : Type 0 where
-  pub counts : r .written ≡ length (acceptedLine kind window)
-  pub leaves : r .demodulator ≡ answered m (verdict kind window) [] .demodulator
-  pub writes : after ≡ inFront (acceptedLine kind window) room
+  pub counts : r .written ≡ length (lineFor kind window)
+  pub leaves : r .demodulator ≡ answered 10 m (verdict kind window) [] .demodulator
+  pub writes : after ≡ inFront (lineFor kind window) room
 
--- the line that a stretch ends with, and the record after its reply
+-- the offer that a stretch ends with, if there is one: its line, and the record after its reply
+abbrev pub listedAtEnd : FedStretch SoftDemodulator → List Listed
+listedAtEnd f = listedOf verdict (f .answer) (f .room)
+
 abbrev pub lineOfStretch : FedStretch SoftDemodulator → List ℕ
-lineOfStretch f = lineFor (f .answer) (f .room)
+lineOfStretch f = linesOf (listedAtEnd f)
 
 abbrev pub leftByStretch : FedStretch SoftDemodulator → SoftDemodulator
-leftByStretch f = replied SoftDemodulator recordSaid recordNext (f .state) (f .answer) (f .room)
+leftByStretch f = run record48 (f .state) (map replyTo (listedAtEnd f))
 
 -- a stretch of samples, and what its answer leads to
-pub record Stretches (m : SoftDemodulator) (xs : List ℤ) (room : List ℕ) (r : Stretch) (after : List ℕ) : Type 0 where
-  pub answers : heardPaper (r .answer) ≡ fedInto m xs silence .answer
-  pub feeds : r .fed ≡ fedInto m xs silence .fed
-  pub counts : r .written ≡ length (lineOfStretch (fedInto m xs silence))
-  pub leaves : r .demodulator ≡ leftByStretch (fedInto m xs silence)
-  pub writes : after ≡ inFront (lineOfStretch (fedInto m xs silence)) room
+pub record HearsStretch (m : SoftDemodulator) (xs : List ℤ) (room : List ℕ) (r : Stretch) (after : List ℕ) : Type 0 where
+  pub answers : heardPaper (r .answer) ≡ fedInto at48 m xs blank .answer
+  pub feeds : r .fed ≡ fedInto at48 m xs blank .fed
+  pub counts : r .written ≡ length (lineOfStretch (fedInto at48 m xs blank))
+  pub leaves : r .demodulator ≡ leftByStretch (fedInto at48 m xs blank)
+  pub writes : after ≡ inFront (lineOfStretch (fedInto at48 m xs blank)) room
 
--- ---- all samples
+-- ---- all samples: what the call is told, and what they come to
+abbrev pub recordTold : SoftDemodulator → List ℤ → Paper
+recordTold m xs = toldTo (recordFit 10 m) (answers (listener record48 verdict) m xs)
+
+abbrev pub recordBatch : SoftDemodulator → List ℤ → ℕ → Batch SoftDemodulator
+recordBatch = batchOf record48
+
 -- no more than pairs of bytes make, and none without room for a line
 pub record Roomy (xs : List ℤ) (lines : List ℕ) : Type 0 where
   pub few : length xs ≤ 256
@@ -91,7 +107,7 @@ pub record Roomy (xs : List ℤ) (lines : List ℕ) : Type 0 where
 
 pub record HearsAll (m : SoftDemodulator) (xs : List ℤ) (lines : List ℕ) (r : AfterSamples) (after : List ℕ) : Type 0 where
   pub answers : receiptPaper (r .answer) ≡ recordTold m xs
-  pub feeds : r .fed ≡ recordIn m xs (length lines)
-  pub counts : r .written ≡ length (linesFrom m (take (r .fed) xs))
-  pub leaves : r .demodulator ≡ recordFrom m (take (r .fed) xs)
-  pub writes : after ≡ inFront (linesFrom m (take (r .fed) xs)) lines
+  pub feeds : r .fed ≡ recordBatch m xs (length lines) .count
+  pub counts : r .written ≡ length (recordBatch m xs (length lines) .text)
+  pub leaves : r .demodulator ≡ recordBatch m xs (length lines) .state
+  pub writes : after ≡ inFront (recordBatch m xs (length lines) .text) lines

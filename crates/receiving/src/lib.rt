@@ -1,4 +1,4 @@
-// What the program receive does between its reads and its writes: bytes become samples, offers are answered, and accepted windows become lines.
+// What the program receive does between its reads and its writes: bytes become samples, and accepted windows become lines.
 use demodulator::SoftDemodulator;
 use protocol::Refusal;
 ghost use mathlib.Core.Path.{_≡_};
@@ -8,7 +8,7 @@ ghost use Rattle.receiving.specs.Parts.{isAdmitted, looksAt};
 mod pairs;
 mod windows;
 
-// The last byte that was taken, if it still waits for the second of its sample.
+// The last byte that was consumed, if it still waits for the second of its sample.
 pub enum Odd {
     Nothing,
     Held(u8),
@@ -25,10 +25,11 @@ pub enum Receipt {
     Admitted,
 }
 
-// The first `taken` of the bytes count as given, and the caller gives the others again. The first `written` places of the lent room are the lines.
+// The first `consumed` of the bytes count as given, and the caller gives the others again.
+// The first `written` places of the lent room are the lines.
 pub struct AfterBytes {
     pub answer: Receipt,
-    pub taken: usize,
+    pub consumed: usize,
     pub written: usize,
     pub receiving: Receiving,
 }
@@ -68,7 +69,8 @@ impl Receiving {
         }
     }
 
-    // The next bytes of the input. The lines of the windows that are accepted go to the front of `lines`, and samples go in while there is room for a line.
+    // The next bytes of the input: samples go in while there is room for a line in `lines`, and the lines of the windows that are
+    // accepted go to its front.
     pub fn hear(self, bytes: &[u8], lines: &mut [u8]) -> AfterBytes
         ensures { λ r. ⌜ hear-says self (now (bytes .entry)) (now (lines .entry)) r (now (lines .exit)) ⌝ }
     {
@@ -85,7 +87,7 @@ impl Receiving {
             let left_over = paired.odd;
             return AfterBytes {
                 answer,
-                taken: looked,
+                consumed: looked,
                 written: heard.written,
                 receiving: Receiving {
                     demodulator: next,
@@ -93,11 +95,11 @@ impl Receiving {
                 },
             };
         }
-        let part = pairs::part_of(odd, heard.fed);
+        let part = pairs::measure_part(odd, heard.fed);
         let held = part.odd;
         AfterBytes {
             answer,
-            taken: part.taken,
+            consumed: part.consumed,
             written: heard.written,
             receiving: Receiving {
                 demodulator: next,

@@ -2,7 +2,7 @@
 use crate::Odd;
 ghost use Prim.Native.Nat.{_≤_};
 ghost use lib.ListN.{length};
-ghost use Rattle.receiving.specs.Parts.{PairsUp, TakesPart};
+ghost use Rattle.receiving.specs.Parts.{PairsUp, ConsumesPart};
 
 // `odd` is the byte that is left over.
 pub(crate) struct Paired {
@@ -42,26 +42,26 @@ pub(crate) fn pair_up(odd: Odd, bytes: &[u8]) -> Paired
 
 // The bytes of some of the samples, but for the one that waited, and the byte that is then held.
 pub(crate) struct Part {
-    pub taken: usize,
+    pub consumed: usize,
     pub odd: Odd,
 }
 
-pub(crate) fn part_of(odd: Odd, fed: usize) -> Part
+pub(crate) fn measure_part(odd: Odd, fed: usize) -> Part
     requires { ⌜ fed ≤ 256 ⌝ }
-    ensures { λ r. ⌜ TakesPart odd fed r ⌝ }
+    ensures { λ r. ⌜ ConsumesPart odd fed r ⌝ }
 {
     if fed == 0 {
-        return Part { taken: 0, odd };
+        return Part { consumed: 0, odd };
     }
     let both = 2 * fed;
     let but_one = both - 1;
     match odd {
         Odd::Nothing => Part {
-            taken: both,
+            consumed: both,
             odd: Odd::Nothing,
         },
         Odd::Held(_) => Part {
-            taken: but_one,
+            consumed: but_one,
             odd: Odd::Nothing,
         },
     }

@@ -12,9 +12,8 @@ ghost use lib.ListN.{length, drop};
 ghost use Rattle.house.specs.Line.{lineOf};
 ghost use Rattle.house.specs.Accept.{accepted, symbolAt};
 ghost use Rattle.demodulator.specs.Calls.{heardPaper};
-ghost use Rattle.receiving.specs.Receivers.{recordTold};
 ghost use Rattle.receiving.specs.Hear.{receiptPaper};
-ghost use Rattle.receiving.specs.Parts.{isOffer, refusedAfter, Roomy, Settles, Stretches, HearsAll};
+ghost use Rattle.receiving.specs.Parts.{isOffer, refusedAfter, recordTold, Roomy, Settles, HearsStretch, HearsAll};
 
 // A line and its line feed.
 pub(crate) const LINE: usize = 97;
@@ -52,7 +51,7 @@ fn is_offered(answer: Heard) -> bool
 }
 
 // Once samples went in, a refusal is left to the call that gives the rest.
-fn receipt(answer: Heard, fed: usize) -> Receipt
+fn give_receipt(answer: Heard, fed: usize) -> Receipt
     ensures { λ r. ⌜ receiptPaper r ≡ refusedAfter fed (heardPaper answer) ⌝ }
 {
     match answer {
@@ -125,7 +124,7 @@ fn settle(demodulator: SoftDemodulator, kind: Kind, window: [f32; 192], room: &m
 // The samples up to the first offer, which is settled, or up to one that would be refused.
 fn hear_stretch(demodulator: SoftDemodulator, samples: &[i16], room: &mut [u8]) -> Stretch
     requires { ⌜ 97 ≤ length (now room) ⌝ }
-    ensures { λ r. ⌜ Stretches demodulator (now (samples .entry)) (now (room .entry)) r (now (room .exit)) ⌝ }
+    ensures { λ r. ⌜ HearsStretch demodulator (now (samples .entry)) (now (room .entry)) r (now (room .exit)) ⌝ }
 {
     let mut window = [0.0f32; 192];
     let after = demodulator.feed(samples, &mut window);
@@ -183,7 +182,7 @@ pub(crate) fn hear_samples(
     while fed < samples.len() && LINE <= lines.len() - written {
         let heard = hear_stretch(left, &samples[fed..], &mut lines[written..]);
         let answer = heard.answer;
-        let told = receipt(answer, fed);
+        let told = give_receipt(answer, fed);
         left = heard.demodulator;
         written += heard.written;
         fed += heard.fed;

@@ -6,7 +6,7 @@ use lib.Ieee.{Float, lt}
 use Rattle.protocol.specs.declared.SyncBurst.{SyncBurst}
 use Rattle.decode.specs.declared.Correlation.{Correlation}
 use Rattle.decode.specs.declared.Spread.{Spread}
-use Rattle.decode.specs.Correlator.{threshold, heard, correlation, matches}
+use Rattle.decode.specs.Correlator.{threshold, zeroUnsigned, correlation, matches}
 use Rattle.decode.specs.Parts.{valuesOf, spreadOf, answerFrom}
 use Rattle.decode.proofs.Same.{six-alike}
 
@@ -16,7 +16,7 @@ match-own burst v m e = sym (ap (λ (o : Correlation). lt (o .diff) threshold) e
 
 -- eight values heard once, and their spread
 pub record Sensed (vs us : List Float) (s : Spread) : Type 0 where
-  pub values : us ≡ map heard vs
+  pub values : us ≡ map zeroUnsigned vs
   pub spread : s ≡ spreadOf (valuesOf us)
 
 pub compared-own : {vs us : List Float} {s : Spread} → Sensed vs us s → (burst : SyncBurst) (m : Correlation) → m ≡ answerFrom burst (valuesOf us) s → m ≡ correlation burst (valuesOf vs)

@@ -12,15 +12,16 @@ use Rattle.decode.specs.declared.Spread.{Spread}
 use Rattle.decode.specs.Correlator.{leastGain, threshold, diffOf, matches}
 use Rattle.decode.specs.Parts.{valuesOf}
 use Rattle.search.specs.declared.Candidate.{Candidate}
-use Rattle.search.specs.declared.Candidate.the-variants.{Nothing, Held}
+use Rattle.search.specs.declared.Candidate.the-variants.{Nothing}
 use Rattle.search.specs.declared.Control.{Control}
 use Rattle.search.specs.Search.{carried, missed, tried, passed, searched}
 use Rattle.search.specs.Fit.{held}
+use Rattle.search.proofs.HeldOrNot.{HeldOrNot, not-held, is-held, held-or-not}
 use Rattle.search.proofs.Compared.{match-own, Sensed, compared-own}
 
-pub nothing-held : (candidate : Candidate) → held candidate ≡ false → candidate ≡ Nothing
-nothing-held Nothing e = refl
-nothing-held (Held kind age diff gain shift) e = absurd (true≢false e)
+pub nothing-held : {candidate : Candidate} → HeldOrNot candidate → held candidate ≡ false → candidate ≡ Nothing
+nothing-held not-held e = refl
+nothing-held (is-held t) e = absurd (true≢false e)
 
 -- ---- the second part, where no kind matches
 module _ (p : ℕ) (v : ℕ → Float) (c : Control) (none : (kind : Kind) → matches (Frame kind) v ≡ false) (free : c .candidate ≡ Nothing) where
@@ -43,7 +44,7 @@ module _ (p : ℕ) (v : ℕ → Float) (c : Control) (none : Unmatched v) where
 
   pub silent-search : held (c .candidate) ≡ false → searched p v c ≡ c
   unfolding searched
-  silent-search free = rw (carried-silent Preamble, carried-silent EndOfTransmission) (passed-silent p v c (λ kind. none (Frame kind)) (nothing-held (c .candidate) free))
+  silent-search free = rw (carried-silent Preamble, carried-silent EndOfTransmission) (passed-silent p v c (λ kind. none (Frame kind)) (nothing-held (held-or-not (c .candidate)) free))
 
 -- "Gain below 16.0: no match."
 faint-diff : (gain : Float) (distance : ℕ → Float) → lt gain leastGain ≡ true → lt (diffOf gain distance) threshold ≡ false

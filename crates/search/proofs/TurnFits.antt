@@ -9,7 +9,7 @@ use Rattle.search.specs.declared.Control.{Control}
 use Rattle.search.specs.Turn.{cleared, counted, freed, owing}
 use Rattle.search.specs.Fit.{timerFit, candidateFit, waitFit, controlFit}
 use Rattle.search.proofs.Clauses.{clauses, joined}
-use Rattle.search.proofs.Passing.{by-test}
+use Rattle.search.proofs.AgeInPass.{by-test}
 
 -- ---- the timer
 cleared-fit : (p count : ℕ) (timer : Timer) → T (timerFit p timer) → T (timerFit p (cleared count timer))

@@ -1,17 +1,18 @@
 -- Document 01's 'Unfit receiver', phrase by phrase in its order, but for the phrases of the rings: a control is fit where none applies. Over p, the samples in a symbol, where a limit
 -- is a multiple of it. Assumes nothing.
 use mathlib.Core.Bool.{Bool, true, false, not, _&&_}
+use mathlib.Core.Option.{none, some}
 use Prim.Native.Nat.{ℕ, _+_, _*_, _^_}
 use lib.Dec.{leb, ltb}
 use lib.Ieee.{Float, binary32, ofBits, lt, le}
 use Rattle.decode.specs.Correlator.{leastGain, threshold, inRange}
 use Rattle.search.specs.declared.Candidate.{Candidate}
-use Rattle.search.specs.declared.Candidate.the-variants.{Nothing, Held}
 use Rattle.search.specs.declared.Wait.{Wait}
 use Rattle.search.specs.declared.Wait.the-variants.{Free, Due}
 use Rattle.search.specs.declared.Timer.{Timer}
 use Rattle.search.specs.declared.Timer.the-variants.{Off, Until}
 use Rattle.search.specs.declared.Control.{Control}
+use Rattle.search.specs.TakenBurst.{heldIn}
 
 -- "count above 2^63"
 abbrev pub countFit : Control → Bool
@@ -39,12 +40,10 @@ abbrev pub shiftFit : Float → Bool
 shiftFit shift = inRange shift
 
 unfoldable pub candidateFit : Candidate → Bool
-candidateFit Nothing = true
-candidateFit (Held kind age diff gain shift) = ageFit age && diffFit diff && gainFit gain && shiftFit shift
+candidateFit candidate = elim (heldIn candidate) [ none ↦ true | some t ↦ ageFit (t .age) && diffFit (t .diff) && gainFit (t .gain) && shiftFit (t .shift) ]
 
 abbrev pub held : Candidate → Bool
-held Nothing = false
-held (Held kind age diff gain shift) = true
+held candidate = elim (heldIn candidate) [ none ↦ false | some t ↦ true ]
 
 -- "a wait outside 1 to 1,839, or held without a candidate, or with a reply owed"
 unfoldable pub waitFit : ℕ → Wait → Candidate → Bool → Bool

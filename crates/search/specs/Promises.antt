@@ -9,8 +9,7 @@ use Rattle.search.specs.declared.Control.{Control}
 use Rattle.search.specs.declared.Turn.{Turn}
 use Rattle.search.specs.declared.Reply.{Reply}
 use Rattle.search.specs.Search.{searched}
-use Rattle.search.specs.Turn.{replied}
-use Rattle.search.specs.Turns.{turnOf}
+use Rattle.search.specs.Turn.{turnOf, replied}
 use Rattle.search.specs.Fit.{controlFit}
 
 abbrev pub control-fit-says : Control → Bool → Type 0

@@ -1,6 +1,7 @@
 -- Document 01, 'The receiver': the search, over p, the samples in a symbol, and over the eight values that the correlator is given, `v i` for the value i, the oldest 0.
 -- Assumes nothing.
 use mathlib.Core.Bool.{Bool, cond}
+use mathlib.Core.Option.{Option, none, some}
 use Prim.Native.Nat.{ℕ, _+_, _-_, _*_, min}
 use lib.Dec.{eqb}
 use lib.Ieee.{Float, lt}
@@ -8,15 +9,14 @@ use Rattle.protocol.specs.declared.Kind.{Kind}
 use Rattle.protocol.specs.declared.Kind.the-variants.{Lsf, Bert, Stream, Packet}
 use Rattle.protocol.specs.declared.SyncBurst.{SyncBurst}
 use Rattle.protocol.specs.declared.SyncBurst.the-variants.{Frame, Preamble, EndOfTransmission}
-use Rattle.decode.specs.declared.Correlation.{Correlation}
 use Rattle.decode.specs.Correlator.{correlation, matches}
 use Rattle.search.specs.declared.Candidate.{Candidate}
-use Rattle.search.specs.declared.Candidate.the-variants.{Nothing, Held}
 use Rattle.search.specs.declared.Wait.{Wait}
 use Rattle.search.specs.declared.Wait.the-variants.{Due}
 use Rattle.search.specs.declared.Timer.{Timer}
 use Rattle.search.specs.declared.Timer.the-variants.{Until}
 use Rattle.search.specs.declared.Control.{Control}
+use Rattle.search.specs.TakenBurst.{TakenBurst, heldAs, heldIn, heldBy, taken, aged}
 
 -- ---- the control with one part changed
 abbrev pub withTimer : Timer → Control → Control
@@ -25,12 +25,7 @@ withTimer timer c = record { candidate = c .candidate; wait = c .wait; dcd = tim
 abbrev pub withCandidate : Candidate → Control → Control
 withCandidate held c = record { candidate = held; wait = c .wait; dcd = c .dcd; owed = c .owed; sample = c .sample }
 
--- ---- two numbers that stop at the last of their type, so that any control has an answer: no fit one comes there but by an age of 254
--- an age is a byte
-abbrev pub older : ℕ → ℕ
-older age = min (age + 1) 255
-
--- a timer's end has 64 bits
+-- a timer's end has 64 bits, and stops at the last so that any control has an answer: no fit one comes there
 abbrev pub endAfter : ℕ → ℕ → ℕ
 endAfter count span = min (count + span) 0xffff_ffff_ffff_ffff
 
@@ -52,34 +47,29 @@ sameKind j k = eqb (rank j) (rank k)
 
 -- a held candidate's age, and 0 where none is held
 abbrev pub ageOf : Candidate → ℕ
-ageOf Nothing = 0
-ageOf (Held kind age diff gain shift) = age
-
--- "takes a new candidate: kind, age 1, diff, gain, shift"
-abbrev pub taken : Kind → Correlation → Candidate
-taken kind m = Held kind 1 (m .diff) (m .gain) (m .shift)
+ageOf candidate = elim (heldIn candidate) [ none ↦ 0 | some t ↦ t .age ]
 
 -- "A match whose diff is above the held candidate's adds one to its age, whatever its kind. Any other match, ties included, takes a new candidate"
-unfoldable pub heldAfter : Candidate → Kind → Correlation → Candidate
-heldAfter Nothing kind m = taken kind m
-heldAfter (Held k age diff gain shift) kind m = cond (lt diff (m .diff)) (Held k (older age) diff gain shift) (taken kind m)
+unfoldable pub heldAfter : Option TakenBurst → TakenBurst → TakenBurst
+heldAfter none new = new
+heldAfter (some t) new = cond (lt (t .diff) (new .diff)) (aged t) new
 
 -- "the wait becomes 1,840 - age"
 abbrev pub waitAfter : ℕ → ℕ → Wait
 waitAfter p age = Due (record { left = 184 * p - age })
 
 -- "If a kind does not match and the held candidate is of that kind, the wait becomes 1,840 - age and the timer's end count + 3,840."
-unfoldable pub missed : ℕ → Kind → Candidate → Control → Control
-missed p kind Nothing c = c
-missed p kind (Held k age diff gain shift) c =
-    cond (sameKind k kind)
-    (record { candidate = c .candidate; wait = waitAfter p age; dcd = Until (endAfter (c .sample) (384 * p)); owed = c .owed; sample = c .sample })
+unfoldable pub missed : ℕ → Kind → Option TakenBurst → Control → Control
+missed p kind none c = c
+missed p kind (some t) c =
+    cond (sameKind (t .kind) kind)
+    (record { candidate = c .candidate; wait = waitAfter p (t .age); dcd = Until (endAfter (c .sample) (384 * p)); owed = c .owed; sample = c .sample })
     c
 
 -- one kind's turn in the pass
 unfoldable pub tried : ℕ → (ℕ → Float) → Kind → Control → Control
 tried p v kind c =
-    cond (matches (Frame kind) v) (withCandidate (heldAfter (c .candidate) kind (correlation (Frame kind) v)) c) (missed p kind (c .candidate) c)
+    cond (matches (Frame kind) v) (withCandidate (heldAs (heldAfter (heldBy c) (taken kind (correlation (Frame kind) v)))) c) (missed p kind (heldBy c) c)
 
 -- "LSF, BERT, Stream, Packet in that order .. Later kinds in the same pass can still replace the candidate or add to its age; the wait stays."
 unfoldable pub passed : ℕ → (ℕ → Float) → Control → Control

@@ -1,19 +1,24 @@
--- Document 01, 'The receiver': what a sample and a reply do to the control, over p and over the eight values that the correlator is given then. Assumes nothing.
+-- Document 01, 'The receiver': what a sample and a reply do to the control. A sample's turn reads no value;
+-- what it comes to is over p and the eight values that the correlator is given then. Assumes nothing.
 use mathlib.Core.Bool.{Bool, true, false, cond}
+use mathlib.Core.Option.{Option, none, some}
 use Prim.Native.Nat.{ℕ, _+_, _-_}
 use lib.Dec.{ltb}
 use lib.Ieee.{Float}
 use Rattle.protocol.specs.declared.Kind.{Kind}
 use Rattle.protocol.specs.declared.Kind.the-variants.{Lsf, Bert, Stream, Packet}
-use Rattle.search.specs.declared.Candidate.{Candidate}
-use Rattle.search.specs.declared.Candidate.the-variants.{Nothing, Held}
+use Rattle.search.specs.declared.Candidate.the-variants.{Nothing}
 use Rattle.search.specs.declared.Wait.{Wait}
 use Rattle.search.specs.declared.Wait.the-variants.{Free, Due}
 use Rattle.search.specs.declared.Timer.{Timer}
 use Rattle.search.specs.declared.Timer.the-variants.{Off, Until}
 use Rattle.search.specs.declared.Control.{Control}
+use Rattle.search.specs.declared.Shown.{Shown}
+use Rattle.search.specs.declared.Turn.{Turn}
+use Rattle.search.specs.declared.Turn.the-variants.{Rest, Offer, Look}
 use Rattle.search.specs.declared.Reply.{Reply}
 use Rattle.search.specs.declared.Reply.the-variants.{Accepted, Rejected}
+use Rattle.search.specs.TakenBurst.{TakenBurst, heldBy, shownOf}
 use Rattle.search.specs.Search.{searched}
 
 -- ---- "store, count, clear the carrier timer if the count is above its end"
@@ -45,29 +50,36 @@ offered Bert = false
 offered Stream = true
 offered Packet = true
 
--- what a sample comes to: nothing for the caller, or an offer of a kind, with the gain and the shift of its symbols
-pub data Outcome : Type 0 where
-  quiet : Control → Outcome
-  offer : Kind → Float → Float → Control → Outcome
-
-abbrev pub pickOutcome : Bool → Outcome → Outcome → Outcome
-pickOutcome true a b = a
-pickOutcome false a b = b
-
+-- ---- the turn of a sample: it rests, its frame is offered, or it is searched
 -- "At 0 the wait and the candidate are removed and a frame is due."
-unfoldable pub due : ℕ → (ℕ → Float) → Candidate → Control → Outcome
-due p v Nothing c = quiet (searched p v c)
-due p v (Held kind age diff gain shift) c = pickOutcome (offered kind) (offer kind gain shift (owing true c)) (quiet (searched p v c))
+unfoldable pub dueTurn : Option TakenBurst → Control → Turn
+dueTurn none c = Look c
+dueTurn (some t) c = cond (offered (t .kind)) (Offer (shownOf t) (owing true c)) (Look c)
 
 -- "If a wait is held, take one from it; while more than 0 is left the sample is finished, with no search."
-unfoldable pub waited : ℕ → (ℕ → Float) → Wait → Control → Outcome
-waited p v Free c = quiet (searched p v c)
-waited p v (Due w) c = pickOutcome (ltb 1 (w .left)) (quiet (waitingOn (w .left - 1) c)) (due p v (c .candidate) (freed c))
+unfoldable pub waitedTurn : Wait → Control → Turn
+waitedTurn Free c = Look c
+waitedTurn (Due w) c = cond (ltb 1 (w .left)) (Rest (waitingOn (w .left - 1) c)) (dueTurn (heldBy c) (freed c))
 
--- a sample, once it is stored: `v` are the eight values then
+-- of the sample whose number is n
+abbrev pub turnOf : ℕ → Control → Turn
+turnOf n c = waitedTurn (c .wait) (countedTo n c)
+
+-- ---- what a sample comes to: nothing for the caller, or an offer, with what it shows
+pub data Outcome : Type 0 where
+  quiet : Control → Outcome
+  offer : Shown → Control → Outcome
+
+abbrev pub comesTo : ℕ → (ℕ → Float) → Turn → Outcome
+comesTo p v (Rest c) = quiet c
+comesTo p v (Offer shown c) = offer shown c
+comesTo p v (Look c) = quiet (searched p v c)
+
+-- once it is stored: `v` are the eight values then
 unfoldable pub sampled : ℕ → (ℕ → Float) → Control → Outcome
-sampled p v c = waited p v (c .wait) (counted c)
+sampled p v c = comesTo p v (turnOf (c .sample + 1) c)
 
+-- ---- a reply
 -- "Accepted: the sample is finished. Rejected: the search runs for that same sample."
 unfoldable pub replied : ℕ → (ℕ → Float) → Reply → Control → Control
 replied p v Accepted c = owing false c

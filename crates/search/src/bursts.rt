@@ -1,4 +1,4 @@
-// The search: what eight filtered values do to the control. They are heard once, their spread is taken once, and each of the six bursts is compared once.
+// The search: what eight filtered values do to the control. Their zeros lose their sign once, their spread is taken once, and each of the six bursts is compared once.
 use crate::Candidate;
 use crate::Control;
 use crate::Timer;
@@ -12,7 +12,8 @@ use protocol::SyncBurst;
 ghost use mathlib.Core.Path.{_≡_};
 ghost use lib.Ieee.{lt};
 ghost use Rattle.decode.specs.Correlator.{threshold};
-ghost use Rattle.search.specs.Search.{rank, older, endAfter, heldAfter, missed};
+ghost use Rattle.search.specs.TakenBurst.{heldAs, heldIn, taken, older};
+ghost use Rattle.search.specs.Search.{rank, endAfter, heldAfter, missed};
 ghost use Rattle.search.specs.Parts.{Carries, Tries};
 ghost use Rattle.search.specs.Promises.{searched-says};
 
@@ -52,7 +53,7 @@ fn older(age: u8) -> u8
 }
 
 // The first part's turn of one burst: a match sets the timer, even to a sooner end.
-fn carry(control: Control, m: Correlation) -> Control
+fn set_timer(control: Control, m: Correlation) -> Control
     ensures { λ r. ⌜ Carries m control r ⌝ }
 {
     if is_match(m) {
@@ -83,8 +84,8 @@ fn rank(kind: Kind) -> u8
 }
 
 // The candidate after a match: the held one, a sample older, or a new one.
-fn held_after(candidate: Candidate, kind: Kind, m: Correlation) -> Candidate
-    ensures { λ r. ⌜ r ≡ heldAfter candidate kind m ⌝ }
+fn age_or_take(candidate: Candidate, kind: Kind, m: Correlation) -> Candidate
+    ensures { λ r. ⌜ r ≡ heldAs (heldAfter (heldIn candidate) (taken kind m)) ⌝ }
 {
     if let Candidate::Held {
         kind: k,
@@ -114,8 +115,8 @@ fn held_after(candidate: Candidate, kind: Kind, m: Correlation) -> Candidate
 }
 
 // No match: where the held candidate is of the kind, its frame is awaited.
-fn miss(kind: Kind, control: Control) -> Control
-    ensures { λ r. ⌜ r ≡ missed 10 kind (control .candidate) control ⌝ }
+fn await_frame(kind: Kind, control: Control) -> Control
+    ensures { λ r. ⌜ r ≡ missed 10 kind (heldIn (control .candidate)) control ⌝ }
 {
     let candidate = control.candidate;
     if let Candidate::Held {
@@ -146,7 +147,7 @@ fn try_kind(control: Control, kind: Kind, m: Correlation) -> Control
 {
     if is_match(m) {
         let before = control.candidate;
-        let candidate = held_after(before, kind, m);
+        let candidate = age_or_take(before, kind, m);
         let wait = control.wait;
         let dcd = control.dcd;
         return Control {
@@ -157,26 +158,26 @@ fn try_kind(control: Control, kind: Kind, m: Correlation) -> Control
             sample: control.sample,
         };
     }
-    miss(kind, control)
+    await_frame(kind, control)
 }
 
 // With nothing held, a gain that matches no burst leaves the control at once, and so do six bursts of which none matches: most searches end there.
 pub fn searched(control: Control, values: [f32; 8]) -> Control
     ensures { λ r. ⌜ searched-says control values r ⌝ }
 {
-    let heard = decode::hear(values);
-    let spread = decode::spread_of(heard);
+    let unsigned = decode::unsign_zeros(values);
+    let spread = decode::spread_of(unsigned);
     let candidate = control.candidate;
     let free = !fit::is_held(candidate);
     if free & (spread.gain < SYNC_MIN_GAIN) {
         return control;
     }
-    let preamble = decode::compare(SyncBurst::Preamble, heard, spread);
-    let end = decode::compare(SyncBurst::EndOfTransmission, heard, spread);
-    let lsf = decode::compare(SyncBurst::Frame(Kind::Lsf), heard, spread);
-    let bert = decode::compare(SyncBurst::Frame(Kind::Bert), heard, spread);
-    let stream = decode::compare(SyncBurst::Frame(Kind::Stream), heard, spread);
-    let packet = decode::compare(SyncBurst::Frame(Kind::Packet), heard, spread);
+    let preamble = decode::compare(SyncBurst::Preamble, unsigned, spread);
+    let end = decode::compare(SyncBurst::EndOfTransmission, unsigned, spread);
+    let lsf = decode::compare(SyncBurst::Frame(Kind::Lsf), unsigned, spread);
+    let bert = decode::compare(SyncBurst::Frame(Kind::Bert), unsigned, spread);
+    let stream = decode::compare(SyncBurst::Frame(Kind::Stream), unsigned, spread);
+    let packet = decode::compare(SyncBurst::Frame(Kind::Packet), unsigned, spread);
     let matched = is_match(preamble)
         | is_match(end)
         | is_match(lsf)
@@ -186,8 +187,8 @@ pub fn searched(control: Control, values: [f32; 8]) -> Control
     if free & !matched {
         return control;
     }
-    let after_preamble = carry(control, preamble);
-    let after_end = carry(after_preamble, end);
+    let after_preamble = set_timer(control, preamble);
+    let after_end = set_timer(after_preamble, end);
     let after_lsf = try_kind(after_end, Kind::Lsf, lsf);
     let after_bert = try_kind(after_lsf, Kind::Bert, bert);
     let after_stream = try_kind(after_bert, Kind::Stream, stream);

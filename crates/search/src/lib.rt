@@ -51,15 +51,17 @@ pub struct Control {
     pub sample: u64,
 }
 
+// What a due frame shows: its kind, and the gain and the shift of its symbols.
+pub struct Shown {
+    pub kind: Kind,
+    pub gain: f32,
+    pub shift: f32,
+}
+
 // What is left to do once a sample is stored and counted: nothing, an offer, or a search.
 pub enum Turn {
     Rest(Control),
-    Offer {
-        kind: Kind,
-        gain: f32,
-        shift: f32,
-        control: Control,
-    },
+    Offer { shown: Shown, control: Control },
     Look(Control),
 }
 

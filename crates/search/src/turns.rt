@@ -2,6 +2,7 @@
 use crate::Candidate;
 use crate::Control;
 use crate::Reply;
+use crate::Shown;
 use crate::Timer;
 use crate::Turn;
 use crate::Wait;
@@ -9,11 +10,11 @@ use crate::Waiting;
 use crate::bursts;
 use protocol::Kind;
 ghost use mathlib.Core.Path.{_≡_};
-ghost use Rattle.search.specs.Turn.{cleared, offered};
-ghost use Rattle.search.specs.Turns.{dueTurn};
+ghost use Rattle.search.specs.TakenBurst.{heldIn};
+ghost use Rattle.search.specs.Turn.{cleared, offered, dueTurn};
 ghost use Rattle.search.specs.Promises.{turn-of-says, replied-says};
 
-fn cleared(timer: Timer, count: u64) -> Timer
+fn clear_timer(timer: Timer, count: u64) -> Timer
     ensures { λ r. ⌜ r ≡ cleared count timer ⌝ }
 {
     match timer {
@@ -34,8 +35,8 @@ fn is_offered(kind: Kind) -> bool
 }
 
 // A frame is due: the candidate that awaited it is offered, or the search goes on.
-fn due(candidate: Candidate, control: Control) -> Turn
-    ensures { λ r. ⌜ r ≡ dueTurn candidate control ⌝ }
+fn fall_due(candidate: Candidate, control: Control) -> Turn
+    ensures { λ r. ⌜ r ≡ dueTurn (heldIn candidate) control ⌝ }
 {
     match candidate {
         Candidate::Nothing => Turn::Look(control),
@@ -52,9 +53,7 @@ fn due(candidate: Candidate, control: Control) -> Turn
             let mut owing = control;
             owing.owed = true;
             Turn::Offer {
-                kind,
-                gain,
-                shift,
+                shown: Shown { kind, gain, shift },
                 control: owing,
             }
         }
@@ -69,7 +68,7 @@ pub fn turn_of(control: Control, sample: u64) -> Turn
     let wait = control.wait;
     let timer = control.dcd;
     let owed = control.owed;
-    let dcd = cleared(timer, sample);
+    let dcd = clear_timer(timer, sample);
     match wait {
         Wait::Free => Turn::Look(Control {
             candidate,
@@ -90,7 +89,7 @@ pub fn turn_of(control: Control, sample: u64) -> Turn
                     sample,
                 });
             }
-            due(
+            fall_due(
                 candidate,
                 Control {
                     candidate: Candidate::Nothing,

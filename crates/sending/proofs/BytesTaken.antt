@@ -5,7 +5,7 @@ use Prim.Native.Nat.{ℕ, _≤_, _<_, min}
 use native.Mathlib.Omega.{arith}
 use lib.ListN.{length, length-append, length-take}
 use lib.Seq.{take-append-le}
-use Rattle.modulator.specs.Calls.{done}
+use Rattle.modulator.specs.Paper.{done}
 use Rattle.sending.specs.declared.Sending.{Sending}
 use Rattle.sending.specs.Calls.{Left, lacking, added, held, moved, turned}
 use Rattle.sending.specs.Run.{Fitting, callsFrom, AllDone, AllTaken}

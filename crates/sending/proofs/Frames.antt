@@ -16,15 +16,20 @@ use Rattle.numbers.specs.Firsts.{firsts}
 use Rattle.numbers.proofs.Tests.{holds}
 use Rattle.numbers.proofs.Below.{all-below, below-all}
 use Rattle.numbers.proofs.Firsts.{length-firsts, firsts-at, firsts-same}
-use Rattle.shaping.specs.Taps.{taps}
+use Rattle.shaping.specs.Rate.{at48}
+use Rattle.pulse.specs.Pulse.{listed}
 use Rattle.modulator.specs.declared.Pending.{Pending}
 use Rattle.modulator.specs.declared.SoftModulator.{SoftModulator}
 use Rattle.modulator.specs.declared.ModulatorFrame.{ModulatorFrame}
 use Rattle.modulator.specs.declared.ModulatorFrame.the-variants.{Preamble, Symbols as GivenSymbols, EndOfTransmission}
-use Rattle.modulator.specs.Frame.{Symbols, preamble, listed, given, ending, symbolFit}
-use Rattle.modulator.specs.Calls.{done, wrote, ended, givenFrame, accepted}
+use Rattle.modulator.specs.Paper.{done, wrote}
+use Rattle.modulator.specs.Frame.{Symbols, preamble, given, ending, symbolFit}
+use Rattle.modulator.specs.Control.{samplesRead, handedOut, ended}
+use Rattle.modulator.specs.Record.{controlOf}
+use Rattle.modulator.specs.Outcome.{givenOutcome, frameOutcome}
+use Rattle.modulator.specs.Calls.{settled as settledRecord}
 use Rattle.modulator_run.specs.Stream.{sentAt}
-use Rattle.modulator_run.specs.Rules.{Sent, provide, after, framed, provided, samplesRead, frameSample, drained, called}
+use Rattle.modulator_run.specs.Rules.{provide, Sent, after, framed, settled, frameSample, drained, called}
 use Rattle.modulator_run.specs.Run.{Delay}
 use Rattle.house.specs.Digits.{valueOf}
 use Rattle.house.specs.Line.{symbolOf, goodLine, bitsAt, symbolsOf, noSymbols}
@@ -37,22 +42,22 @@ pub record Gives (frame : ModulatorFrame) (symbols : List Float) (f : Symbols) :
   pub given : Delay frame
   pub few : f .count ≤ 272
   pub pending : Pending → Pending
-  pub calls : (s : Sent) → s .progress .«tx_delay_padding» .0 ≡ 0 → called taps 10 s (provide frame symbols) ≡ after done [] (framed taps 10 f 0 (pending (s .pending)) s)
+  pub calls : (s : Sent) → s .progress .«tx_delay_padding» .0 ≡ 0 → called at48 s (provide frame symbols) ≡ after done [] (framed at48 f 0 (pending (s .pending)) s)
 
 -- "preamble (TxDelay 0)"
 pub gives-preamble : Gives (Preamble (record { 0 = 0 })) noSymbols preamble
-unfolding Delay called provided
+unfolding Delay called settled frameOutcome
 gives-preamble = record {
   given = lit≤ tt;
   few = lit≤ tt;
   pending = λ p. p;
   calls = λ s e.
       let none : 48 * 10 * 0 - s .buffer .«output_latency» .0 ≡ 0 = omega arith in
-      ap (λ (n : ℕ). after done [] (framed taps 10 preamble n (s .pending) s)) none;
+      ap (λ (n : ℕ). after done [] (framed at48 preamble n (s .pending) s)) none;
 }
 
 pub gives-end : Gives EndOfTransmission noSymbols ending
-unfolding Delay called provided
+unfolding Delay called settled frameOutcome
 gives-end = record { given = tt; few = lit≤ tt; pending = ended; calls = λ s e. rw e }
 
 -- a good line's symbols are all taken
@@ -74,12 +79,12 @@ module _ (line : List ℕ) (good : goodLine line ≡ true) where
   all-fit = is-true _ (below-all 192 (λ (i : ℕ). symbolFit (getD (symbolsOf line) i nan)) fit-at)
 
   -- by every record that is fit
-  pub line-accepted : (m : SoftModulator) → accepted m GivenSymbols (symbolsOf line) .answer ≡ done
-  unfolding accepted givenFrame
+  pub line-accepted : (m : SoftModulator) → settledRecord at48 m (frameOutcome 10 GivenSymbols (symbolsOf line) (controlOf m)) .answer ≡ done
+  unfolding settledRecord frameOutcome givenOutcome
   line-accepted m = rw (symbols-number, all-fit)
 
   pub gives-line : Gives GivenSymbols (symbolsOf line) (given (symbolsOf line))
-  unfolding Delay called provided
+  unfolding Delay called settled frameOutcome givenOutcome
   gives-line = record {
     given = tt;
     few = lit≤ tt;
@@ -95,30 +100,30 @@ module _ (line : List ℕ) (good : goodLine line ≡ true) where
 -- ---- what is read of a frame that was given
 module _ (s : Sent) (f : Symbols) (few : f .count ≤ 272) (pending : Pending) where
   abbrev next : Sent
-  next = framed taps 10 f 0 pending s
+  next = framed at48 f 0 pending s
 
   abbrev symbols : List Float
   symbols = firsts (f .symbol) (f .count)
 
-  pub all-read : drained taps 10 emptyRoom next .said .answer ≡ wrote (10 * f .count)
+  pub all-read : drained at48 emptyRoom next .said .answer ≡ wrote (10 * f .count)
   unfolding drained framed
   all-read = ap wrote (omega (arith, length-replicate 2720 (pos 0)))
 
-  pub room-read : drained taps 10 emptyRoom next .said .room ≡ samplesBehind (s .symbols) symbols ++ drop (10 * f .count) emptyRoom
-  unfolding drained framed samplesBehind
+  pub room-read : drained at48 emptyRoom next .said .room ≡ samplesBehind (s .symbols) symbols ++ drop (10 * f .count) emptyRoom
+  unfolding drained handedOut framed samplesBehind
   room-read =
-      let number : samplesRead taps 10 next (length emptyRoom) ≡ 10 * f .count = omega (arith, length-replicate 2720 (pos 0)) in
+      let number : samplesRead (next .progress) (length emptyRoom) ≡ 10 * f .count = omega (arith, length-replicate 2720 (pos 0)) in
       let size : 10 * f .count ≡ 10 * length symbols = omega (arith, length-firsts (f .symbol) (f .count)) in
       let place : (i : ℕ) → 10 * length (s .symbols) + (0 + i) + 1 ≡ 10 * length (s .symbols) + i + 1 = λ i. omega arith in
-      let made : firsts (λ (i : ℕ). frameSample taps 10 next (0 + i)) (10 * f .count) ≡ samplesBehind (s .symbols) symbols =
-      firsts-same _ _ (10 * f .count) (λ i l. ap (sentAt taps 10 (s .symbols ++ symbols)) (place i)) ∙ ap (firsts (λ (i : ℕ). frameSample taps 10 next i)) size in
+      let made : firsts (λ (i : ℕ). frameSample at48 next (0 + i)) (10 * f .count) ≡ samplesBehind (s .symbols) symbols =
+      firsts-same _ _ (10 * f .count) (λ i l. ap (sentAt at48 (s .symbols ++ symbols)) (place i)) ∙ ap (firsts (λ (i : ℕ). frameSample at48 next i)) size in
       let behind : 0 + 10 * f .count ≡ 10 * f .count = omega arith in
       rw number (ap (λ (l : List ℤ). l ++ drop (0 + 10 * f .count) emptyRoom) made ∙ ap (λ (n : ℕ). samplesBehind (s .symbols) symbols ++ drop n emptyRoom) behind)
 
-  pub then-symbols : drained taps 10 emptyRoom next .sent .symbols ≡ s .symbols ++ symbols
+  pub then-symbols : drained at48 emptyRoom next .sent .symbols ≡ s .symbols ++ symbols
   unfolding drained framed
   then-symbols = refl
 
-  pub then-padding : drained taps 10 emptyRoom next .sent .progress .«tx_delay_padding» .0 ≡ 0
+  pub then-padding : drained at48 emptyRoom next .sent .progress .«tx_delay_padding» .0 ≡ 0
   unfolding drained framed
   then-padding = omega arith

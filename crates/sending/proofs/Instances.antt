@@ -9,21 +9,24 @@ use lib.ListN.{length, take, drop, replicate}
 use lib.Ieee.{le, ofBits}
 use Rattle.numbers.specs.Below.{allBelow}
 use Rattle.numbers.specs.Firsts.{firsts}
+use Rattle.shaping.specs.Rate.{at48}
 use Rattle.modulator.specs.declared.ModulatorFrame.the-variants.{EndOfTransmission}
-use Rattle.modulator.specs.Fit.{pulseFit, windowFit, recordFit}
+use Rattle.modulator.specs.Paper.{refusal, done}
 use Rattle.modulator.specs.Record.{fresh}
-use Rattle.modulator.specs.Calls.{refusal, done, accepted, provided}
+use Rattle.modulator.specs.Fit.{pulseFit, windowFit, recordFit}
+use Rattle.modulator.specs.Outcome.{frameOutcome}
+use Rattle.modulator.specs.Calls.{settled, provided}
 use Rattle.modulator.specs.Calls.{read as readInto}
 use Rattle.modulator_run.specs.Run.{Delay}
 use Rattle.house.specs.Digits.{capitals, placeIn, valueOf}
 use Rattle.house.specs.Line.{lineFeed, goodLine, noSymbols}
 use Rattle.house.specs.BadLine.{tensIn, decimal, heading, badLine, inRoom}
 use Rattle.sending.specs.declared.Sending.{Sending}
-use Rattle.sending.specs.Text.{hasFeed, linesOf, goodFront, AllGood, none, inLine, firstBad, lineSymbols, preambleSymbols, endSymbols, streamSamples, samplesSent, sampleBytes, bytesSent}
+use Rattle.sending.specs.Text.{hasFeed, linesOf, goodFront, AllGood, none, inLine, firstBad, preambleSymbols, endSymbols, lineSymbols, streamSamples, samplesSent, sampleBytes, bytesSent}
 use Rattle.sending.specs.Calls.{Left, isRefusal, emptyRoom, partOf, quiet, starting, opened, lacking, held, judged, moved, orAsItWas, turned, words}
-use Rattle.sending.specs.Run.{Fitting, callsFrom, callsOver, callsUntil, AllDone, AllTaken, writtenBy, lastOf, lastCall, lastUntil, toldOf, lastWords, Begins}
+use Rattle.sending.specs.Run.{Fitting, callsFrom, callsOver, callsUntil, writtenBy, AllDone, AllTaken, lastOf, lastCall, lastUntil, toldOf, lastWords, Begins}
 use Rattle.sending.specs.TurnFrame.{lineFrame, turnFrame, isGiven}
-use Rattle.sending.proofs.RefusedTurn.{read-follows, refused-turn, refused-exactly}
+use Rattle.sending.proofs.RefusedTurn.{refused-exactly, read-follows, refused-turn}
 use Rattle.sending.proofs.BytesTaken.{bytes-taken, surplus}
 use Rattle.sending.proofs.SendRun.{send-run}
 use Rattle.sending.proofs.AnyText.{asks-some, output-prefix, failed-write, failed-last-write}
@@ -137,11 +140,11 @@ unfolding past-end opened partOf starting wholeCase
 past-end-taken = bytes-taken (opened .sending) past-end past-end-done
 
 -- ---- a fresh sender's end of transmission, which is then read
-fresh-ends : provided fresh EndOfTransmission noSymbols .answer ≡ done
-unfolding provided accepted recordFit windowFit pulseFit allBelow fresh ofBits le
+fresh-ends : provided at48 fresh EndOfTransmission noSymbols .answer ≡ done
+unfolding provided settled frameOutcome recordFit windowFit pulseFit allBelow fresh ofBits le
 fresh-ends = refl
 
-fresh-end-read : isRefusal (readInto (provided fresh EndOfTransmission noSymbols .modulator) emptyRoom .answer) ≡ false
+fresh-end-read : isRefusal (readInto at48 (provided at48 fresh EndOfTransmission noSymbols .modulator) emptyRoom .answer) ≡ false
 unfolding Delay
 fresh-end-read = read-follows fresh EndOfTransmission noSymbols tt fresh-ends emptyRoom
 

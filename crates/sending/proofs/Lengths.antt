@@ -8,9 +8,11 @@ use lib.Dec.{ltb}
 use lib.IntN.{pos}
 use lib.ListN.{length, length-replicate}
 use lib.Ieee.{Float}
+use Rattle.shaping.specs.Rate.{at48}
 use Rattle.modulator.specs.declared.ModulatorFrame.{ModulatorFrame}
 use Rattle.modulator.specs.declared.ModulatorFrame.the-variants.{Symbols as GivenSymbols}
-use Rattle.modulator.specs.Calls.{done, provided}
+use Rattle.modulator.specs.Paper.{done}
+use Rattle.modulator.specs.Calls.{provided}
 use Rattle.house.specs.declared.Text.{Text}
 use Rattle.house.specs.Line.{goodLine, symbolsOf}
 use Rattle.house.specs.BadLine.{inRoom}
@@ -18,12 +20,12 @@ use Rattle.house.proofs.Within.{bad-line-within}
 use Rattle.sending.specs.declared.Sending.{Sending}
 use Rattle.sending.specs.declared.AfterPart.{AfterPart}
 use Rattle.sending.specs.Text.{hasFeed}
-use Rattle.sending.specs.Calls.{Left, emptyRoom, partOf, quiet, opened, added, atHand, held, nextLine, judged, closed, moved, withTaken, isRefusal, orAsItWas, turned, named, words, Says, open-says, last-words-says}
+use Rattle.sending.specs.Calls.{Left, isRefusal, emptyRoom, partOf, quiet, opened, atHand, added, held, nextLine, judged, closed, moved, withTaken, orAsItWas, turned, named, words, Says, open-says, last-words-says}
 use Rattle.sending.proofs.Parts.{read-within}
 
 part-within : (s : Sending) (frame : ModulatorFrame) (symbols : List Float) (bad last : Bool) → partOf s frame symbols bad last .length ≤ 5440
 unfolding partOf
-part-within s frame symbols bad last = omega (arith, read-within (provided (s .modulator) frame symbols .modulator) emptyRoom, length-replicate 2720 (pos 0))
+part-within s frame symbols bad last = omega (arith, read-within (provided at48 (s .modulator) frame symbols .modulator) emptyRoom, length-replicate 2720 (pos 0))
 
 judged-within : (s : Sending) → judged s .length ≤ 5440
 unfolding judged

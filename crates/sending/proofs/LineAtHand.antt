@@ -9,7 +9,7 @@ use lib.Dec.{ltb}
 use lib.ListN.{length, take, drop, length-append, length-take, length-drop}
 use lib.Seq.{take-all, take-at, length-take-le}
 use Rattle.modulator.specs.declared.ModulatorFrame.the-variants.{Symbols as GivenSymbols}
-use Rattle.modulator.specs.Calls.{done}
+use Rattle.modulator.specs.Paper.{done}
 use Rattle.house.specs.Line.{goodLine, symbolsOf}
 use Rattle.sending.specs.declared.Sending.{Sending}
 use Rattle.sending.specs.Text.{hasFeed, linesOf}

@@ -9,18 +9,21 @@ use lib.Seq.{take-at}
 use lib.Ieee.{Float}
 use Rattle.numbers.specs.Firsts.{firsts}
 use Rattle.numbers.proofs.Firsts.{length-firsts}
-use Rattle.shaping.specs.Taps.{taps}
+use Rattle.machine.specs.Runs.{run, answers, Each}
+use Rattle.machine.proofs.Parts.{run-joined, each-joined}
+use Rattle.shaping.specs.Rate.{at48}
+use Rattle.shaping.proofs.RateFacts.{facts48}
 use Rattle.modulator.specs.declared.SoftModulator.{SoftModulator}
 use Rattle.modulator.specs.declared.ModulatorFrame.{ModulatorFrame}
 use Rattle.modulator.specs.declared.Pending.{Pending}
-use Rattle.modulator.specs.Record.{fresh}
+use Rattle.modulator.specs.Paper.{done, wrote}
 use Rattle.modulator.specs.Frame.{Symbols}
-use Rattle.modulator.specs.Calls.{done, wrote, provided}
+use Rattle.modulator.specs.Record.{fresh}
+use Rattle.modulator.specs.Calls.{provided}
 use Rattle.modulator.specs.Calls.{read as readInto}
-use Rattle.modulator_run.specs.Rules.{Call, provide, read, Sent, Said, After, start, after, framed, drained, called, sentFrom, saidFrom, sentAll}
-use Rattle.modulator_run.specs.Run.{left, saidBy, recordFrom, answersFrom, recordAfter, Given, AllGiven}
+use Rattle.modulator_run.specs.Rules.{Call, provide, read, Sent, Said, After, start, after, framed, drained, called, rules, sentAll}
+use Rattle.modulator_run.specs.Run.{left, saidBy, sender, recordAfter, Given}
 use Rattle.modulator_run.specs.Pieces.{counted}
-use Rattle.modulator_run.proofs.LastCall.{sent-behind}
 use Rattle.modulator_run.proofs.SenderRun.{answers-from}
 use Rattle.sending.specs.declared.Sending.{Sending}
 use Rattle.sending.specs.Text.{sampleBytes}
@@ -32,26 +35,15 @@ use Rattle.sending.proofs.Frames.{Gives, all-read, room-read, then-symb
 
 -- the sender after the calls `cs`, by which the symbols `xs` were sent and no padding is left
 pub record Sits (m : SoftModulator) (cs : List Call) (xs : List Float) : Type 0 where
-  pub by : m ≡ recordAfter cs
-  pub given : AllGiven cs
-  pub symbols : sentAll taps 10 cs .symbols ≡ xs
-  pub padding : sentAll taps 10 cs .progress .«tx_delay_padding» .0 ≡ 0
-
--- ---- more calls
-record-behind : (m : SoftModulator) (cs ds : List Call) → recordFrom m (cs ++ ds) ≡ recordFrom (recordFrom m cs) ds
-unfolding recordFrom
-record-behind m [] ds = refl
-record-behind m (c ∷ cs) ds = record-behind (left m c .modulator) cs ds
-
-given-behind : (cs ds : List Call) → AllGiven cs → AllGiven ds → AllGiven (cs ++ ds)
-unfolding AllGiven
-given-behind [] ds g h = h
-given-behind (c ∷ cs) ds g h = (g .0, given-behind cs ds (g .1) h)
+  pub by : m ≡ recordAfter at48 cs
+  pub given : Each Given cs
+  pub symbols : sentAll at48 cs .symbols ≡ xs
+  pub padding : sentAll at48 cs .progress .«tx_delay_padding» .0 ≡ 0
 
 both : {A : Type 0} {a b c d : A} → _≡_ {A = List A} (a ∷ (b ∷ [])) (c ∷ (d ∷ [])) → (a ≡ c) × (b ≡ d)
 both e = (cc, cc)
 
-read-called : (s : Sent) (room : List ℤ) → called taps 10 s (read room) ≡ drained taps 10 room s
+read-called : (s : Sent) (room : List ℤ) → called at48 s (read room) ≡ drained at48 room s
 unfolding called
 read-called s room = refl
 
@@ -66,7 +58,7 @@ module _ (s : Sending) (cs : List Call) (xs : List Float) (sits : Sits (s .modul
   m = s .modulator
 
   abbrev before : Sent
-  before = sentAll taps 10 cs
+  before = sentAll at48 cs
 
   abbrev new : List Float
   new = firsts (f .symbol) (f .count)
@@ -76,55 +68,55 @@ module _ (s : Sending) (cs : List Call) (xs : List Float) (sits : Sits (s .modul
 
   -- the frame is given
   abbrev next : Sent
-  next = framed taps 10 f 0 pending before
+  next = framed at48 f 0 pending before
 
-  calls-given : AllGiven (partCalls frame symbols)
-  unfolding AllGiven Given
+  calls-given : Each Given (partCalls frame symbols)
+  unfolding Each Given
   calls-given = (gives .given, (tt, tt))
 
-  frame-called : called taps 10 before (provide frame symbols) ≡ after done [] next
+  frame-called : called at48 before (provide frame symbols) ≡ after done [] next
   frame-called = gives .calls before (sits .padding)
 
   -- what the two calls say, by the record and by the rules
-  said : answersFrom m (partCalls frame symbols) ≡ saidFrom taps 10 before (partCalls frame symbols)
-  said = rw (sits .by) (answers-from cs (partCalls frame symbols) (sits .given) calls-given)
+  said : answers (sender at48) m (partCalls frame symbols) ≡ answers (rules at48) before (partCalls frame symbols)
+  said = rw (sits .by) (answers-from at48 facts48 cs (partCalls frame symbols) (sits .given) calls-given)
 
-  each-said : (saidBy (provided m frame symbols) ≡ called taps 10 before (provide frame symbols) .said)
-      × (saidBy (readInto (provided m frame symbols .modulator) emptyRoom) ≡ called taps 10 (called taps 10 before (provide frame symbols) .sent) (read emptyRoom) .said)
-  unfolding answersFrom saidFrom left
+  each-said : (saidBy (provided at48 m frame symbols) ≡ called at48 before (provide frame symbols) .said)
+      × (saidBy (readInto at48 (provided at48 m frame symbols .modulator) emptyRoom) ≡ called at48 (called at48 before (provide frame symbols) .sent) (read emptyRoom) .said)
+  unfolding answers left
   each-said = both said
 
-  frame-said : provided m frame symbols .answer ≡ done
+  frame-said : provided at48 m frame symbols .answer ≡ done
   frame-said = ap (λ (x : Said). x .answer) (each-said .0 ∙ ap (λ (a : After). a .said) frame-called)
 
-  read-said : saidBy (readInto (provided m frame symbols .modulator) emptyRoom) ≡ drained taps 10 emptyRoom next .said
+  read-said : saidBy (readInto at48 (provided at48 m frame symbols .modulator) emptyRoom) ≡ drained at48 emptyRoom next .said
   read-said =
       each-said .1
-      ∙ ap (λ (a : After). called taps 10 (a .sent) (read emptyRoom) .said) frame-called
+      ∙ ap (λ (a : After). called at48 (a .sent) (read emptyRoom) .said) frame-called
       ∙ ap (λ (a : After). a .said) (read-called next emptyRoom)
 
-  count-said : readInto (provided m frame symbols .modulator) emptyRoom .answer ≡ wrote (10 * f .count)
+  count-said : readInto at48 (provided at48 m frame symbols .modulator) emptyRoom .answer ≡ wrote (10 * f .count)
   count-said = ap (λ (x : Said). x .answer) read-said ∙ all-read before f (gives .few) pending
 
-  room-said : readInto (provided m frame symbols .modulator) emptyRoom .room ≡ samplesBehind xs new ++ drop (10 * f .count) emptyRoom
+  room-said : readInto at48 (provided at48 m frame symbols .modulator) emptyRoom .room ≡ samplesBehind xs new ++ drop (10 * f .count) emptyRoom
   room-said =
       ap (λ (x : Said). x .room) read-said
       ∙ room-read before f (gives .few) pending
       ∙ ap (λ (l : List Float). samplesBehind l new ++ drop (10 * f .count) emptyRoom) (sits .symbols)
 
   -- and what they leave
-  both-called : sentAll taps 10 (cs ++ partCalls frame symbols) ≡ drained taps 10 emptyRoom next .sent
-  unfolding sentFrom
+  both-called : sentAll at48 (cs ++ partCalls frame symbols) ≡ drained at48 emptyRoom next .sent
+  unfolding run
   both-called =
-      sent-behind taps 10 start cs (partCalls frame symbols)
-      ∙ ap (λ (a : After). called taps 10 (a .sent) (read emptyRoom) .sent) frame-called
+      run-joined (rules at48) cs (partCalls frame symbols) start
+      ∙ ap (λ (a : After). called at48 (a .sent) (read emptyRoom) .sent) frame-called
       ∙ ap (λ (a : After). a .sent) (read-called next emptyRoom)
 
-  sits-next : Sits (readInto (provided m frame symbols .modulator) emptyRoom .modulator) (cs ++ partCalls frame symbols) (xs ++ new)
-  unfolding recordFrom left
+  sits-next : Sits (readInto at48 (provided at48 m frame symbols .modulator) emptyRoom .modulator) (cs ++ partCalls frame symbols) (xs ++ new)
+  unfolding run left
   sits-next = record {
-    by = rw (sits .by) (sym (record-behind fresh cs (partCalls frame symbols)));
-    given = given-behind cs (partCalls frame symbols) (sits .given) calls-given;
+    by = rw (sits .by) (sym (run-joined (sender at48) cs (partCalls frame symbols) fresh));
+    given = each-joined Given cs (partCalls frame symbols) (sits .given) calls-given;
     symbols =
         ap (λ (x : Sent). x .symbols) both-called ∙ then-symbols before f (gives .few) pending ∙ ap (λ (l : List Float). l ++ new) (sits .symbols);
     padding = ap (λ (x : Sent). x .progress .«tx_delay_padding» .0) both-called ∙ then-padding before f (gives .few) pending;

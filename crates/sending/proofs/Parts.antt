@@ -10,14 +10,16 @@ use lib.IntN.{ℤ}
 use lib.ListN.{length, take, replicate, length-take}
 use lib.Ieee.{Float}
 use lib.Seq.{paste, take-all, take-take, length-take-le}
+use Rattle.shaping.specs.Rate.{at48}
 use Rattle.modulator.specs.declared.SoftModulator.{SoftModulator}
 use Rattle.modulator.specs.declared.ModulatorFrame.{ModulatorFrame}
 use Rattle.modulator.specs.declared.ModulatorFrame.the-variants.{Preamble, Symbols as GivenSymbols}
 use Rattle.modulator.specs.declared.AfterFrame.{AfterFrame}
 use Rattle.modulator.specs.declared.AfterRead.{AfterRead}
+use Rattle.modulator.specs.Paper.{done, readPaper}
 use Rattle.modulator.specs.Record.{fresh}
 use Rattle.modulator.specs.Fit.{recordFit}
-use Rattle.modulator.specs.Calls.{done, readPaper, drained, provide-next-frame-says, read-output-samples-says}
+use Rattle.modulator.specs.Calls.{drained, provide-next-frame-says, read-output-samples-says}
 use Rattle.modulator.specs.Calls.{read as readInto}
 use Rattle.modulator.proofs.Cases.{read-unfit, read-fit}
 use Rattle.modulator_run.specs.Pieces.{counted}
@@ -27,16 +29,16 @@ use Rattle.house.proofs.Lines.{read-good, read-bad}
 use Rattle.sending.specs.declared.Sending.{Sending}
 use Rattle.sending.specs.declared.AfterPart.{AfterPart}
 use Rattle.sending.specs.Text.{hasFeed, sampleBytes}
-use Rattle.sending.specs.Calls.{emptyRoom, withModulator, partOf, quiet, starting, opened, lacking, added, atHand, held, nextLine, judged, Says}
+use Rattle.sending.specs.Calls.{withModulator, emptyRoom, partOf, quiet, starting, opened, lacking, atHand, added, held, nextLine, judged, Says}
 
 -- a read writes no more than the room holds
-pub read-within : (m : SoftModulator) (room : List ℤ) → counted (readInto m room .answer) ≤ length room
+pub read-within : (m : SoftModulator) (room : List ℤ) → counted (readInto at48 m room .answer) ≤ length room
 unfolding counted drained
-read-within m room = by-test (recordFit m) refl
+read-within m room = by-test (recordFit 10 m) refl
   where
-    by-test : (t : Bool) → recordFit m ≡ t → counted (readInto m room .answer) ≤ length room
-    by-test true e = rw (read-fit m room e) (omega arith)
-    by-test false e = rw (read-unfit m room e) (omega arith)
+    by-test : (t : Bool) → recordFit 10 m ≡ t → counted (readInto at48 m room .answer) ≤ length room
+    by-test true e = rw (read-fit at48 m room e) (omega arith)
+    by-test false e = rw (read-unfit at48 m room e) (omega arith)
 
 pub counted-within : {m : SoftModulator} {room : List ℤ} {r : AfterRead} {after : List ℤ} → read-output-samples-says m room r after → counted (readPaper (r .answer)) ≤ length room
 counted-within {m} {room} said = rw (said .answers) (read-within m room)

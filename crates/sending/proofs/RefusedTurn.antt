@@ -6,11 +6,15 @@ use Prim.Native.Nat.{ℕ}
 use lib.Dec.{ltb}
 use lib.IntN.{ℤ}
 use lib.Ieee.{Float}
+use Rattle.shaping.specs.Rate.{at48}
 use Rattle.modulator.specs.declared.SoftModulator.{SoftModulator}
 use Rattle.modulator.specs.declared.ModulatorFrame.{ModulatorFrame}
 use Rattle.modulator.specs.declared.ModulatorFrame.the-variants.{Symbols as GivenSymbols, EndOfTransmission}
+use Rattle.modulator.specs.Paper.{refusal, done}
+use Rattle.modulator.specs.Record.{controlOf}
 use Rattle.modulator.specs.Fit.{recordFit}
-use Rattle.modulator.specs.Calls.{left, refusal, done, accepted, provided, drained}
+use Rattle.modulator.specs.Outcome.{frameOutcome}
+use Rattle.modulator.specs.Calls.{left, settled, drained, provided}
 use Rattle.modulator.specs.Calls.{read as readInto}
 use Rattle.modulator.proofs.Cases.{read-fit}
 use Rattle.modulator_run.specs.Rules.{provide}
@@ -20,10 +24,10 @@ use Rattle.modulator_run.proofs.SenderRun.{stays-fit}
 use Rattle.house.specs.Line.{goodLine, symbolsOf, noSymbols}
 use Rattle.sending.specs.declared.Sending.{Sending}
 use Rattle.sending.specs.Text.{hasFeed}
-use Rattle.sending.specs.Calls.{Left, partOf, quiet, atHand, held, nextLine, judged, closed, orClosed, moved, isRefusal, turned}
+use Rattle.sending.specs.Calls.{Left, isRefusal, partOf, quiet, atHand, held, nextLine, judged, closed, orClosed, moved, turned}
 use Rattle.sending.specs.TurnFrame.{TurnFrame, noFrame, given, endFrame, lineFrame, turnFrame, isGiven, answerTo}
 use Rattle.sending.proofs.Frames.{line-accepted}
-use Rattle.sending.proofs.Turns.{turned-refused, turned-answer}
+use Rattle.sending.proofs.Turns.{turned-answer, turned-refused}
 
 -- ---- the answer
 module _ (s : Sending) where
@@ -57,13 +61,13 @@ turn-answer s bytes = turned-answer s bytes ∙ moved-answer s bytes
 -- ---- by the sender's record
 -- a fit sender takes the frame, and any other refuses it with 1
 abbrev Takeable : TurnFrame → Type 0
-Takeable f = (m : SoftModulator) → answerTo m f ≡ cond (isGiven f && not (recordFit m)) (refusal 1) done
+Takeable f = (m : SoftModulator) → answerTo m f ≡ cond (isGiven f && not (recordFit 10 m)) (refusal 1) done
 
-takeable : (frame : ModulatorFrame) (symbols : List Float) → ((m : SoftModulator) → accepted m frame symbols .answer ≡ done) → Takeable (given frame symbols)
+takeable : (frame : ModulatorFrame) (symbols : List Float) → ((m : SoftModulator) → settled at48 m (frameOutcome 10 frame symbols (controlOf m)) .answer ≡ done) → Takeable (given frame symbols)
 unfolding answerTo isGiven provided
-takeable frame symbols fine m = by-test (recordFit m)
+takeable frame symbols fine m = by-test (recordFit 10 m)
   where
-    by-test : (fit : Bool) → cond (not fit) (left (refusal 1) m []) (accepted m frame symbols) .answer ≡ cond (not fit) (refusal 1) done
+    by-test : (fit : Bool) → cond (not fit) (left (refusal 1) m []) (settled at48 m (frameOutcome 10 frame symbols (controlOf m))) .answer ≡ cond (not fit) (refusal 1) done
     by-test true = fine m
     by-test false = refl
 
@@ -72,7 +76,7 @@ unfolding answerTo isGiven
 none-takeable m = refl
 
 end-takeable : Takeable endFrame
-unfolding accepted
+unfolding settled frameOutcome
 end-takeable = takeable EndOfTransmission noSymbols λ m. refl
 
 line-takeable : (s : Sending) → Takeable (lineFrame s)
@@ -91,25 +95,25 @@ turn-takeable s [] = end-takeable
 turn-takeable s (b ∷ bytes) = line-takeable (held s (b ∷ bytes))
 
 -- A turn is refused exactly if it gives the sender a frame and the sender's record is unfit, and then with 1.
-pub refused-exactly : (s : Sending) (bytes : List ℕ) → turned s bytes .answer ≡ cond (isGiven (turnFrame s bytes) && not (recordFit (s .modulator))) (refusal 1) done
+pub refused-exactly : (s : Sending) (bytes : List ℕ) → turned s bytes .answer ≡ cond (isGiven (turnFrame s bytes) && not (recordFit 10 (s .modulator))) (refusal 1) done
 refused-exactly s bytes = turn-answer s bytes ∙ turn-takeable s bytes (s .modulator)
 
 -- ---- the second call of a part
-admitted-fit : (m : SoftModulator) (frame : ModulatorFrame) (symbols : List Float) → provided m frame symbols .answer ≡ done → recordFit m ≡ true
+admitted-fit : (m : SoftModulator) (frame : ModulatorFrame) (symbols : List Float) → provided at48 m frame symbols .answer ≡ done → recordFit 10 m ≡ true
 unfolding provided
-admitted-fit m frame symbols fine = by-test (recordFit m) fine
+admitted-fit m frame symbols fine = by-test (recordFit 10 m) fine
   where
-    by-test : (fit : Bool) → cond (not fit) (left (refusal 1) m []) (accepted m frame symbols) .answer ≡ done → fit ≡ true
+    by-test : (fit : Bool) → cond (not fit) (left (refusal 1) m []) (settled at48 m (frameOutcome 10 frame symbols (controlOf m))) .answer ≡ done → fit ≡ true
     by-test true e = refl
     by-test false e = cc
 
 -- Where the sender takes a frame, the read that follows is not refused: no refusal is hidden in what a part writes.
-pub read-follows : (m : SoftModulator) (frame : ModulatorFrame) (symbols : List Float) → Delay frame → provided m frame symbols .answer ≡ done → (room : List ℤ)
-    → isRefusal (readInto (provided m frame symbols .modulator) room .answer) ≡ false
+pub read-follows : (m : SoftModulator) (frame : ModulatorFrame) (symbols : List Float) → Delay frame → provided at48 m frame symbols .answer ≡ done → (room : List ℤ)
+    → isRefusal (readInto at48 (provided at48 m frame symbols .modulator) room .answer) ≡ false
 unfolding drained Given senderLeft
 read-follows m frame symbols byte fine room =
-    let fit : recordFit (provided m frame symbols .modulator) ≡ true = stays-fit m (admitted-fit m frame symbols fine) (provide frame symbols) byte in
-    rw (read-fit (provided m frame symbols .modulator) room fit)
+    let fit : recordFit 10 (provided at48 m frame symbols .modulator) ≡ true = stays-fit at48 m (admitted-fit m frame symbols fine) (provide frame symbols) byte in
+    rw (read-fit at48 (provided at48 m frame symbols .modulator) room fit)
 
 -- ---- what it leaves
 -- Whenever a turn is refused, it leaves the sending that it was given, takes no byte, and nothing is to be written.

@@ -7,17 +7,18 @@ use native.Mathlib.Omega.{arith}
 use borrow.Author.Tests.{lt-ltb}
 use lib.ListN.{length}
 use lib.Ieee.{Float}
+use Rattle.shaping.specs.Rate.{at48}
 use Rattle.modulator.specs.declared.ModulatorFrame.the-variants.{Symbols as GivenSymbols, EndOfTransmission}
+use Rattle.modulator.specs.Paper.{done}
 use Rattle.modulator.specs.Frame.{ending}
-use Rattle.modulator.specs.Calls.{done}
 use Rattle.modulator_run.specs.Rules.{Call}
 use Rattle.modulator_run.specs.Run.{recordAfter}
 use Rattle.house.specs.Line.{goodLine, symbolsOf, noSymbols}
 use Rattle.sending.specs.declared.Sending.{Sending}
-use Rattle.sending.specs.Text.{hasFeed, linesOf, goodFront, none, inLine, firstBad, lineSymbols, endSymbols, sampleBytes}
+use Rattle.sending.specs.Text.{hasFeed, linesOf, goodFront, none, inLine, firstBad, endSymbols, lineSymbols, sampleBytes}
 use Rattle.sending.specs.Calls.{Left, partOf, largest, closed, withTaken, named}
 use Rattle.sending.specs.Run.{output, writtenBy, AllDone, lastOf, toldOf, partCalls, lineCalls}
-use Rattle.sending.proofs.Lines.{BadFirst, line-open, too-short, front-good, front-bad, number-good, number-bad}
+use Rattle.sending.proofs.Lines.{line-open, BadFirst, too-short, front-good, front-bad, number-good, number-bad}
 use Rattle.sending.proofs.Bytes.{bytes-two}
 use Rattle.sending.proofs.Stream.{samplesBehind, samples-two}
 use Rattle.sending.proofs.Frames.{gives-end}
@@ -28,7 +29,7 @@ use Rattle.sending.proofs.Turns.{closed-last}
 pub record Over (calls : List Left) (cs : List Call) (xs : List Float) (k : ℕ) (lines : List (List ℕ)) : Type 0 where
   pub written : writtenBy calls ≡ sampleBytes (samplesBehind xs (lineSymbols (goodFront lines) ++ endSymbols))
   pub answers : AllDone calls
-  pub sender : (l : Left) → lastOf l calls .sending .modulator ≡ recordAfter (cs ++ (flatten (map lineCalls (goodFront lines)) ++ partCalls EndOfTransmission noSymbols))
+  pub sender : (l : Left) → lastOf l calls .sending .modulator ≡ recordAfter at48 (cs ++ (flatten (map lineCalls (goodFront lines)) ++ partCalls EndOfTransmission noSymbols))
   pub tells : (l : Left) → k + length lines ≤ suc largest → toldOf (lastOf l calls) ≡ firstBad k lines
   pub ends : (l : Left) → lastOf l calls .last ≡ true
 
@@ -110,8 +111,8 @@ module _ (n : ℕ) (l : Left) (calls : List Left) (cs : List Call) (xs : List Fl
         answers = (part .answer, rest .answers);
         sender = λ _.
             rest .sender (withTaken n l)
-            ∙ ap recordAfter (append-assoc cs (lineCalls g) (later ++ end) ∙ ap (λ (c : List Call). cs ++ c) (sym (append-assoc (lineCalls g) later end)))
-            ∙ ap (λ (f : List (List ℕ)). recordAfter (cs ++ (flatten (map lineCalls f) ++ end))) (sym front);
+            ∙ ap (recordAfter at48) (append-assoc cs (lineCalls g) (later ++ end) ∙ ap (λ (c : List Call). cs ++ c) (sym (append-assoc (lineCalls g) later end)))
+            ∙ ap (λ (f : List (List ℕ)). recordAfter at48 (cs ++ (flatten (map lineCalls f) ++ end))) (sym front);
         tells = λ _ h. rest .tells (withTaken n l) (omega arith) ∙ sym (number-good k g lines good);
         ends = λ _. rest .ends (withTaken n l);
       }

@@ -9,15 +9,15 @@ use lib.Dec.{ltb}
 use lib.ListN.{length}
 use lib.Seq.{length-take-le}
 use lib.Ieee.{Float}
+use Rattle.machine.specs.Runs.{run, Each}
 use Rattle.modulator.specs.declared.ModulatorFrame.the-variants.{Preamble, Symbols as GivenSymbols}
+use Rattle.modulator.specs.Paper.{done}
 use Rattle.modulator.specs.Frame.{preamble, given}
-use Rattle.modulator.specs.Calls.{done}
-use Rattle.modulator_run.specs.Rules.{Call, sentFrom}
-use Rattle.modulator_run.specs.Run.{recordFrom, AllGiven}
+use Rattle.modulator_run.specs.Rules.{Call}
 use Rattle.house.specs.Line.{goodLine, symbolsOf, noSymbols}
 use Rattle.sending.specs.declared.Sending.{Sending}
-use Rattle.sending.specs.Text.{hasFeed, linesOf, goodLines, lineSymbols, preambleSymbols, endSymbols, symbolsSent, sampleBytes}
-use Rattle.sending.specs.Calls.{Left, partOf, quiet, starting, largest, opened, added, atHand, held, nextLine, judged, closed, withTaken, turned, words}
+use Rattle.sending.specs.Text.{hasFeed, linesOf, goodLines, preambleSymbols, endSymbols, lineSymbols, symbolsSent, sampleBytes}
+use Rattle.sending.specs.Calls.{Left, partOf, quiet, starting, opened, atHand, added, held, largest, nextLine, judged, closed, withTaken, turned, words}
 use Rattle.sending.specs.Run.{Fitting, callsFrom, writtenBy, AllDone, lastOf, partCalls, lineCalls, senderCalls, Sends}
 use Rattle.sending.proofs.Lines.{never-both, good-first}
 use Rattle.sending.proofs.Bytes.{bytes-two}
@@ -162,7 +162,7 @@ run-from (bytes ∷ reads) s cs xs k st fit =
 
 -- ---- from the start
 start-sits : Sits (starting .modulator) [] []
-unfolding starting recordFrom sentFrom AllGiven
+unfolding starting run Each
 start-sits = record { by = refl; given = tt; symbols = refl; padding = refl }
 
 opens : Done opened [] [] preambleSymbols (Preamble (record { 0 = 0 })) noSymbols

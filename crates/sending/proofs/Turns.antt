@@ -6,10 +6,10 @@ use Prim.Native.Nat.{ℕ, _<_, min}
 use native.Mathlib.Nat.{not-suc-le-zero}
 use native.Mathlib.Omega.{arith}
 use lib.ListN.{length, take, length-take}
-use Rattle.modulator.specs.Calls.{refusal, done, providedPaper}
+use Rattle.modulator.specs.Paper.{refusal, done, providedPaper}
 use Rattle.sending.specs.declared.Sending.{Sending}
 use Rattle.sending.specs.declared.AfterPart.{AfterPart}
-use Rattle.sending.specs.Calls.{Left, partOf, quiet, lacking, added, held, judged, closed, orClosed, moved, withTaken, isRefusal, orAsItWas, turned, Says, turn-says}
+use Rattle.sending.specs.Calls.{Left, isRefusal, partOf, quiet, lacking, added, held, judged, closed, orClosed, moved, withTaken, orAsItWas, turned, Says, turn-says}
 use Rattle.sending.proofs.Parts.{added-number}
 
 pub closed-last : (s : Sending) → closed s .last ≡ true

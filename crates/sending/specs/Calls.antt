@@ -7,11 +7,13 @@ use lib.Dec.{ltb}
 use lib.IntN.{ℤ, pos}
 use lib.ListN.{length, take, drop, replicate}
 use lib.Ieee.{Float}
+use Rattle.shaping.specs.Rate.{at48}
 use Rattle.modulator.specs.declared.SoftModulator.{SoftModulator}
 use Rattle.modulator.specs.declared.ModulatorFrame.{ModulatorFrame}
 use Rattle.modulator.specs.declared.ModulatorFrame.the-variants.{Preamble, Symbols as GivenSymbols, EndOfTransmission}
+use Rattle.modulator.specs.Paper.{Paper, refusal, done, wrote, transmitEnd, readOutput, idle, getFrame, nothing, providedPaper}
 use Rattle.modulator.specs.Record.{fresh}
-use Rattle.modulator.specs.Calls.{Paper, refusal, done, wrote, transmitEnd, readOutput, idle, getFrame, nothing, providedPaper, provided}
+use Rattle.modulator.specs.Calls.{provided}
 use Rattle.modulator.specs.Calls.{Left as SenderLeft}
 use Rattle.modulator.specs.Calls.{read as readInto}
 use Rattle.modulator_run.specs.Pieces.{counted}
@@ -53,8 +55,8 @@ emptyRoom = replicate 2720 (pos 0)
 
 unfoldable pub partOf : Sending → ModulatorFrame → List Float → Bool → Bool → Left
 partOf s frame symbols bad last =
-    let given : SenderLeft = provided (s .modulator) frame symbols in
-    let out : SenderLeft = readInto (given .modulator) emptyRoom in
+    let given : SenderLeft = provided at48 (s .modulator) frame symbols in
+    let out : SenderLeft = readInto at48 (given .modulator) emptyRoom in
     record {
       answer = given .answer;
       sending = withModulator (out .modulator) s;

@@ -5,16 +5,17 @@ use mathlib.Core.List.{List, [], _∷_, _++_, map, flatten}
 use Prim.Native.Nat.{ℕ, _≤_, _<_}
 use lib.ListN.{length, take}
 use lib.Ieee.{Float}
+use Rattle.shaping.specs.Rate.{at48}
 use Rattle.modulator.specs.declared.ModulatorFrame.{ModulatorFrame}
 use Rattle.modulator.specs.declared.ModulatorFrame.the-variants.{Preamble, Symbols as GivenSymbols, EndOfTransmission}
-use Rattle.modulator.specs.Calls.{done}
+use Rattle.modulator.specs.Paper.{done}
 use Rattle.modulator_run.specs.Rules.{Call, provide, read}
 use Rattle.modulator_run.specs.Run.{recordAfter}
 use Rattle.house.specs.declared.Text.{Text}
 use Rattle.house.specs.Line.{symbolsOf, noSymbols}
 use Rattle.sending.specs.declared.Sending.{Sending}
 use Rattle.sending.specs.Text.{linesOf, goodLines, Bad, badLine, bytesSent}
-use Rattle.sending.specs.Calls.{Left, emptyRoom, lacking, largest, opened, turned, named, words}
+use Rattle.sending.specs.Calls.{Left, emptyRoom, opened, lacking, largest, turned, named, words}
 
 -- a read that is not the end of the input gives a byte at least, and no more than the line lacks; when the transmission has ended, nothing is read
 unfoldable pub Fitting : Sending → List (List ℕ) → Type 0
@@ -87,7 +88,7 @@ pub record Sends (reads : List (List ℕ)) : Type 0 where
   pub written : writtenBy (callsOver reads) ≡ bytesSent (flatten reads)
   pub answers : AllDone (callsOver reads)
   pub takes : AllTaken (opened .sending) reads
-  pub sender : lastCall reads .sending .modulator ≡ recordAfter (senderCalls (goodLines (flatten reads)))
+  pub sender : lastCall reads .sending .modulator ≡ recordAfter at48 (senderCalls (goodLines (flatten reads)))
   pub ends : lastCall reads .last ≡ true
   pub tells : length (linesOf (flatten reads)) ≤ largest → toldOf (lastCall reads) ≡ badLine (flatten reads)
   pub says : length (linesOf (flatten reads)) ≤ largest → lastWords reads ≡ words (badLine (flatten reads))

@@ -8,7 +8,7 @@ use lib.IntN.{ℤ}
 use lib.ListN.{length}
 use lib.Ieee.{Float}
 use Rattle.numbers.specs.Firsts.{firsts}
-use Rattle.shaping.specs.Taps.{taps}
+use Rattle.shaping.specs.Rate.{at48}
 use Rattle.modulator.specs.Frame.{preamble, ending}
 use Rattle.modulator_run.specs.Stream.{sentAt}
 use Rattle.house.specs.Line.{lineFeed, goodLine, symbolsOf}
@@ -74,7 +74,7 @@ symbolsSent text = preambleSymbols ++ (lineSymbols (goodLines text) ++ endSymbol
 
 -- all samples of a stream of symbols from a fresh start, in order
 unfoldable pub streamSamples : List Float → List ℤ
-streamSamples symbols = firsts (λ (i : ℕ). sentAt taps 10 symbols (i + 1)) (10 * length symbols)
+streamSamples symbols = firsts (λ (i : ℕ). sentAt at48 symbols (i + 1)) (at48 .p * length symbols)
 
 abbrev pub samplesSent : List ℕ → List ℤ
 samplesSent text = streamSamples (symbolsSent text)

@@ -4,10 +4,12 @@ use mathlib.Core.List.{List, [], _∷_}
 use Prim.Native.Nat.{ℕ}
 use lib.Dec.{ltb}
 use lib.Ieee.{Float}
+use Rattle.shaping.specs.Rate.{at48}
 use Rattle.modulator.specs.declared.SoftModulator.{SoftModulator}
 use Rattle.modulator.specs.declared.ModulatorFrame.{ModulatorFrame}
 use Rattle.modulator.specs.declared.ModulatorFrame.the-variants.{Symbols as GivenSymbols, EndOfTransmission}
-use Rattle.modulator.specs.Calls.{Paper, done, provided}
+use Rattle.modulator.specs.Paper.{Paper, done}
+use Rattle.modulator.specs.Calls.{provided}
 use Rattle.house.specs.Line.{goodLine, symbolsOf, noSymbols}
 use Rattle.sending.specs.declared.Sending.{Sending}
 use Rattle.sending.specs.Text.{hasFeed}
@@ -37,4 +39,4 @@ isGiven (given frame symbols) = true
 
 unfoldable pub answerTo : SoftModulator → TurnFrame → Paper
 answerTo m noFrame = done
-answerTo m (given frame symbols) = provided m frame symbols .answer
+answerTo m (given frame symbols) = provided at48 m frame symbols .answer

@@ -2,17 +2,16 @@
 use super::AfterPart;
 use super::Sending;
 use super::part::part;
+use house::LINE_FEED;
 use modulator::ModulatorFrame;
 use modulator::Provided;
 ghost use mathlib.Core.Path.{_≡_};
 ghost use Prim.Native.Nat.{_+_, _-_, _≤_, min};
 ghost use lib.ListN.{take};
 ghost use lib.Seq.{paste};
-ghost use Rattle.modulator.specs.Calls.{providedPaper};
+ghost use Rattle.modulator.specs.Paper.{providedPaper};
 ghost use Rattle.sending.specs.Text.{hasFeed};
 ghost use Rattle.sending.specs.Calls.{Says, quiet, lacking, held, judged, nextNumber, lacks-says};
-
-const LINE_FEED: u8 = 10;
 
 // How many of n bytes go into the line: no more than it lacks.
 pub(crate) fn count_taken(s: Sending, n: usize) -> usize

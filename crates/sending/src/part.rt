@@ -6,7 +6,7 @@ use modulator::ModulatorFrame;
 use modulator::Read;
 use modulator::SoftModulator;
 ghost use mathlib.Core.Path.{_≡_};
-ghost use Rattle.modulator.specs.Calls.{readPaper};
+ghost use Rattle.modulator.specs.Paper.{readPaper};
 ghost use Rattle.modulator_run.specs.Pieces.{counted};
 ghost use Rattle.sending.specs.Text.{sampleBytes};
 ghost use Rattle.sending.specs.Calls.{partOf, closed, Says, open-says};

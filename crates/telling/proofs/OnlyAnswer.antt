@@ -4,7 +4,7 @@ use mathlib.Core.Bool.{Bool}
 use Rattle.numbers.proofs.Answer.{same-answer}
 use Rattle.house.specs.declared.Text.{Text}
 use Rattle.house.specs.declared.Trouble.{Trouble}
-use Rattle.telling.specs.Telling.{tell-says, say-says}
+use Rattle.telling.specs.Texts.{tell-says, say-says}
 
 pub tell-only-answer : (text : Text) (r s : Bool) → tell-says text r → tell-says text s → r ≡ s
 tell-only-answer text r s = same-answer

@@ -1,2 +1,2 @@
 -- What the contract of `telling` cites.
-pub mod Telling
+pub mod Texts

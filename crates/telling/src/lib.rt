@@ -2,7 +2,7 @@
 use house::Text;
 use house::Trouble;
 use libc::STDERR_FILENO;
-ghost use Rattle.telling.specs.Telling.{tell-says, say-says};
+ghost use Rattle.telling.specs.Texts.{tell-says, say-says};
 
 // Tells a text that lies within its bytes, and says whether it does: of one that is said to be longer nothing is written.
 pub fn tell(text: Text) -> bool

@@ -31,7 +31,7 @@ pub record Read (l : List ℕ) (at n r : ℕ) : Type 0 where
   pub value : r ≡ lowFirst (part n l at)
   pub small : r < 256 ^ n
 
--- w bytes of each number, one behind the other
+-- w bytes of each number, one after the other
 unfoldable pub laid : ℕ → (ℕ → ℕ) → ℕ → List ℕ → List ℕ
 laid w f zero l = l
 laid w f (suc n) l = sets (laid w f n l) (w * n) (lows w (f n))

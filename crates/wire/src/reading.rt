@@ -54,21 +54,10 @@ pub fn numbers(from: &[u8], to: &mut [u64])
     }
 }
 
-// `f32::from_bits` is not defined at the patterns that are not numbers, which lie above infinity's.
-fn of_pattern(pattern: u32) -> f32
-    ensures { λ r. ⌜ r ≡ ofBits binary32 pattern ⌝ }
-{
-    if 0x7f80_0000 < pattern % 0x8000_0000 {
-        0.0 / 0.0
-    } else {
-        f32::from_bits(pattern)
-    }
-}
-
 fn float(from: &[u8], at: usize) -> f32
     ensures { λ r. ⌜ r ≡ ofBits binary32 (lowFirst (part 4 (now (from .entry)) at)) ⌝ }
 {
-    of_pattern(read(from, at, 4) as u32)
+    numbers::of_pattern(read(from, at, 4) as u32)
 }
 
 // By their bit patterns. Every pattern that is no number's gives the one not-a-number.

@@ -207,11 +207,11 @@ impl<'a> Sides<'a> {
         let program = &mut self.program;
         let mut room = numbered(ROOM);
         program.hear(Hearing::Feed(samples), &mut record, &mut room);
-        let taken = record.numbers[GIVEN] as usize;
+        let fed = record.numbers[GIVEN] as usize;
         let noted = &self.notes[given - 1].numbers[REFUSAL..=OFFERED_AT];
-        if taken != given || record.numbers[REFUSAL..=OFFERED_AT] != *noted {
+        if fed != given || record.numbers[REFUSAL..=OFFERED_AT] != *noted {
             return Err(format!(
-                "`feed` takes {taken} samples, `demod` {given}, or answers otherwise"
+                "{fed} samples go in by `feed`, {given} by `demod`, or it answers otherwise"
             ));
         }
         let expected = room_after(&record.numbers, numbered(ROOM), &self.room);

@@ -11,6 +11,7 @@ pub mod senders;
 pub mod sessions;
 pub mod smallest;
 pub mod steps;
+pub mod stretches;
 pub mod tally;
 pub mod values;
 pub mod wire;

@@ -5,6 +5,7 @@ use super::port::{Hearing, Program};
 use super::receivers::made_up;
 use super::refusals::of_receiver;
 use super::smallest::plainer;
+use super::stretches;
 use super::tally::Tally;
 use super::values::{not_numbers, numbered};
 use super::{caught, Difference};
@@ -94,6 +95,7 @@ fn compared(program: &mut Program, case: &Case, tally: &mut Tally) -> Result<(),
             let notes = program.hear(Hearing::Listen(&[sample]), &mut port, &mut room);
             port.numbers[REFUSAL..].copy_from_slice(&notes[0].numbers[REFUSAL..]);
             fed(program, case, sample, &port, &room)?;
+            stretches::compared(program, case, sample, &port, &room, tally)?;
         }
         Step::Reply { accepted } => {
             program.hear(Hearing::Reply(accepted), &mut port, &mut room);
@@ -143,7 +145,7 @@ fn fed(
         return Err("`feed` answers otherwise than `demod`".to_string());
     }
     if record.numbers[GIVEN] != u64::from(record.numbers[REFUSAL] == 0) {
-        return Err(say("samples taken by `feed`", 1, record.numbers[GIVEN]));
+        return Err(say("samples fed by `feed`", 1, record.numbers[GIVEN]));
     }
     same(receivers_differ(port, &record))?;
     let expected = room_after(&record.numbers, numbered(case.room.len()), room);

@@ -53,6 +53,7 @@ tally! {
     call_refusals: "sender calls refused in a session, record and room unchanged; the Rust is not asked (listed)",
     receiver_records: "made-up receiver records, one call each",
     record_samples: "  samples accepted",
+    record_stopped: "  after which a second in the same call (`feed`) would be refused, and did not go in",
     record_offers: "  offers among them, with the reply",
     record_searches: "  searches that took or aged a candidate",
     record_ties: "  candidates taken in the place of one with the very same diff",

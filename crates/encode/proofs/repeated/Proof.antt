@@ -13,12 +13,12 @@ use lib.Seq.{take-all}
 use lib.Ieee.{Float, binary32, ofInt}
 use Rattle.numbers.specs.Firsts.{firsts}
 use Rattle.numbers.proofs.Firsts.{prefix-step}
+use Rattle.protocol.proofs.SyncBurst.target.Reads as target-reads
 use Rattle.encode.specs.Frames.{frameOf, repeatedSign}
 use Rattle.encode.proofs.repeated.Statement.{statement}
 use Rattle.encode.proofs.repeated.Tie as tie
 use Rattle.encode.proofs.repeated.Reads as reads
 use Rattle.encode.proofs.repeated.Lts as lts
-use Rattle.protocol.proofs.SyncBurst.target.Reads as target-reads
 
 abbrev symbol : List ℤ → ℕ → Float
 symbol signs i = ofInt binary32 (repeatedSign signs i)

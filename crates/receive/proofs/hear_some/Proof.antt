@@ -2,7 +2,7 @@
 use mathlib.Core.Path.{sym}
 use borrow.Author.Needs.{needs}
 use lib.Seq.{length-take-le}
-use Rattle.receiving.proofs.HearSays.{written-fits}
+use Rattle.receiving.proofs.HearPromise.{written-fits}
 use Rattle.receive.proofs.hear_some.Statement.{statement}
 use Rattle.receive.proofs.hear_some.Tie as tie
 

@@ -1,6 +1,6 @@
 -- `hear_into` meets its contract: no call takes more bytes than it is given. Assumes nothing.
 use borrow.Author.Needs.{needs}
-use Rattle.receiving.proofs.HearSays.{taken-fits}
+use Rattle.receiving.proofs.HearPromise.{consumed-fits}
 use Rattle.cases_programs.proofs.received.hear_into.Statement.{statement}
 use Rattle.cases_programs.proofs.received.hear_into.Tie as tie
 
@@ -17,7 +17,7 @@ same-length : tie.Need-same-length
 same-length c = search needs
 
 returns : tie.Need-returns
-returns c = taken-fits _ _ _ _ _ (c .before .before .before .before .before .before .hear .ensures)
+returns c = consumed-fits _ _ _ _ _ (c .before .before .before .before .before .before .hear .ensures)
 
 pub hear-into-spec : {M : Type 1} → statement M
 hear-into-spec =

@@ -1,4 +1,4 @@
--- `sync_burst_correlation` meets its contract: each refusal at its test, and past both the answer to the eight values as they are heard. Assumes nothing.
+-- `sync_burst_correlation` meets its contract: each refusal at its test, and past both the answer to the eight values with their zeros unsigned. Assumes nothing.
 use mathlib.Core.Path.{sym, ap, _∙_}
 use lib.ListN.{length}
 use borrow.Author.Needs.{needs}
@@ -23,8 +23,8 @@ returns-2 c =
     let outside = sym (c .before .eight-in-range .ensures) ∙ not-true (c .before .eight-in-range .result) (c .if2 .taken) in
     rw (eight, outside)
 
-heard-requires : tie.Need-heard-requires
-heard-requires c κs = search needs
+unsign-slice-requires : tie.Need-unsign-slice-requires
+unsign-slice-requires c κs = search needs
 
 spread-of-requires : tie.Need-spread-of-requires
 spread-of-requires c κs = search needs
@@ -41,7 +41,7 @@ returns-3 c =
     let eight = eq-eqb (length samples) 8 (c .before .before .before .before .before .if1 .left) in
     let test = c .before .before .before .before .eight-in-range in
     let inside = sym (test .ensures) ∙ not-false (test .result) (c .before .before .before .if2 .left) in
-    let answer = six-alike burst samples (c .before .before .heard .result) (c .before .spread-of .result) (c .compare .result) (c .before .before .heard .ensures) (c .before .spread-of .ensures) (c .compare .ensures) in
+    let answer = six-alike burst samples (c .before .before .unsign-slice .result) (c .before .spread-of .result) (c .compare .result) (c .before .before .unsign-slice .ensures) (c .before .spread-of .ensures) (c .compare .ensures) in
     rw (eight, inside) (ap told answer)
 
 pub sync-burst-correlation-spec : {M : Type 1} → statement M
@@ -51,7 +51,7 @@ sync-burst-correlation-spec =
     returns
     eight-in-range-requires
     returns-2
-    heard-requires
+    unsign-slice-requires
     spread-of-requires
     compare-requires
     returns-3)

@@ -2,12 +2,12 @@
 use mathlib.Core.Path.{_≡_, sym}
 use Rattle.demodulator.specs.Calls.{carrier, timerHeld, detected}
 use Rattle.demodulator.proofs.Fitness.{tested-unfit, tested-fit}
-use Rattle.demodulator.proofs.Demodulating.{carrier-unfit, carrier-told}
+use Rattle.demodulator.proofs.CallCases.{carrier-unfit, carrier-told}
 use borrow.Author.Needs.{needs}
 use Rattle.demodulator.proofs.SoftDemodulator.data_carrier_detect.Statement.{statement}
 use Rattle.demodulator.proofs.SoftDemodulator.data_carrier_detect.Tie as tie
 
-carrier-of : (c : tie.Else1) → let m = c .before .before .before .args .self in detected m ≡ carrier (timerHeld (m .control .dcd))
+carrier-of : (c : tie.Else1) → let m = c .before .before .before .args .self in detected 10 m ≡ carrier (timerHeld (m .control .dcd))
 carrier-of c =
     let m = c .before .before .before .args .self in
     carrier-told m (tested-fit _ _ _ _ (c .before .record-fit .ensures) (c .if1 .left) (m .«filter_win») (m .«rx_win»))

@@ -10,10 +10,11 @@ use mir.Val.{SFits}
 use mir.Facts.{toZ-ofZ}
 use lib.IntN.{ℤ, pos}
 use lib.ListN.{length, getD, drop, drop-of-length-le}
+use Rattle.shaping.specs.Rate.{at48}
 use Rattle.demodulator.specs.Record.{assembled}
 use Rattle.demodulator.specs.Steps.{Steps}
 use Rattle.demodulator.specs.Feed.{fedInto}
-use Rattle.demodulator.proofs.Feeding.{drop-at, restFrom, fed-on, fed-ends, fed-out, fed-some, one-at-most, feeds, feeds-nothing}
+use Rattle.demodulator.proofs.FeedSteps.{drop-at, restFrom, fed-on, fed-ends, fed-out, fed-some, one-at-most, feeds, feeds-nothing}
 use Rattle.demodulator.proofs.SoftDemodulator.feed.Statement.{statement}
 use Rattle.demodulator.proofs.SoftDemodulator.feed.Tie as tie
 
@@ -21,8 +22,8 @@ abbrev Inv-loop : tie.InvT-loop
 Inv-loop samples room₀ window₀ ring₀ control₀ places₀ fed₀ room window ring control places fed =
     (fed ≤ length samples)
     × (length room ≡ length room₀)
-    × (fedInto (assembled window₀ (places₀ .«filter_cursor») ring₀ (places₀ .«rx_cursor») control₀) samples room₀
-    ≡ restFrom fed (assembled window (places .«filter_cursor») ring (places .«rx_cursor») control) (drop fed samples) room)
+    × (fedInto at48 (assembled window₀ (places₀ .«filter_cursor») ring₀ (places₀ .«rx_cursor») control₀) samples room₀
+    ≡ restFrom at48 fed (assembled window (places .«filter_cursor») ring (places .«rx_cursor») control) (drop fed samples) room)
 
 abbrev μ-loop : tie.MeasureT-loop
 μ-loop samples room₀ window₀ ring₀ control₀ places₀ fed₀ room window ring control places fed = length samples - fed
@@ -46,7 +47,7 @@ stepped s = rw (toZ-ofZ {w = w16} {z = sample-of s} (fits-of s)) at (s .step .en
 
 left-of : (s : tie.After-step Inv-loop μ-loop) → let l = start-of s .loop in
     let m = assembled (l .filter-win) (l .places .«filter_cursor») (l .rx-win) (l .places .«rx_cursor») (l .control) in
-    restFrom (l .fed) m (drop (l .fed) (heard-by s)) (l .room) ≡ restFrom (l .fed) m (sample-of s ∷ drop (l .fed + 1) (heard-by s)) (l .room)
+    restFrom at48 (l .fed) m (drop (l .fed) (heard-by s)) (l .room) ≡ restFrom at48 (l .fed) m (sample-of s ∷ drop (l .fed + 1) (heard-by s)) (l .room)
 left-of s =
     let l = start-of s .loop in
     let below : l .fed < length (heard-by s) = search needs in
@@ -62,7 +63,7 @@ returns c = feeds-nothing _ _ _ _ (c .before .if1 .taken) (c .feed-nothing .ensu
 loop-holds : tie.Need-loop-holds Inv-loop μ-loop
 loop-holds c =
     let some : 0 < length (c .before .before .before .before .before .args .samples .now) = search needs in
-    (search needs, refl, fed-some _ _ _ some)
+    (search needs, refl, fed-some at48 _ _ _ some)
 
 mul-sample : tie.Need-mul-sample Inv-loop μ-loop
 mul-sample c = search needs

@@ -5,13 +5,13 @@ use mathlib.Core.List.{[]}
 use borrow.Author.Tests.{not-true, not-false}
 use Rattle.demodulator.specs.Fit.{fitForReply}
 use Rattle.demodulator.proofs.Fitness.{record-facts, reply-record}
-use Rattle.demodulator.proofs.Demodulating.{reply-unfit, reply-unasked}
-use Rattle.demodulator.proofs.Replying.{replies}
+use Rattle.demodulator.proofs.CallCases.{reply-unfit, reply-unasked}
+use Rattle.demodulator.proofs.ReplySearch.{replies}
 use borrow.Author.Needs.{needs}
 use Rattle.demodulator.proofs.SoftDemodulator.reply.Statement.{statement}
 use Rattle.demodulator.proofs.SoftDemodulator.reply.Tie as tie
 
-fit : (c : tie.Else1) → fitForReply (c .before .before .before .before .before .args .t1) ≡ true
+fit : (c : tie.Else1) → fitForReply 10 (c .before .before .before .before .before .args .t1) ≡ true
 fit c = sym (c .before .fit-for-reply .ensures (c .before .before .before .before .before .args .t1 .«filter_win»)) ∙ not-false _ (c .if1 .left)
 
 fit-for-reply-requires : tie.Need-fit-for-reply-requires
@@ -31,7 +31,7 @@ returns-2 c =
     record { answers = rw d; leaves = rw d }
 
 eight-requires : tie.Need-eight-requires
-eight-requires c κs = record-facts _ (reply-record _ (fit (c .before .before .before .before))) .ring-cursor
+eight-requires c κs = record-facts 10 _ (reply-record 10 _ (fit (c .before .before .before .before))) .ring-cursor
 
 replied-requires : tie.Need-replied-requires
 replied-requires c κs = search needs

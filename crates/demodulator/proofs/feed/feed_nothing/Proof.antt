@@ -1,7 +1,7 @@
 -- `feed::feed_nothing` meets its contract. Assumes nothing.
 use borrow.Author.Needs.{needs}
 use Rattle.demodulator.proofs.Fitness.{tested-unfit, tested-fit}
-use Rattle.demodulator.proofs.Feeding.{nothing-unfit, nothing-fed}
+use Rattle.demodulator.proofs.FeedSteps.{nothing-unfit, nothing-fed}
 use Rattle.demodulator.proofs.feed.feed_nothing.Statement.{statement}
 use Rattle.demodulator.proofs.feed.feed_nothing.Tie as tie
 

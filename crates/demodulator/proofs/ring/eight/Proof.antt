@@ -15,7 +15,7 @@ use Rattle.demodulator.proofs.ring.eight.Statement.{statement}
 use Rattle.demodulator.proofs.ring.eight.Tie as tie
 
 abbrev Inv-loop : tie.InvT-loop
-Inv-loop ring cursor values₀ i₀ values i = (i ≤ 8) × (values ≡ written (eight 10 (ringBack ring cursor)) i values₀)
+Inv-loop ring cursor values₀ i₀ values i = (i ≤ 8) × (values ≡ written (eight 10 (ringBack 10 ring cursor)) i values₀)
 
 abbrev μ-loop : tie.MeasureT-loop
 μ-loop ring cursor values₀ i₀ values i = 8 - i
@@ -49,7 +49,7 @@ loop-again : tie.Need-loop-again Inv-loop μ-loop
 loop-again c =
     let l = c .before .before .loop in
     let a = c .before .before .before .args in
-    let v : ℕ → Float = eight 10 (ringBack (a .ring .now) (a .cursor)) in
+    let v : ℕ → Float = eight 10 (ringBack 10 (a .ring .now) (a .cursor)) in
     let below : l .i < 8 = omega arith in
     (search needs, rw (l .inv .1, c .value-back .ensures, add-one (l .i)) (written-step v (l .i) (replicate 8 (ofBits binary32 0)) nan below))
 

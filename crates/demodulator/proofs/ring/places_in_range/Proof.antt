@@ -11,7 +11,7 @@ use Rattle.demodulator.proofs.ring.places_in_range.Statement.{statement
 use Rattle.demodulator.proofs.ring.places_in_range.Tie as tie
 
 abbrev Inv-loop : tie.InvT-loop
-Inv-loop ring cursor newest count all₀ j₀ all j = (j ≤ count) × (all ≡ allBelow j (λ (k : ℕ). inRange (ringBack ring cursor (10 * k + newest))))
+Inv-loop ring cursor newest count all₀ j₀ all j = (j ≤ count) × (all ≡ allBelow j (λ (k : ℕ). inRange (ringBack 10 ring cursor (10 * k + newest))))
 
 abbrev μ-loop : tie.MeasureT-loop
 μ-loop ring cursor newest count all₀ j₀ all j = count - j

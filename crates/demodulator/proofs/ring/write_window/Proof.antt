@@ -15,10 +15,10 @@ use Rattle.demodulator.proofs.ring.write_window.Statement.{statement}
 use Rattle.demodulator.proofs.ring.write_window.Tie as tie
 
 abbrev Inv-loop : tie.InvT-loop
-Inv-loop ring cursor gain shift room₀ i₀ room i = (i ≤ 192) × (length room ≡ length room₀) × (room ≡ written (symbolAt 10 gain shift (ringBack ring cursor)) i room₀)
+Inv-loop ring cursor shown room₀ i₀ room i = (i ≤ 192) × (length room ≡ length room₀) × (room ≡ written (symbolAt 10 shown (ringBack 10 ring cursor)) i room₀)
 
 abbrev μ-loop : tie.MeasureT-loop
-μ-loop ring cursor gain shift room₀ i₀ room i = 192 - i
+μ-loop ring cursor shown room₀ i₀ room i = 192 - i
 
 loop-holds : tie.Need-loop-holds Inv-loop μ-loop
 unfolding firsts
@@ -48,13 +48,14 @@ loop-less c = search needs
 loop-again : tie.Need-loop-again Inv-loop μ-loop
 unfolding symbolOf
 loop-again c =
-    let l = c .before .before .loop in
-    let a = c .before .before .before .before .args in
-    let f : ℕ → Float = symbolAt 10 (a .gain) (a .shift) (ringBack (a .ring .now) (a .cursor)) in
+    let v = c .before .before in
+    let l = v .before .before .loop in
+    let a = v .before .before .before .before .args in
+    let f : ℕ → Float = symbolAt 10 (a .shown) (ringBack 10 (a .ring .now) (a .cursor)) in
     let below : l .i < length (a .room .now) = omega arith in (
       search needs,
       simp length-set (l .inv .1),
-      rw (l .inv .2, c .value-back .ensures, add-one (l .i)) (written-step f (l .i) (a .room .now) nan below),
+      rw (l .inv .2, v .value-back .ensures, add-one (l .i)) (written-step f (l .i) (a .room .now) nan below),
     )
 
 same-length : tie.Need-same-length Inv-loop μ-loop

@@ -1,7 +1,7 @@
 -- `advance` meets its contract. Assumes nothing.
 use mir.Facts.{toZ-ofZ}
 use Rattle.demodulator.specs.Parts.{Stores}
-use Rattle.demodulator.proofs.Stepping.{accepts-inside, rests, offers, looks}
+use Rattle.demodulator.proofs.StepTurn.{accepts-inside, rests, offers, looks}
 use borrow.Author.Needs.{needs}
 use Rattle.demodulator.proofs.step.advance.Statement.{statement}
 use Rattle.demodulator.proofs.step.advance.Tie as tie
@@ -60,7 +60,7 @@ returns-2 c =
     let k = w .before .before .before .before in
     let t = k .before .before in
     let s = t .before .before in
-    offers _ _ _ _ _ _ _ (stored-is s) _ (s .before .before .before .before .pre) _ (t .turn-of .ensures) _ _ _ _ (k .turn2 .given .1) _ (w .write-window .ensures)
+    offers _ _ _ _ _ _ _ (stored-is s) _ (s .before .before .before .before .pre) _ (t .turn-of .ensures) _ _ (k .turn2 .given .1) _ (w .write-window .ensures)
 
 returns-3 : tie.Need-returns-3
 returns-3 c =

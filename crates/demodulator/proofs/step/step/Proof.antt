@@ -7,15 +7,15 @@ use borrow.Author.Tests.{not-true, not-false}
 use Rattle.demodulator.specs.Record.{assembled}
 use Rattle.demodulator.specs.Fit.{fitForSample}
 use Rattle.demodulator.proofs.Fitness.{record-facts, sample-record}
-use Rattle.demodulator.proofs.Demodulating.{refuses, sample-unfit, sample-owed, sample-cramped, sample-last}
+use Rattle.demodulator.proofs.CallCases.{refuses, sample-unfit, sample-owed, sample-cramped, sample-last}
 use borrow.Author.Needs.{needs}
 use Rattle.demodulator.proofs.step.step.Statement.{statement}
 use Rattle.demodulator.proofs.step.step.Tie as tie
 
-fit : (c : tie.Else1) → let a = c .before .before .before .before .args in fitForSample (assembled (a .filter-win .now) (a .places .«filter_cursor») (a .rx-win .now) (a .places .«rx_cursor») (a .control)) ≡ true
+fit : (c : tie.Else1) → let a = c .before .before .before .before .args in fitForSample 10 (assembled (a .filter-win .now) (a .places .«filter_cursor») (a .rx-win .now) (a .places .«rx_cursor») (a .control)) ≡ true
 fit c = sym (c .before .fit-for-sample .ensures (c .before .before .before .before .args .filter-win .now)) ∙ not-false _ (c .if1 .left)
 
-unfit : (c : tie.Then1) → let a = c .before .before .before .before .args in fitForSample (assembled (a .filter-win .now) (a .places .«filter_cursor») (a .rx-win .now) (a .places .«rx_cursor») (a .control)) ≡ false
+unfit : (c : tie.Then1) → let a = c .before .before .before .before .args in fitForSample 10 (assembled (a .filter-win .now) (a .places .«filter_cursor») (a .rx-win .now) (a .places .«rx_cursor») (a .control)) ≡ false
 unfit c = sym (c .before .fit-for-sample .ensures (c .before .before .before .before .args .filter-win .now)) ∙ not-true _ (c .if1 .taken)
 
 fit-for-sample-requires : tie.Need-fit-for-sample-requires
@@ -60,7 +60,7 @@ advance-requires c κs =
     let l = n .before .before in
     let o = l .before in
     let f = fit (o .before) in
-    let most = record-facts _ (sample-record _ f) .control .count in
+    let most = record-facts 10 _ (sample-record 10 _ f) .control .count in
     record { fit = f; no-reply = o .if2 .left; room-enough = l .if3 .left; count = omega arith }
 
 same-length : tie.Need-same-length

@@ -2,9 +2,9 @@
 use mathlib.Core.Path.{_≡_, sym, _∙_}
 use mathlib.Core.Bool.{true}
 use Prim.Native.Nat.{_<_}
-use native.Mathlib.Omega.{arith}
 use borrow.Author.Needs.{needs}
 use borrow.Author.Tests.{not-true, not-false}
+use Rattle.shaping.specs.Rate.{at48}
 use Rattle.modulator.specs.Fit.{recordFit}
 use Rattle.modulator.proofs.Fitness.{record-facts}
 use Rattle.modulator.proofs.FrameCases.{frame-unfit, frame-none, frame-preamble, frame-ending, frame-count, frame-outside, frame-given}
@@ -12,11 +12,11 @@ use Rattle.modulator.proofs.SoftModulator.provide_next_frame.Statement.
 use Rattle.modulator.proofs.SoftModulator.provide_next_frame.Tie as tie
 
 -- where a frame is looked at, the record is fit, and so is its cursor
-fit : (c : tie.Else1) → recordFit (c .before .before .before .args .self) ≡ true
+fit : (c : tie.Else1) → recordFit 10 (c .before .before .before .args .self) ≡ true
 fit c = sym (c .before .record-fit .ensures) ∙ not-false _ (c .if1 .left)
 
 cursor : (c : tie.Else1) → c .before .before .before .args .self .«filter_cursor» < 81
-cursor c = let facts = record-facts (c .before .before .before .args .self) (fit c) in omega (arith, facts .cursor)
+cursor c = record-facts 10 (c .before .before .before .args .self) (fit c) .cursor
 
 record-fit-requires : tie.Need-record-fit-requires
 record-fit-requires c κs = search needs
@@ -24,7 +24,7 @@ record-fit-requires c κs = search needs
 returns : tie.Need-returns
 returns c =
     let a = c .before .before .before .args in
-    let e = frame-unfit (a .self) (a .frame) (a .symbols .now) (sym (c .before .record-fit .ensures) ∙ not-true _ (c .if1 .taken)) in
+    let e = frame-unfit at48 (a .self) (a .frame) (a .symbols .now) (sym (c .before .record-fit .ensures) ∙ not-true _ (c .if1 .taken)) in
     record { answers = rw e; leaves = rw e }
 
 enum-told : tie.Need-enum-told
@@ -47,7 +47,7 @@ returns-2 c =
     let t = c .before in
     let f = t .before .before in
     let a = f .before .before .before .args in
-    let e = frame-count (a .self) (a .frame) (a .symbols .now) (fit f) (t .enum-told2 .given .1) (c .if2 .taken) in
+    let e = frame-count at48 (a .self) (a .frame) (a .symbols .now) (fit f) (t .enum-told2 .given .1) (c .if2 .taken) in
     record { answers = rw e; leaves = rw e }
 
 all-within-requires : tie.Need-all-within-requires
@@ -59,7 +59,7 @@ returns-3 c =
     let f = t .before .before in
     let a = f .before .before .before .args in
     let outside = sym (c .before .all-within .ensures) ∙ not-true _ (c .if3 .taken) in
-    let e = frame-outside (a .self) (a .frame) (a .symbols .now) (fit f) (t .enum-told2 .given .1) (c .before .before .if2 .left) outside in
+    let e = frame-outside at48 (a .self) (a .frame) (a .symbols .now) (fit f) (t .enum-told2 .given .1) (c .before .before .if2 .left) outside in
     record { answers = rw e; leaves = rw e }
 
 given-requires : tie.Need-given-requires
@@ -76,7 +76,7 @@ returns-4 c =
     let t = c .before in
     let f = t .before .before in
     let a = f .before .before .before .args in
-    let e = frame-none (a .self) (a .frame) (a .symbols .now) (fit f) (t .enum-told .given .1) in
+    let e = frame-none at48 (a .self) (a .frame) (a .symbols .now) (fit f) (t .enum-told .given .1) in
     record { answers = rw e; leaves = rw (e, c .without-wish .ensures) }
 
 returns-5 : tie.Need-returns-5
@@ -84,7 +84,7 @@ returns-5 c =
     let t = c .before .before in
     let f = t .before .before in
     let a = f .before .before .before .args in
-    let e = frame-preamble (a .self) (a .frame) (a .symbols .now) (fit f) (t .frame .given .0 .0) (t .frame .given .1) in
+    let e = frame-preamble at48 (a .self) (a .frame) (a .symbols .now) (fit f) (t .frame .given .0 .0) (t .frame .given .1) in
     record { answers = rw e; leaves = rw (e, c .preamble .ensures) }
 
 returns-6 : tie.Need-returns-6
@@ -93,7 +93,7 @@ returns-6 c =
     let f = t .before .before in
     let a = f .before .before .before .args in
     let within = sym (c .before .before .all-within .ensures) ∙ not-false _ (c .before .if3 .left) in
-    let e = frame-given (a .self) (a .frame) (a .symbols .now) (fit f) (t .enum-told2 .given .1) (c .before .before .before .if2 .left) within in
+    let e = frame-given at48 (a .self) (a .frame) (a .symbols .now) (fit f) (t .enum-told2 .given .1) (c .before .before .before .if2 .left) within in
     record { answers = rw e; leaves = rw (e, c .given .ensures) }
 
 returns-7 : tie.Need-returns-7
@@ -101,7 +101,7 @@ returns-7 c =
     let t = c .before in
     let f = t .before .before in
     let a = f .before .before .before .args in
-    let e = frame-ending (a .self) (a .frame) (a .symbols .now) (fit f) (t .enum-told3 .given .1) in
+    let e = frame-ending at48 (a .self) (a .frame) (a .symbols .now) (fit f) (t .enum-told3 .given .1) in
     record { answers = rw e; leaves = rw (e, c .end-of-transmission .ensures) }
 
 pub provide-next-frame-spec : {M : Type 1} → statement M

@@ -1,9 +1,8 @@
 -- `SoftModulator::read_output_samples` meets its contract. Assumes nothing.
 use mathlib.Core.Path.{_≡_, sym, _∙_}
 use mathlib.Core.Bool.{true}
-use native.Mathlib.Omega.{arith}
-use lib.ListN.{length}
 use borrow.Author.Tests.{not-true, not-false}
+use Rattle.shaping.specs.Rate.{at48}
 use Rattle.modulator.specs.Fit.{recordFit}
 use Rattle.modulator.proofs.Fitness.{RecordFacts, record-facts}
 use Rattle.modulator.proofs.Cases.{read-unfit, read-fit}
@@ -12,15 +11,12 @@ use borrow.Author.Needs.{needs}
 use Rattle.modulator.proofs.SoftModulator.read_output_samples.Statement.{statement}
 use Rattle.modulator.proofs.SoftModulator.read_output_samples.Tie as tie
 
-store-length : (c : tie.Start) → length (c .args .t1 .«next_transmission») ≡ 4000
-store-length c = search needs
-
 -- where samples are read, the record is fit
-fit : (c : tie.Else1) → recordFit (c .before .before .args .t1) ≡ true
+fit : (c : tie.Else1) → recordFit 10 (c .before .before .args .t1) ≡ true
 fit c = sym (c .before .record-fit .ensures) ∙ not-false _ (c .if1 .left)
 
-facts : (c : tie.Else1) → RecordFacts (c .before .before .args .t1)
-facts c = record-facts (c .before .before .args .t1) (fit c)
+facts : (c : tie.Else1) → RecordFacts 10 (c .before .before .args .t1)
+facts c = record-facts 10 (c .before .before .args .t1) (fit c)
 
 record-fit-requires : tie.Need-record-fit-requires
 record-fit-requires c κs = search needs
@@ -28,7 +24,7 @@ record-fit-requires c κs = search needs
 returns : tie.Need-returns
 returns c =
     let a = c .before .before .args in
-    let e = read-unfit (a .t1) (a .out .now) (sym (c .before .record-fit .ensures) ∙ not-true _ (c .if1 .taken)) in
+    let e = read-unfit at48 (a .t1) (a .out .now) (sym (c .before .record-fit .ensures) ∙ not-true _ (c .if1 .taken)) in
     record { answers = rw e; leaves = rw e; writes = rw e }
 
 write-padding-requires : tie.Need-write-padding-requires
@@ -69,10 +65,8 @@ returns-2 c =
     let w = k .before .before .before .before .before in
     let f = w .before .before .before .before in
     let a = f .before .before .args in
-    let p = facts f .progress in
-    let whole = store-length (f .before .before) in
-    let e = read-fit (a .t1) (a .out .now) (fit f)
-    ∙ drained-is (a .t1) (p .read) (omega arith) (a .out .now) (w .write-padding .last .1 .0) (k .copy-frame .last .1 .1 .1 .0) (w .write-padding .result) (k .copy-frame .result) (w .write-padding .ensures .0) (w .write-padding .ensures .1) (k .copy-frame .ensures .0) (k .copy-frame .ensures .1) in
+    let e = read-fit at48 (a .t1) (a .out .now) (fit f)
+    ∙ drained-is (a .t1) (a .out .now) (w .write-padding .last .1 .0) (k .copy-frame .last .1 .1 .1 .0) (w .write-padding .result) (k .copy-frame .result) (w .write-padding .ensures .0) (w .write-padding .ensures .1) (k .copy-frame .ensures .0) (k .copy-frame .ensures .1) in
     record { answers = rw e; leaves = rw (e, c .saturating-sub .ensures); writes = rw e }
 
 pub read-output-samples-spec : {M : Type 1} → statement M

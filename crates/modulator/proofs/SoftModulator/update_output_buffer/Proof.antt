@@ -3,13 +3,15 @@ use mathlib.Core.Path.{_≡_, sym, _∙_}
 use mathlib.Core.Bool.{true, false, not, _||_}
 use borrow.Author.Needs.{needs}
 use borrow.Author.Tests.{not-true, not-false}
+use Rattle.shaping.specs.Rate.{at48}
 use Rattle.modulator.specs.Fit.{recordFit}
-use Rattle.modulator.proofs.Cases.{tooLarge, counts-taken, update-unfit, update-large, update-below, update-done}
+use Rattle.modulator.specs.Outcome.{tooLarge}
+use Rattle.modulator.proofs.Cases.{counts-taken, update-unfit, update-large, update-below, update-done}
 use Rattle.modulator.proofs.SoftModulator.update_output_buffer.Statement.{statement}
 use Rattle.modulator.proofs.SoftModulator.update_output_buffer.Tie as tie
 
 -- where the counts are tested, the record is fit
-fit : (c : tie.Else1) → recordFit (c .before .before .args .self) ≡ true
+fit : (c : tie.Else1) → recordFit 10 (c .before .before .args .self) ≡ true
 fit c = sym (c .before .record-fit .ensures) ∙ not-false _ (c .if1 .left)
 
 -- the code's test of the counts is the definition's
@@ -27,7 +29,7 @@ record-fit-requires c κs = search needs
 returns : tie.Need-returns
 returns c =
     let a = c .before .before .args in
-    let e = update-unfit (a .self) (a .samples-to-play .0) (a .capacity .0) (a .output-latency .0) (sym (c .before .record-fit .ensures) ∙ not-true _ (c .if1 .taken)) in
+    let e = update-unfit at48 (a .self) (a .samples-to-play .0) (a .capacity .0) (a .output-latency .0) (sym (c .before .record-fit .ensures) ∙ not-true _ (c .if1 .taken)) in
     record { answers = rw e; leaves = rw e }
 
 count-fit-requires : tie.Need-count-fit-requires
@@ -43,7 +45,7 @@ returns-2 : tie.Need-returns-2
 returns-2 c =
     let f = c .before .before .before .before in
     let a = f .before .before .args in
-    let e = update-large (a .self) (a .samples-to-play .0) (a .capacity .0) (a .output-latency .0) (fit f) (sym (tested (c .before)) ∙ c .if2 .taken) in
+    let e = update-large at48 (a .self) (a .samples-to-play .0) (a .capacity .0) (a .output-latency .0) (fit f) (sym (tested (c .before)) ∙ c .if2 .taken) in
     record { answers = rw e; leaves = rw e }
 
 returns-3 : tie.Need-returns-3
@@ -51,7 +53,7 @@ returns-3 c =
     let s = c .before .before .before in
     let f = s .before .before .before .before in
     let a = f .before .before .args in
-    let e = update-below (a .self) (a .samples-to-play .0) (a .capacity .0) (a .output-latency .0) (fit f) (small s) (c .if3 .taken) in
+    let e = update-below at48 (a .self) (a .samples-to-play .0) (a .capacity .0) (a .output-latency .0) (fit f) (small s) (c .if3 .taken) in
     record { answers = rw e; leaves = rw e }
 
 updated-pending-requires : tie.Need-updated-pending-requires
@@ -66,7 +68,7 @@ returns-4 c =
     let s = c .before .before .before .before .before in
     let f = s .before .before .before .before in
     let a = f .before .before .args in
-    let e = update-done (a .self) (a .samples-to-play .0) (a .capacity .0) (a .output-latency .0) (fit f) (small s) (c .before .before .if3 .left) in
+    let e = update-done at48 (a .self) (a .samples-to-play .0) (a .capacity .0) (a .output-latency .0) (fit f) (small s) (c .before .before .if3 .left) in
     record { answers = rw e; leaves = rw (e, c .updated-pending .ensures) }
 
 pub update-output-buffer-spec : {M : Type 1} → statement M

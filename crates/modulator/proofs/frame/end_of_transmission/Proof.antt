@@ -1,7 +1,8 @@
 -- `frame::end_of_transmission` meets its contract. Assumes nothing.
 use borrow.Author.Needs.{needs}
+use Rattle.shaping.specs.Rate.{at48}
 use Rattle.modulator.specs.Frame.{ending}
-use Rattle.modulator.specs.Calls.{ended}
+use Rattle.modulator.specs.Control.{ended}
 use Rattle.modulator.proofs.Frames.{framed-listed}
 use Rattle.modulator.proofs.frame.end_of_transmission.Statement.{statement}
 use Rattle.modulator.proofs.frame.end_of_transmission.Tie as tie
@@ -19,7 +20,7 @@ returns : tie.Need-returns
 returns c =
     let s = c .before .before in
     let m = s .before .before .before .args .m in
-    rw (framed-listed 10 (m .progress .«tx_delay_padding» .0) (ended (m .pending)) m (ending .symbol) 272 (s .ending-symbols .result) (s .ending-symbols .ensures)) at (c .framed .ensures)
+    rw (framed-listed at48 (m .progress .«tx_delay_padding» .0) (ended (m .pending)) m (ending .symbol) 272 (s .ending-symbols .result) (s .ending-symbols .ensures)) at (c .framed .ensures)
 
 pub end-of-transmission-spec : {M : Type 1} → statement M
 end-of-transmission-spec =

@@ -1,5 +1,6 @@
 -- `frame::preamble` meets its contract. Assumes nothing.
 use borrow.Author.Needs.{needs}
+use Rattle.shaping.specs.Rate.{at48}
 use Rattle.encode.specs.Frames.{frameOf}
 use Rattle.modulator.specs.Frame.{preamble}
 use Rattle.modulator.proofs.Frames.{framed-listed}
@@ -27,7 +28,7 @@ returns c =
     let s = c .before .before in
     let m = s .before .before .before .before .before .args .m in
     let padding = s .before .saturating-sub .result .0 in
-    rw (framed-listed 10 padding (m .pending) m (preamble .symbol) 192 (s .generate-preamble .result) (s .generate-preamble .ensures), s .before .saturating-sub .ensures, s .before .before .in-samples .ensures) at (c .framed .ensures)
+    rw (framed-listed at48 padding (m .pending) m (preamble .symbol) 192 (s .generate-preamble .result) (s .generate-preamble .ensures), s .before .saturating-sub .ensures, s .before .before .in-samples .ensures) at (c .framed .ensures)
 
 pub preamble-spec : {M : Type 1} → statement M
 preamble-spec =

@@ -9,7 +9,7 @@ use lib.ListN.{length, take}
 use lib.Seq.{length-take-le}
 use Rattle.receiving.specs.Hear.{looked}
 use Rattle.receiving.specs.Parts.{PairsUp}
-use Rattle.receiving.proofs.HearSays.{looked-is, looks-most, looks-few, by-room, no-room-none, count-long, fed-most, whole-says, part-says}
+use Rattle.receiving.proofs.HearPromise.{looked-is, looks-most, looks-few, by-room, no-room-none, count-long, fed-most, whole-says, part-says}
 use Rattle.receiving.proofs.Receiving.hear.Statement.{statement}
 use Rattle.receiving.proofs.Receiving.hear.Tie as tie
 
@@ -74,8 +74,8 @@ returns c =
     let long = sym (seen-long l) ∙ ap length (ap (λ (k : ℕ). take k (a .bytes .now)) (l .look-at .ensures) ∙ looked-is (a .bytes .now) (length (a .lines .now))) in
     whole-says _ _ _ _ _ _ (paired u) (h .hear-samples .ensures) (sym (t .before .is-admitted .ensures) ∙ t .if1 .taken) (eqb-true (h .hear-samples .result .fed) (u .pair-up .result .count) (c .if2 .taken)) _ long
 
-part-of-requires : tie.Need-part-of-requires
-part-of-requires c κs =
+measure-part-requires : tie.Need-measure-part-requires
+measure-part-requires c κs =
     let h = c .before .before .before .before .before in
     let u = h .before .before .before .before .before in
     let most = fed-most _ _ _ _ _ _ (paired u) (h .hear-samples .ensures) in
@@ -89,7 +89,7 @@ returns-2 c =
     let j = c .before in
     let h = j .before .before .before .before .before in
     let u = h .before .before .before .before .before in
-    part-says _ _ _ _ _ _ (paired u) (h .hear-samples .ensures) _ (c .part-of .ensures)
+    part-says _ _ _ _ _ _ (paired u) (h .hear-samples .ensures) _ (c .measure-part .ensures)
     (elim (j .if1 .came) [
       | inl both ↦ inr (eqb-false (h .hear-samples .result .fed) (u .pair-up .result .count) (both .2 .left))
       | inr refused ↦ inl (sym (j .before .is-admitted .ensures) ∙ refused .left)
@@ -108,6 +108,6 @@ hear-spec =
     is-admitted-requires
     same-length
     returns
-    part-of-requires
+    measure-part-requires
     same-length-2
     returns-2)

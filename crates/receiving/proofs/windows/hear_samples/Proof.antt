@@ -6,10 +6,11 @@ use native.Mathlib.Omega.{arith}
 use borrow.Author.Tests.{leb-true, leb-false, not-true, not-false}
 use borrow.Author.Needs.{needs}
 use lib.IntN.{ℤ}
-use lib.ListN.{length, drop, length-drop}
-use Rattle.receiving.specs.Parts.{Stretches, Roomy}
+use lib.ListN.{length, take, drop, length-drop}
+use Rattle.receiving.specs.Parts.{HearsStretch, Roomy}
 use Rattle.receiving.proofs.Lines.{tail-is}
-use Rattle.receiving.proofs.Progress.{SoFar, ToCome, starts, all-to-come, hears-nothing, hears-out, further, fed-some-more, more-to-come, hears-to-here}
+use Rattle.receiving.proofs.Settlement.{hears-nothing}
+use Rattle.receiving.proofs.Progress.{SoFar, ToCome, starts, all-to-come, hears-out, further, fed-some-more, more-to-come, hears-to-here}
 use Rattle.receiving.proofs.windows.hear_samples.Statement.{statement}
 use Rattle.receiving.proofs.windows.hear_samples.Tie as tie
 
@@ -17,8 +18,8 @@ abbrev Inv-loop : tie.InvT-loop
 Inv-loop samples lines₀ left₀ fed₀ written₀ lines left fed written =
     (1 ≤ length samples)
     × Roomy samples lines₀
-    × SoFar left₀ samples lines₀ lines left fed written
-    × ToCome left₀ samples (length lines₀) left fed written
+    × SoFar samples lines₀ lines fed written
+    × ToCome left₀ samples (length lines₀) (take written lines) left fed written
 
 abbrev μ-loop : tie.MeasureT-loop
 μ-loop samples lines₀ left₀ fed₀ written₀ lines left fed written = length samples - fed
@@ -43,7 +44,7 @@ then-of h = h .before .before .before
 abbrev loop-of : tie.After-hear-stretch Inv-loop μ-loop → tie.At-loop Inv-loop μ-loop
 loop-of h = then-of h .before .before
 
-stretched : (h : tie.After-hear-stretch Inv-loop μ-loop) → let l = loop-of h .loop in Stretches (l .left) (drop (l .fed) (samples-of (loop-of h))) (drop (l .written) (l .lines)) (h .hear-stretch .result) (h .hear-stretch .last .1 .1 .0)
+stretched : (h : tie.After-hear-stretch Inv-loop μ-loop) → let l = loop-of h .loop in HearsStretch (l .left) (drop (l .fed) (samples-of (loop-of h))) (drop (l .written) (l .lines)) (h .hear-stretch .result) (h .hear-stretch .last .1 .1 .0)
 stretched h =
     let l = loop-of h .loop in
     rw (tail-is (samples-of (loop-of h)) (l .fed), tail-is (l .lines) (l .written)) at (h .hear-stretch .ensures)
@@ -56,7 +57,7 @@ returns : tie.Need-returns Inv-loop μ-loop
 returns c = hears-nothing _ _ _ _ (c .before .if1 .taken) (c .test-record .ensures)
 
 loop-holds : tie.Need-loop-holds Inv-loop μ-loop
-loop-holds c = (search needs, c .before .before .pre, starts _ _ _, all-to-come _ _ (c .before .before .args .lines .now))
+loop-holds c = (search needs, c .before .before .pre, starts _ _, all-to-come _ _ (c .before .before .args .lines .now))
 
 sub-if2 : tie.Need-sub-if2 Inv-loop μ-loop
 sub-if2 c = c .before .loop .inv .2 .fits
@@ -88,8 +89,8 @@ hear-stretch-requires c κs =
     let l = t .before .before .loop in
     rw (tail-is (l .lines) (l .written)) (simp length-drop (omega (arith, turn-of t .enough, l .inv .2 .same-room)))
 
-receipt-requires : tie.Need-receipt-requires Inv-loop μ-loop
-receipt-requires c κs = search needs
+give-receipt-requires : tie.Need-give-receipt-requires Inv-loop μ-loop
+give-receipt-requires c κs = search needs
 
 -- where the work is after the stretch
 stands : (h : tie.After-hear-stretch Inv-loop μ-loop) → let l = loop-of h .loop in let r = h .hear-stretch .result in (l .written + r .written ≤ 97 * (l .fed + r .fed)) × (l .fed + r .fed ≤ length (samples-of (loop-of h))) × (length (samples-of (loop-of h)) ≤ 256)
@@ -127,7 +128,7 @@ returns-2 c =
     let h = p .before .before .before in
     let l = loop-of h .loop in
     let t = turn-of (then-of h) in
-    hears-to-here _ _ _ _ _ _ _ (l .inv .2) (l .inv .3) (t .more) (t .enough) _ _ (stretched h) _ (sym (o .is-offered .ensures) ∙ not-true _ (c .if3 .taken)) (p .receipt .ensures)
+    hears-to-here _ _ _ _ _ _ _ (l .inv .2) (l .inv .3) (t .more) (t .enough) _ _ (stretched h) _ (sym (o .is-offered .ensures) ∙ not-true _ (c .if3 .taken)) (p .give-receipt .ensures)
 
 loop-less : tie.Need-loop-less Inv-loop μ-loop
 loop-less c =
@@ -186,7 +187,7 @@ hear-samples-spec =
     part-hear-stretch-start-2
     part-hear-stretch-end-2
     hear-stretch-requires
-    receipt-requires
+    give-receipt-requires
     add-written
     add-fed
     is-offered-requires

@@ -1,7 +1,7 @@
 -- `windows::hear_stretch` meets its contract. Assumes nothing.
 use borrow.Author.Needs.{needs}
-use Rattle.receiving.specs.Answers.{silence}
-use Rattle.receiving.proofs.Settling.{stretch-refused, stretch-quiet, stretch-offered}
+use Rattle.receiving.specs.Listener.{blank}
+use Rattle.receiving.proofs.Settlement.{stretch-refused, stretch-quiet, stretch-offered}
 use Rattle.receiving.proofs.windows.hear_stretch.Statement.{statement}
 use Rattle.receiving.proofs.windows.hear_stretch.Tie as tie
 
@@ -24,14 +24,14 @@ settle-requires : tie.Need-settle-requires
 settle-requires c κs = search needs
 
 returns : tie.Need-returns
-unfolding silence
+unfolding blank
 returns c =
     let f = c .before .before .before .before in
     let a = f .before .before .before .args in
     stretch-refused (a .demodulator) (a .samples .now) (a .room .now) (f .feed .result) _ (f .feed .ensures) _ (c .enum-told .given .1)
 
 returns-2 : tie.Need-returns-2
-unfolding silence
+unfolding blank
 returns-2 c =
     let f = c .before .before .before .before in
     let a = f .before .before .before .args in
@@ -41,7 +41,7 @@ same-length : tie.Need-same-length
 same-length c = search needs
 
 returns-3 : tie.Need-returns-3
-unfolding silence
+unfolding blank
 returns-3 c =
     let s = c .before .before .before in
     let k = s .before .before .before in

@@ -7,9 +7,9 @@ use native.Mathlib.Numerals.{add-one}
 use borrow.Author.Needs.{needs}
 use lib.ListN.{length, replicate, length-set}
 use lib.Ieee.{Float, nan, binary32, ofBits}
-use Rattle.protocol.specs.declared.Kind.{Kind}
 use Rattle.numbers.specs.Firsts.{firsts, written}
 use Rattle.numbers.proofs.Firsts.{written-step}
+use Rattle.protocol.specs.declared.Kind.{Kind}
 use Rattle.house.specs.Accept.{readBits, symbolAt, accepted}
 use Rattle.receiving.proofs.windows.is_accepted.Statement.{statement}
 use Rattle.receiving.proofs.windows.is_accepted.Tie as tie

@@ -1,7 +1,7 @@
 -- `windows::settle` meets its contract. Assumes nothing.
 use mathlib.Core.Path.{sym, _∙_}
 use borrow.Author.Needs.{needs}
-use Rattle.receiving.proofs.Settling.{settles-accepted, settles-rejected}
+use Rattle.receiving.proofs.Settlement.{settles-accepted, settles-rejected}
 use Rattle.receiving.proofs.windows.settle.Statement.{statement}
 use Rattle.receiving.proofs.windows.settle.Tie as tie
 

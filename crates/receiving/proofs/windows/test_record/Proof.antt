@@ -3,8 +3,8 @@ use mathlib.Core.Path.{sym, ap, _∙_}
 use borrow.Author.Needs.{needs}
 use Rattle.demodulator.specs.declared.Carrier.{Carrier}
 use Rattle.demodulator.specs.Calls.{Paper, carrierPaper}
-use Rattle.receiving.specs.Answers.{refusalIn}
-use Rattle.receiving.proofs.Progress.{tests-record}
+use Rattle.receiving.specs.Text.{refusalIn}
+use Rattle.receiving.proofs.Settlement.{tests-record}
 use Rattle.receiving.proofs.windows.test_record.Statement.{statement}
 use Rattle.receiving.proofs.windows.test_record.Tie as tie
 
@@ -21,13 +21,11 @@ abbrev told-by : Carrier → Paper
 told-by a = refusalIn (carrierPaper a)
 
 returns : tie.Need-returns
-unfolding refusalIn
 returns c =
     let d = c .before .before .before in
     sym (ap told-by (c .before .carrier .given .1)) ∙ ap refusalIn (d .data-carrier-detect .ensures) ∙ tests-record (d .before .args .demodulator)
 
 returns-2 : tie.Need-returns-2
-unfolding refusalIn
 returns-2 c =
     let d = c .before .before in
     sym (ap told-by (c .enum-told .given .1)) ∙ ap refusalIn (d .data-carrier-detect .ensures) ∙ tests-record (d .before .args .demodulator)

@@ -18,8 +18,8 @@ use borrow.Author.Needs.{needs}
 use Rattle.search.proofs.bursts.searched.Statement.{statement}
 use Rattle.search.proofs.bursts.searched.Tie as tie
 
-sensed : (c : tie.After-spread-of) → Sensed (c .before .before .args .values) (c .before .hear .result) (c .spread-of .result)
-sensed c = record { values = c .before .hear .ensures; spread = c .spread-of .ensures }
+sensed : (c : tie.After-spread-of) → Sensed (c .before .before .args .values) (c .before .unsign-zeros .result) (c .spread-of .result)
+sensed c = record { values = c .before .unsign-zeros .ensures; spread = c .spread-of .ensures }
 
 free : (c : tie.After-is-held) → c .is-held .result ≡ false → held (c .before .before .before .args .control .candidate) ≡ false
 free c e = sym (c .is-held .ensures) ∙ e
@@ -45,8 +45,8 @@ own c =
       packet = compared-own once (Frame Packet) _ (c .compare6 .ensures);
     }
 
-hear-requires : tie.Need-hear-requires
-hear-requires c κs = search needs
+unsign-zeros-requires : tie.Need-unsign-zeros-requires
+unsign-zeros-requires c κs = search needs
 
 spread-of-requires : tie.Need-spread-of-requires
 spread-of-requires c κs = search needs
@@ -122,11 +122,11 @@ returns-2 c =
     (is-false matched (tests .1)))
     (free held (is-false _ (tests .0))))
 
-carry-requires : tie.Need-carry-requires
-carry-requires c κs = search needs
+set-timer-requires : tie.Need-set-timer-requires
+set-timer-requires c κs = search needs
 
-carry-requires-2 : tie.Need-carry-requires-2
-carry-requires-2 c κs = search needs
+set-timer-requires-2 : tie.Need-set-timer-requires-2
+set-timer-requires-2 c κs = search needs
 
 try-kind-requires : tie.Need-try-kind-requires
 try-kind-requires c κs = search needs
@@ -152,13 +152,13 @@ returns-3 c =
     let v = valuesOf (six .before .before .before .before .before .before .before .before .before .before .before .args .values) in
     let o = own six in
     c .try-kind4 .ensures v (o .packet)
-    ∙ rw (stream .try-kind3 .ensures v (o .stream), bert .try-kind2 .ensures v (o .bert), lsf .try-kind .ensures v (o .lsf), end .carry2 .ensures EndOfTransmission v (o .end), preamble .carry .ensures Preamble v (o .preamble))
+    ∙ rw (stream .try-kind3 .ensures v (o .stream), bert .try-kind2 .ensures v (o .bert), lsf .try-kind .ensures v (o .lsf), end .set-timer2 .ensures EndOfTransmission v (o .end), preamble .set-timer .ensures Preamble v (o .preamble))
 
 pub searched-spec : {M : Type 1} → statement M
 searched-spec =
     tie.close
     (tie.spec
-    hear-requires
+    unsign-zeros-requires
     spread-of-requires
     is-held-requires
     returns
@@ -175,8 +175,8 @@ searched-spec =
     is-match-requires-5
     is-match-requires-6
     returns-2
-    carry-requires
-    carry-requires-2
+    set-timer-requires
+    set-timer-requires-2
     try-kind-requires
     try-kind-requires-2
     try-kind-requires-3

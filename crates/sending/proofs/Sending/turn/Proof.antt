@@ -2,10 +2,10 @@
 use mathlib.Core.Path.{_≡_, ap}
 use lib.ListN.{length}
 use borrow.Author.Needs.{needs}
-use Rattle.modulator.specs.Calls.{providedPaper}
-use Rattle.sending.proofs.Turns.{turn-done, turn-refused}
+use Rattle.modulator.specs.Paper.{providedPaper}
 use Rattle.sending.proofs.Sending.turn.Statement.{statement}
 use Rattle.sending.proofs.Sending.turn.Tie as tie
+use Rattle.sending.proofs.Turns.{turn-done, turn-refused}
 
 count-taken-requires : tie.Need-count-taken-requires
 count-taken-requires c κs = search needs

@@ -1,0 +1,29 @@
+-- The single calls of a receiver as one type, and what each answers and leaves on a record. Assumes nothing.
+use mathlib.Core.List.{List, []}
+use lib.IntN.{ℤ}
+use lib.Ieee.{Float}
+use Rattle.shaping.specs.Rate.{Rate}
+use Rattle.search.specs.declared.Reply.{Reply}
+use Rattle.demodulator.specs.declared.SoftDemodulator.{SoftDemodulator}
+use Rattle.demodulator.specs.Calls.{Paper, Left, demodulated, answered, detected}
+
+-- a sample, with the room for symbols that is lent with it; a reply; a question for the carrier
+pub data Single : Type 0 where
+  sample : ℤ → List Float → Single
+  reply : Reply → Single
+  query : Single
+
+-- what a call is answered with, and what its room then holds
+pub record Said : Type 0 where
+  pub answer : Paper
+  pub room : List Float
+
+-- one call on a record; a query leaves the record as it was
+unfoldable pub left : Rate → SoftDemodulator → Single → Left
+left R m (sample x room) = demodulated R m x room
+left R m (reply r) = answered (R .p) m r []
+left R m query = record { answer = detected (R .p) m; demodulator = m; room = [] }
+
+-- what the caller sees of it, besides the record
+abbrev pub saidBy : Left → Said
+saidBy l = record { answer = l .answer; room = l .room }

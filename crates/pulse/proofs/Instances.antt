@@ -1,0 +1,92 @@
+-- Small instances of the laws, at 48 kHz: what they ask can be met. Assumes nothing.
+use mathlib.Core.Path.{_≡_, refl}
+use mathlib.Core.List.{List, [], _∷_, _++_}
+use Prim.Native.Nat.{ℕ, _+_, _<_}
+use borrow.Rule.Slice.PartMut.{putMid}
+use lib.Dec.{lit≤, lit<}
+use lib.IntN.{ℤ, pos}
+use lib.ListN.{take, drop, set, replicate}
+use lib.Ieee.{Float, binary32, ofBits, mul}
+use Rattle.numbers.specs.Firsts.{written}
+use Rattle.shaping.specs.Rate.{at48}
+use Rattle.pulse.specs.Pulse.{pulses, listed, Line, pushed, after, sampleOf, sampleAt, lineAt, Sent}
+use Rattle.pulse.specs.Promises.{push-symbols-says}
+use Rattle.pulse.proofs.Pulses.{alone, pulse-at, gap-at, pulses-same}
+use Rattle.pulse.proofs.Stream.{sent-none, sent-one, sent-more, sent-cursor}
+use Rattle.pulse.proofs.Tail.{tail-back}
+use Rattle.pulse.proofs.Ready.{sent-says, says-sent, past-window, short-room}
+
+empty : List Float
+empty = replicate 81 (ofBits binary32 0)
+
+-- ---- ten samples a symbol
+module _ (symbol : ℕ → Float) where
+  alone-meets : pulses 10 symbol 43 ≡ pulses 10 (λ (_ : ℕ). symbol 4) 3
+  alone-meets = alone 10 symbol 4 3 (lit< tt)
+
+  pulse-at-meets : pulses 10 symbol 40 ≡ mul binary32 (symbol 4) (ofBits binary32 0x470a_8500)
+  pulse-at-meets = pulse-at 10 symbol 4 (lit< tt)
+
+  gap-at-meets : pulses 10 symbol 43 ≡ ofBits binary32 0
+  gap-at-meets = gap-at 10 symbol 4 3 (lit< tt) (lit< tt)
+
+  pulses-same-meets : pulses 10 symbol 49 ≡ pulses 10 symbol 49
+  pulses-same-meets = pulses-same 10 symbol symbol 5 (λ i l. refl) 49 (lit< tt)
+
+-- ---- a stream
+module _ (e : ℕ → Float) where
+  start : Line
+  start = lineAt empty 0
+
+  room : List ℤ
+  room = pos 7 ∷ pos 8 ∷ pos 9 ∷ []
+
+  next : Line
+  next = pushed 10 start (e 0)
+
+  one-written : List ℤ
+  one-written = set room 0 (sampleOf at48 next)
+
+  first-sent : Sent at48 e 1 start room next one-written
+  unfolding next room one-written
+  first-sent = sent-one at48 e 0 start start next room room (sampleOf at48 next) (pos 0) (lit< tt) (sent-none at48 e start room) refl refl
+
+  -- the samples of the second and third values, by the rest of the stream
+  rest : ℕ → Float
+  rest j = e (1 + j)
+
+  more-sent : Sent at48 e 3 start room (after 10 rest 2 next) (take 1 one-written ++ written (sampleAt at48 rest next) 2 (drop 1 one-written))
+  unfolding rest
+  more-sent = sent-more at48 e rest 1 2 start next (after 10 rest 2 next) room one-written _ (λ j l. refl) first-sent (record { enters = refl; writes = refl })
+
+  sent-cursor-meets : next .cursor < 81
+  unfolding start
+  sent-cursor-meets = sent-cursor at48 e 1 start next room one-written (lit< tt) first-sent
+
+tail-back-meets : (a b c : ℕ) → putMid 1 1 (a ∷ b ∷ []) (c ∷ []) ≡ a ∷ c ∷ []
+tail-back-meets a b c = tail-back (a ∷ b ∷ []) 1 (c ∷ []) (lit≤ tt)
+
+-- ---- a symbol, with room for it and without
+one : List Float
+one = ofBits binary32 0x3f80_0000 ∷ []
+
+ten : List ℤ
+ten = replicate 10 (pos 0)
+
+sent : Line
+sent = after 10 (pulses 10 (listed one)) 10 (lineAt empty 0)
+
+sent-says-meets : push-symbols-says empty 0 one ten (sent .cursor) (sent .window) (written (sampleAt at48 (pulses 10 (listed one)) (lineAt empty 0)) 10 ten)
+unfolding one ten sent
+sent-says-meets = sent-says empty 0 one ten (lit< tt) (lit≤ tt) _ _ _ (record { enters = refl; writes = refl })
+
+says-sent-meets : Sent at48 (pulses 10 (listed one)) 10 (lineAt empty 0) ten sent (written (sampleAt at48 (pulses 10 (listed one)) (lineAt empty 0)) 10 ten)
+unfolding one ten sent
+says-sent-meets = says-sent empty 0 one ten (lit< tt) (lit≤ tt) _ _ _ sent-says-meets
+
+past-window-meets : push-symbols-says empty 81 one ten 81 empty ten
+past-window-meets = past-window empty 81 one ten (lit≤ tt)
+
+short-room-meets : push-symbols-says empty 0 one [] 0 empty []
+unfolding one
+short-room-meets = short-room empty 0 one [] (lit< tt)

@@ -1,0 +1,12 @@
+-- The laws of symbols on their way through the window.
+-- the values that enter the window, and what they leave
+pub mod Pulses
+pub mod Stream
+-- a slice's tail, lent and back
+pub mod Tail
+-- what is ready is sent, what is not is given back
+pub mod Ready
+-- the promise fixes its answer
+pub mod OnlyAnswer
+-- what the laws ask can be met
+pub mod Instances

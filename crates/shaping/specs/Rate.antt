@@ -1,0 +1,38 @@
+-- A rate of the sound card: the samples in a symbol, and the filter's taps at that rate. Every span of the rules is a multiple of p. Assumes nothing.
+use mathlib.Core.List.{List}
+use Prim.Native.Nat.{ℕ, _+_, _*_}
+use lib.Ieee.{Float}
+use Rattle.shaping.specs.Taps.{taps}
+
+pub record Rate : Type 0 where
+  pub p : ℕ
+  pub taps : List Float
+
+-- 48,000 samples a second: "A symbol makes ten samples", "the 81 taps"
+abbrev pub at48 : Rate
+at48 = record { p = 10; taps = taps }
+
+-- ---- the spans that the records keep
+-- the taps, and the samples that the filter's window holds: 81 at 48 kHz
+abbrev pub tapCount : ℕ → ℕ
+tapCount p = 8 * p + 1
+
+-- the filtered values of a frame: 1,920
+abbrev pub ringPlaces : ℕ → ℕ
+ringPlaces p = 192 * p
+
+-- the samples of the longest frame that the sender's store takes: 4,000
+abbrev pub storePlaces : ℕ → ℕ
+storePlaces p = 400 * p
+
+-- "One step is 480 samples."
+abbrev pub delayStep : ℕ → ℕ
+delayStep p = 48 * p
+
+-- "padding above 122,400": the 255 steps that a TxDelay counts at most
+abbrev pub paddingLimit : ℕ → ℕ
+paddingLimit p = 255 * delayStep p
+
+-- "at least 2,000"
+abbrev pub wishRoom : ℕ → ℕ
+wishRoom p = 200 * p
