@@ -4,6 +4,8 @@ mod calls;
 
 use modulator::ModulatorFrame;
 use modulator::SoftModulator;
+ghost use mathlib.Core.Path.{_≡_};
+ghost use lib.ListN.{length};
 
 fn answer(m: SoftModulator, line: &[u8]) -> SoftModulator {
     let name = cases_text::word(line, 0);
@@ -53,8 +55,15 @@ fn replay(text: &[u8]) {
     }
 }
 
+// Room for the whole list. Only its length is told, which lending it as a slice needs.
+fn list_room() -> [u8; 131_072]
+    ensures { λ r. ⌜ 131072 ≡ length r ⌝ }
+{
+    [0; 131_072]
+}
+
 fn main() {
-    let mut text = io::large_buffer();
+    let mut text = list_room();
     let length = io::read_full(0, &mut text);
     replay(&text[..length]);
 }

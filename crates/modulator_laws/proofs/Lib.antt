@@ -4,8 +4,6 @@ pub mod Picked
 -- that each promise leaves one answer
 pub mod Papers
 pub mod OnlyAnswer
--- what the filter sees of the window
-pub mod View
 -- what holds in every case of a call
 pub mod EachCase
 -- a fit record stays fit

@@ -14,6 +14,7 @@ use Rattle.shaping.specs.Rate.{Rate, tapCount}
 use Rattle.shaping.proofs.RateFacts.{Facts}
 use Rattle.pulse.specs.Pulse.{pulses, after, sampleOf, sampleAt}
 use Rattle.pulse.proofs.Stream.{cursor-stays}
+use Rattle.pulse.proofs.View.{view, view-entered, place-seen}
 use Rattle.modulator.specs.declared.ModulatorFrame.the-variants.{EndOfTransmission}
 use Rattle.modulator.specs.declared.SoftModulator.{SoftModulator}
 use Rattle.modulator.specs.Frame.{ending}
@@ -22,7 +23,6 @@ use Rattle.modulator.specs.Fit.{recordFit}
 use Rattle.modulator.specs.Outcome.{frameOutcome}
 use Rattle.modulator.specs.Calls.{settled, provided}
 use Rattle.modulator.proofs.Fitness.{record-facts}
-use Rattle.modulator_laws.proofs.View.{view, view-entered, place-seen}
 use Rattle.modulator_run.specs.EndFrame.{endSamples, silentSamples, EndFrame}
 use Rattle.modulator_run.proofs.NextFrame.{written-at}
 use Rattle.modulator_run.proofs.Flush.{silent-sum, flush-pulse}

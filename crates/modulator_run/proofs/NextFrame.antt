@@ -13,11 +13,11 @@ use Rattle.shaping.specs.Rate.{Rate, tapCount}
 use Rattle.shaping.proofs.RateFacts.{Facts}
 use Rattle.shaping.proofs.Dot.{dot-same}
 use Rattle.pulse.specs.Pulse.{pulses, after, sampleOf, sampleAt}
+use Rattle.pulse.proofs.View.{Holds, holds-after}
 use Rattle.modulator.specs.declared.Pending.{Pending}
 use Rattle.modulator.specs.declared.SoftModulator.{SoftModulator}
 use Rattle.modulator.specs.Frame.{Symbols}
 use Rattle.modulator.specs.Record.{fresh, lineOf, framed}
-use Rattle.modulator_laws.proofs.View.{Holds, holds-after}
 use Rattle.modulator_run.specs.Stream.{enteringAt, sentAt}
 use Rattle.modulator_run.specs.Represents.{Remembers}
 use Rattle.modulator_run.proofs.Longer.{entering-old, entering-new}

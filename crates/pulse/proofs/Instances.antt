@@ -1,19 +1,23 @@
 -- Small instances of the laws, at 48 kHz: what they ask can be met. Assumes nothing.
 use mathlib.Core.Path.{_≡_, refl}
+use mathlib.Core.Bool.{true}
 use mathlib.Core.List.{List, [], _∷_, _++_}
 use Prim.Native.Nat.{ℕ, _+_, _<_}
 use borrow.Rule.Slice.PartMut.{putMid}
 use lib.Dec.{lit≤, lit<}
 use lib.IntN.{ℤ, pos}
-use lib.ListN.{take, drop, set, replicate}
-use lib.Ieee.{Float, binary32, ofBits, mul}
-use Rattle.numbers.specs.Firsts.{written}
+use lib.ListN.{length, take, drop, set, replicate}
+use lib.Ieee.{Float, binary32, ofBits, eq, mul}
+use Rattle.numbers.specs.Below.{allBelow}
+use Rattle.numbers.specs.Firsts.{firsts, written}
 use Rattle.shaping.specs.Rate.{at48}
 use Rattle.pulse.specs.Pulse.{pulses, listed, Line, pushed, after, sampleOf, sampleAt, lineAt, Sent}
 use Rattle.pulse.specs.Promises.{push-symbols-says}
+use Rattle.pulse.specs.Phases.{pulsesOnly, pulseNo, rowSample}
 use Rattle.pulse.proofs.Pulses.{alone, pulse-at, gap-at, pulses-same}
-use Rattle.pulse.proofs.Stream.{sent-none, sent-one, sent-more, sent-cursor}
+use Rattle.pulse.proofs.Stream.{after-more, sent-none, sent-one, sent-more, sent-cursor}
 use Rattle.pulse.proofs.Tail.{tail-back}
+use Rattle.pulse.proofs.PhaseSums.{row-sample}
 use Rattle.pulse.proofs.Ready.{sent-says, says-sent, past-window, short-room}
 
 empty : List Float
@@ -59,6 +63,10 @@ module _ (e : ℕ → Float) where
   unfolding rest
   more-sent = sent-more at48 e rest 1 2 start next (after 10 rest 2 next) room one-written _ (λ j l. refl) first-sent (record { enters = refl; writes = refl })
 
+  after-more-meets : after 10 rest 2 next ≡ after 10 e 3 start
+  unfolding rest after next
+  after-more-meets = after-more 10 e rest 1 2 start (after 10 e 1 start) _ (λ j l. refl) refl refl
+
   sent-cursor-meets : next .cursor < 81
   unfolding start
   sent-cursor-meets = sent-cursor at48 e 1 start next room one-written (lit< tt) first-sent
@@ -90,3 +98,20 @@ past-window-meets = past-window empty 81 one ten (lit≤ tt)
 short-room-meets : push-symbols-says empty 0 one [] 0 empty []
 unfolding one
 short-room-meets = short-room empty 0 one [] (lit< tt)
+
+-- ---- a window that holds pulses only
+empty-pulses : pulsesOnly (lineAt empty 0) ≡ true
+unfolding empty pulsesOnly allBelow eq ofBits
+empty-pulses = refl
+
+empty-long : length empty ≡ 81
+unfolding empty
+empty-long = refl
+
+-- the fourth sample of the symbol, by a row of its own
+row : List Float
+row = firsts (λ (i : ℕ). pulseNo (lineAt empty 0) one (0 + i)) 56
+
+row-sample-meets : rowSample row 3 ≡ sampleAt at48 (pulses 10 (listed one)) (lineAt empty 0) 3
+unfolding row one
+row-sample-meets = row-sample (lineAt empty 0) one empty-long (lit< tt) empty-pulses 0 row refl 3 (lit< tt) (lit< tt)

@@ -2,6 +2,10 @@
 -- the values that enter the window, and what they leave
 pub mod Pulses
 pub mod Stream
+-- what the filter sees of the window
+pub mod View
+-- a window that holds pulses only
+pub mod PhaseSums
 -- a slice's tail, lent and back
 pub mod Tail
 -- what is ready is sent, what is not is given back

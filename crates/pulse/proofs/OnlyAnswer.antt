@@ -1,4 +1,5 @@
--- The promise of `push_symbols` leaves one cursor, one window and one room. That there is one on every input is the function's own proof. Assumes nothing.
+-- The promise of `push_symbols` leaves one cursor, one window and one room. That there is one on every input
+-- is the function's own proof. Assumes nothing.
 use mathlib.Core.Path.{_≡_, ap}
 use mathlib.Core.List.{List}
 use Prim.Native.Nat.{ℕ}

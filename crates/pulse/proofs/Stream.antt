@@ -1,15 +1,14 @@
 -- A stream of values through the window, at a rate: what it leaves depends on no more than the values that entered, and a stream may be cut in two. Assumes nothing.
 use mathlib.Core.Path.{_≡_, refl, sym, ap, _∙_}
-use mathlib.Core.List.{List, _++_, append-assoc}
+use mathlib.Core.List.{List, _++_}
 use Prim.Native.Nat.{ℕ, zero, suc, _+_, _<_}
 use native.Mathlib.Nat.{mod-lt, add-zero, add-suc}
 use native.Mathlib.Omega.{arith}
 use lib.IntN.{ℤ}
 use lib.ListN.{length, take, drop, set}
-use lib.Seq.{take-at, drop-at, drop-drop}
 use lib.Ieee.{Float}
 use Rattle.numbers.specs.Firsts.{firsts}
-use Rattle.numbers.proofs.Firsts.{length-firsts, written-step, firsts-same, firsts-cut}
+use Rattle.numbers.proofs.Firsts.{written-step, written-more, firsts-same}
 use Rattle.shaping.specs.Rate.{Rate, tapCount}
 use Rattle.pulse.specs.Pulse.{Line, pushed, after, sampleOf, sampleAt, Sent}
 
@@ -25,11 +24,20 @@ module _ (p : ℕ) where
   after-cut e m zero line = rw (add-zero m)
   after-cut e m (suc n) line = rw (add-suc m n, after-cut e m n line)
 
+  -- what follows enters from where the first m left the line
+  pub after-more : (e f : ℕ → Float) (m n : ℕ) (line now next : Line) → ((j : ℕ) → j < n → f j ≡ e (m + j)) → now ≡ after p e m line → next ≡ after p f n now → next ≡ after p e (m + n) line
+  after-more e f m n line now next same first more =
+      let g : ℕ → Float = λ (j : ℕ). e (m + j) in
+      more ∙ after-same f g n now same ∙ ap (after p g n) first ∙ sym (after-cut e m n line)
+
   -- a cursor in the window stays in it
   pub cursor-stays : (e : ℕ → Float) (n : ℕ) (line : Line) → line .cursor < tapCount p → after p e n line .cursor < tapCount p
   unfolding after
   cursor-stays e zero line h = h
   cursor-stays e (suc n) line h = mod-lt _ (omega arith)
+
+  pub after-cursor-stays : (e : ℕ → Float) (n : ℕ) (line next : Line) → line .cursor < tapCount p → next ≡ after p e n line → next .cursor < tapCount p
+  after-cursor-stays e n line next h same = rw same (cursor-stays e n line h)
 
   pub pushed-cursor : (line next : Line) (value : Float) → next ≡ pushed p line value → next .cursor < tapCount p
   pushed-cursor line next value e = rw e (mod-lt _ (omega arith))
@@ -65,19 +73,16 @@ module _ (R : Rate) where
       → Sent R e (m + n) line room₀ next (take m room ++ rest)
   sent-more e f m n line now next room₀ room rest same first more =
       let g : ℕ → Float = λ (j : ℕ). e (m + j) in
-      let samples : ℕ → ℤ = sampleAt R e line in
-      let front : take m room ≡ firsts samples m = rw (first .writes) (take-at (firsts samples m) (drop m room₀) m (length-firsts samples m)) in
-      let back : drop m room ≡ drop m room₀ = rw (first .writes) (drop-at (firsts samples m) (drop m room₀) m (length-firsts samples m)) in
-      let made : firsts (sampleAt R f now) n ≡ firsts (λ (j : ℕ). samples (m + j)) n =
-      firsts-same _ _ n λ j l. sample-same f g n now same j l ∙ ap (λ (k : Line). sampleAt R g k j) (first .enters) ∙ sym (sample-cut e m j line)
+      let samples : (j : ℕ) → j < n → sampleAt R f now j ≡ sampleAt R e line (m + j) =
+      λ j l. sample-same f g n now same j l ∙ ap (λ (k : Line). sampleAt R g k j) (first .enters) ∙ sym (sample-cut e m j line)
       in
       record {
-        enters = more .enters ∙ after-same (R .p) f g n now same ∙ ap (after (R .p) g n) (first .enters) ∙ sym (after-cut (R .p) e m n line);
-        writes = rw (more .writes, front, back, made, drop-drop n m room₀, firsts-cut samples m n) (sym (append-assoc (firsts samples m) _ _));
+        enters = after-more (R .p) e f m n line now next same (first .enters) (more .enters);
+        writes = rw (more .writes, first .writes) (written-more (sampleAt R e line) (sampleAt R f now) m n room₀ samples);
       }
 
   pub sent-cursor : (e : ℕ → Float) (n : ℕ) (line next : Line) (room₀ room : List ℤ) → line .cursor < tapCount (R .p) → Sent R e n line room₀ next room → next .cursor < tapCount (R .p)
-  sent-cursor e n line next room₀ room h sent = rw (sent .enters) (cursor-stays (R .p) e n line h)
+  sent-cursor e n line next room₀ room h sent = after-cursor-stays (R .p) e n line next h (sent .enters)
 
   -- two streams that agree as far as they are sent
   pub sent-same : (e f : ℕ → Float) (n : ℕ) (line next : Line) (room₀ room : List ℤ) → ((i : ℕ) → i < n → e i ≡ f i)

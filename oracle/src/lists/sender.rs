@@ -124,8 +124,14 @@ fn values(session: &mut Session) {
     session.read(400);
 }
 
-/// A window that no frame leaves, and whose sums go past i16 on both sides.
+/// Windows that no frame leaves.
 fn made_up(session: &mut Session) {
+    past_i16(session);
+    by_place(session);
+}
+
+/// Sums that go past i16 on both sides.
+fn past_i16(session: &mut Session) {
     for (cursor, side) in [(0, 1.0), (80, -1.0)] {
         let mut values = [0.0; 81];
         for (i, tap) in RRC_48K.iter().enumerate() {
@@ -135,6 +141,37 @@ fn made_up(session: &mut Session) {
         session.window(cursor, values);
         session.symbols([side; 192]);
         session.read(90);
+    }
+}
+
+/// Numbers in every place, in the places between the pulses only, in the newest place only, and at the pulses'
+/// places with -0.0 between them; and a window of -0.0. A frame and an end go through each.
+fn by_place(session: &mut Session) {
+    let mut random = Random::new(17);
+    for cursor in [0, 33] {
+        for kind in 0..5 {
+            let mut values = [0.0; 81];
+            for i in 0..81 {
+                // A pulse lies in the second oldest place, and then in every tenth.
+                let pulse = i % 10 == 1;
+                let number = 35_461.0 * random.unit();
+                values[(cursor + i) % 81] = match kind {
+                    0 => number,
+                    1 if !pulse => number,
+                    2 if i == 80 => number,
+                    3 if pulse => number,
+                    3 | 4 => -0.0,
+                    _ => 0.0,
+                };
+            }
+            session.window(cursor, values);
+            session.symbols([(); 192].map(|()| *random.pick(&DIBITS)));
+            session.look();
+            session.read(120);
+            session.window(cursor, values);
+            session.end();
+            session.read(90);
+        }
     }
 }
 

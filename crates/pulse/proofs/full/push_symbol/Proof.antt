@@ -13,8 +13,8 @@ use Rattle.shaping.specs.Rate.{at48}
 use Rattle.pulse.specs.Pulse.{pulses, pushed, lineAt, Sent}
 use Rattle.pulse.proofs.Pulses.{pulse-at, gap}
 use Rattle.pulse.proofs.Stream.{pushed-cursor, sent-none, sent-one}
-use Rattle.pulse.proofs.push_symbol.Statement.{statement}
-use Rattle.pulse.proofs.push_symbol.Tie as tie
+use Rattle.pulse.proofs.full.push_symbol.Statement.{statement}
+use Rattle.pulse.proofs.full.push_symbol.Tie as tie
 
 abbrev entering : Float → ℕ → Float
 entering symbol = pulses 10 (λ (_ : ℕ). symbol)

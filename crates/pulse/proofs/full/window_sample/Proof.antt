@@ -4,8 +4,8 @@ use mir.ValLaws.{toZ-ofZ}
 use borrow.Author.Needs.{needs}
 use lib.Ieee.{toSigned}
 use Rattle.pulse.specs.Pulse.{sampleOf}
-use Rattle.pulse.proofs.window_sample.Statement.{statement}
-use Rattle.pulse.proofs.window_sample.Tie as tie
+use Rattle.pulse.proofs.full.window_sample.Statement.{statement}
+use Rattle.pulse.proofs.full.window_sample.Tie as tie
 
 -- src/pulse.rt:25:25
 filter-values-requires : tie.Need-filter-values-requires

@@ -9,8 +9,8 @@ use Rattle.pulse.specs.Pulse.{pulses, listed, lineAt, Sent}
 use Rattle.pulse.proofs.Pulses.{alone}
 use Rattle.pulse.proofs.Stream.{sent-none, sent-more, sent-cursor}
 use Rattle.pulse.proofs.Tail.{tail-lent, tail-back}
-use Rattle.pulse.proofs.push_each.Statement.{statement}
-use Rattle.pulse.proofs.push_each.Tie as tie
+use Rattle.pulse.proofs.full.push_each.Statement.{statement}
+use Rattle.pulse.proofs.full.push_each.Tie as tie
 
 abbrev Inv-loop : tie.InvT-loop
 Inv-loop window₀ cursor symbols room₀ next₀ i₀ window room next i =
