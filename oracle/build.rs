@@ -1,12 +1,15 @@
-//! Finds the old Rust text, makes sure that it is the known one, and lays ready what src/ includes:
-//! modem.rs and shaping.rs by their very path, and from the other three files whole items, cut out by
-//! name into OUT_DIR. Nothing of the text is kept in the repository.
+//! Finds the old Rust text, makes sure that it is the known one, amends it as amendments/ says, and lays ready
+//! in OUT_DIR what src/ includes: modem.rs and shaping.rs whole, and from the other three files whole items, cut
+//! out by name. Nothing of the text is kept in the repository but the lines that an amendment changes.
 
+#[path = "build/amend.rs"]
+mod amend;
 #[path = "build/cut.rs"]
 mod cut;
 #[path = "build/sha256.rs"]
 mod sha256;
 
+use amend::Amendment;
 use std::path::{Path, PathBuf};
 use std::{env, fs, process};
 
@@ -46,10 +49,26 @@ const PROTOCOL: &[(&str, &str)] = &[
     ("enum", "PacketFrameCounter"),
 ];
 
+const FILES: [&str; 5] = [
+    "modem.rs",
+    "shaping.rs",
+    "decode.rs",
+    "encode.rs",
+    "protocol.rs",
+];
+
+/// What is cut out of a file; the others are taken whole.
+const ITEMS: [(&str, &[(&str, &str)]); 3] = [
+    ("decode.rs", DECODE),
+    ("encode.rs", ENCODE),
+    ("protocol.rs", PROTOCOL),
+];
+
 fn main() {
     println!("cargo:rerun-if-env-changed=M17CORE_SRC");
     println!("cargo:rerun-if-changed=build.rs");
     println!("cargo:rerun-if-changed=build");
+    println!("cargo:rerun-if-changed=amendments");
     println!("cargo:rerun-if-changed=text.sha256");
     if let Err(why) = lay_ready() {
         eprintln!("oracle: {why}");
@@ -61,25 +80,44 @@ fn lay_ready() -> Result<(), String> {
     let oracle = PathBuf::from(variable("CARGO_MANIFEST_DIR")?);
     let out = PathBuf::from(variable("OUT_DIR")?);
     let folder = folder(oracle.parent().ok_or("the oracle lies in no repository")?);
+    let amendments = amendments(&oracle.join("amendments"))?;
+    if let Some((of, a)) = amendments.iter().find(|(_, a)| !FILES.contains(&&*a.file)) {
+        return Err(format!("{of}: {} is no file of the text", a.file));
+    }
 
-    println!(
-        "cargo:rustc-env=M17CORE_MODEM={}",
-        known(&oracle, &folder, "modem.rs")?.0
-    );
-    println!(
-        "cargo:rustc-env=M17CORE_SHAPING={}",
-        known(&oracle, &folder, "shaping.rs")?.0
-    );
-    for (name, items) in [
-        ("decode.rs", DECODE),
-        ("encode.rs", ENCODE),
-        ("protocol.rs", PROTOCOL),
-    ] {
-        let (path, text) = known(&oracle, &folder, name)?;
-        let cut = cut::items(&text, items).map_err(|why| format!("{path}: {why}"))?;
-        fs::write(out.join(name), cut).map_err(|why| format!("{name} in OUT_DIR: {why}"))?;
+    for name in FILES {
+        let (path, mut text) = known(&oracle, &folder, name)?;
+        if name == "modem.rs" {
+            // The very file, for what is compared with nothing amended.
+            println!("cargo:rustc-env=M17CORE_MODEM={path}");
+        }
+        for (of, a) in amendments.iter().filter(|(_, a)| a.file == name) {
+            text = amend::amended(&text, a).map_err(|why| format!("{of}: {why}"))?;
+        }
+        if let Some((_, items)) = ITEMS.iter().find(|(file, _)| *file == name) {
+            text = cut::items(&text, items).map_err(|why| format!("{path}: {why}"))?;
+        }
+        fs::write(out.join(name), text).map_err(|why| format!("{name} in OUT_DIR: {why}"))?;
     }
     Ok(())
+}
+
+/// The amendments of all files of a folder, in the order of the files' names, each with the file's path.
+fn amendments(folder: &Path) -> Result<Vec<(String, Amendment)>, String> {
+    let said = |why| format!("{}: {why}", folder.display());
+    let mut paths = Vec::new();
+    for entry in fs::read_dir(folder).map_err(said)? {
+        paths.push(entry.map_err(said)?.path());
+    }
+    paths.sort();
+    let mut amendments = Vec::new();
+    for path in paths {
+        let of = path.display().to_string();
+        let text = fs::read_to_string(&path).map_err(|why| format!("{of}: {why}"))?;
+        let read = amend::read(&text).map_err(|why| format!("{of}: {why}"))?;
+        amendments.extend(read.into_iter().map(|a| (of.clone(), a)));
+    }
+    Ok(amendments)
 }
 
 /// The folder with the text. A relative `M17CORE_SRC` is seen from the repository's root, as the usual

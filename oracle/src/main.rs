@@ -10,9 +10,9 @@ mod lists;
 mod modem;
 mod protocol;
 mod random;
-/// shaping.rs, the very file.
+/// shaping.rs, whole.
 mod shaping {
-    include!(env!("M17CORE_SHAPING"));
+    include!(concat!(env!("OUT_DIR"), "/shaping.rs"));
 }
 mod signal;
 

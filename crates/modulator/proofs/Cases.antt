@@ -11,7 +11,7 @@ use Rattle.modulator.specs.declared.SampleCount.{SampleCount}
 use Rattle.modulator.specs.declared.EndReport.the-variants.{Nothing, After}
 use Rattle.modulator.specs.declared.SoftModulator.{SoftModulator}
 use Rattle.modulator.specs.Paper.{refusal, done, transmitEnd, readOutput, idle, getFrame, nothing}
-use Rattle.modulator.specs.Control.{bufferOf, updatedPending, reported, idled}
+use Rattle.modulator.specs.Control.{bufferOf, endAfter, updatedPending, reported, idled}
 use Rattle.modulator.specs.Record.{withPending}
 use Rattle.modulator.specs.Fit.{countFit, recordFit}
 use Rattle.modulator.specs.Outcome.{tooLarge, updateOutcome, actionBy}
@@ -52,7 +52,7 @@ module _ (R : Rate) (m : SoftModulator) where
 
     pub update-done : recordFit (R .p) m ≡ true → tooLarge fill capacity latency ≡ false → fill ≤ capacity
         → updated R m fill capacity latency
-        ≡ left done (withPending (updatedPending (R .p) fill capacity latency (m .pending)) (bufferOf fill capacity latency) m) []
+        ≡ left done (withPending (updatedPending (R .p) fill capacity (endAfter fill latency (m .progress)) (m .pending)) (bufferOf fill capacity latency) m) []
     unfolding updated settled updateOutcome
     update-done e t l = rw (e, t, le-ltb capacity fill l)
 

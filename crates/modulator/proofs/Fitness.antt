@@ -14,7 +14,7 @@ use Rattle.numbers.specs.Within.{Within}
 use Rattle.numbers.proofs.Tests.{holds}
 use Rattle.numbers.proofs.Below.{all-below}
 use Rattle.numbers.proofs.Bounds.{between}
-use Rattle.shaping.specs.Rate.{tapCount, storePlaces, paddingLimit}
+use Rattle.shaping.specs.Rate.{tapCount, storePlaces, paddingLimit, endLimit}
 use Rattle.modulator.specs.declared.SampleCount.{SampleCount}
 use Rattle.modulator.specs.declared.EndReport.{EndReport}
 use Rattle.modulator.specs.declared.EndReport.the-variants.{After}
@@ -41,7 +41,7 @@ pub record RecordFacts (p : ℕ) (m : SoftModulator) : Type 0 where
   pub window : (i : ℕ) → i < tapCount p → Within (getD (m .«filter_win») i nan) 35461
   pub progress : ProgressFacts p (m .progress)
   pub buffer : BufferFacts (m .buffer)
-  pub report : (end : SampleCount) → m .pending .«report_tx_end» ≡ After end → end .0 ≤ 33554432
+  pub report : (end : SampleCount) → m .pending .«report_tx_end» ≡ After end → end .0 ≤ endLimit p
 
 -- ---- each clause
 pub pulse-within : (value : Float) → T (pulseFit value) → Within value 35461
@@ -81,8 +81,8 @@ buffer-facts b t =
       room = leb→le (b .«samples_in_buf» .0) (b .«buf_capacity» .0) (and-r (fill && capacity && latency) room t);
     }
 
-report-fact : (end : SampleCount) → T (reportFit (After end)) → end .0 ≤ 33554432
-report-fact end t = leb→le (end .0) 33554432 t
+report-fact : (p : ℕ) (end : SampleCount) → T (reportFit p (After end)) → end .0 ≤ endLimit p
+report-fact p end t = leb→le (end .0) (endLimit p) t
 
 -- window values from -35,461 to 35,461 are those within 35461.0
 pub window-within : (window : List Float) → length window ≡ 81
@@ -97,7 +97,7 @@ pub record Groups (p : ℕ) (m : SoftModulator) : Type 0 where
   pub window : T (windowFit p m)
   pub progress : T (progressFit p (m .progress))
   pub buffer : T (bufferFit (m .buffer))
-  pub report : T (reportFit (m .pending .«report_tx_end»))
+  pub report : T (reportFit p (m .pending .«report_tx_end»))
 
 pub groups : (p : ℕ) (m : SoftModulator) → recordFit p m ≡ true → Groups p m
 unfolding recordFit
@@ -106,7 +106,7 @@ groups p m e =
     let window = windowFit p m in
     let progress = progressFit p (m .progress) in
     let buffer = bufferFit (m .buffer) in
-    let report = reportFit (m .pending .«report_tx_end») in
+    let report = reportFit p (m .pending .«report_tx_end») in
     let t = holds e in
     let four = and-l (cursor && window && progress && buffer) report t in
     let three = and-l (cursor && window && progress) buffer four in
@@ -121,7 +121,7 @@ groups p m e =
 
 pub grouped : (p : ℕ) (m : SoftModulator) → Groups p m → recordFit p m ≡ true
 unfolding recordFit
-grouped p m g = rw (is-true (cursorFit p m) (g .cursor), is-true (windowFit p m) (g .window), is-true (progressFit p (m .progress)) (g .progress), is-true (bufferFit (m .buffer)) (g .buffer)) (is-true (reportFit (m .pending .«report_tx_end»)) (g .report))
+grouped p m g = rw (is-true (cursorFit p m) (g .cursor), is-true (windowFit p m) (g .window), is-true (progressFit p (m .progress)) (g .progress), is-true (bufferFit (m .buffer)) (g .buffer)) (is-true (reportFit p (m .pending .«report_tx_end»)) (g .report))
 
 pub record-facts : (p : ℕ) (m : SoftModulator) → recordFit p m ≡ true → RecordFacts p m
 unfolding windowFit
@@ -133,5 +133,5 @@ record-facts p m e =
       window = λ i l. pulse-within (getD (m .«filter_win») i nan) (all-below (tapCount p) value (g .window) i l);
       progress = progress-facts p (m .progress) (g .progress);
       buffer = buffer-facts (m .buffer) (g .buffer);
-      report = λ end r. report-fact end (subst (λ (o : EndReport). T (reportFit o)) r (g .report));
+      report = λ end r. report-fact p end (subst (λ (o : EndReport). T (reportFit p o)) r (g .report));
     }

@@ -8,7 +8,6 @@ use lib.IntN.{ℤ, pos}
 use lib.ListN.{length, drop, replicate}
 use Rattle.numbers.specs.Firsts.{firsts}
 use Rattle.shaping.specs.Rate.{wishRoom}
-use Rattle.modulator.specs.declared.EndReport.{EndReport}
 use Rattle.modulator.specs.declared.EndReport.the-variants.{Nothing as NoReport, After}
 use Rattle.modulator.specs.declared.Progress.{Progress}
 use Rattle.modulator.specs.declared.Pending.{Pending}
@@ -40,8 +39,12 @@ restarted p symbols padding = record { «next_len» = p * symbols; «next_read»
 abbrev pub zerosRead : Progress → ℕ → ℕ
 zerosRead s room = min room (s .«tx_delay_padding» .0)
 
+-- "frame samples unread"
+abbrev pub unread : Progress → ℕ
+unread s = s .«next_len» - s .«next_read»
+
 abbrev pub samplesRead : Progress → ℕ → ℕ
-samplesRead s room = min (room - zerosRead s room) (s .«next_len» - s .«next_read»)
+samplesRead s room = min (room - zerosRead s room) (unread s)
 
 abbrev pub writtenCount : Progress → ℕ → ℕ
 writtenCount s room = zerosRead s room + samplesRead s room
@@ -66,16 +69,21 @@ dropped s = record { «update_idle» = s .«update_idle»; «calculate_tx_end» 
 abbrev pub ended : Pending → Pending
 ended s = record { «update_idle» = s .«update_idle»; «calculate_tx_end» = true; «report_tx_end» = s .«report_tx_end»; «try_get_frame» = s .«try_get_frame» }
 
--- "If a transmit end is owed, it is reported as fill + latency."
-abbrev pub endReport : ℕ → ℕ → EndReport
-endReport fill latency = After (record { 0 = fill + latency })
+-- "From now on the reported end is fill + latency + padding left + frame samples unread."
+abbrev pub endReport : ℕ → ℕ → ℕ → ℕ → ℕ
+endReport fill latency padding samples = fill + latency + padding + samples
 
--- "If capacity - fill is at least 2,000 the wish for a frame is raised. Less room does not lower it."
+-- the same by how far the frame is read
+abbrev pub endAfter : ℕ → ℕ → Progress → ℕ
+endAfter fill latency s = endReport fill latency (s .«tx_delay_padding» .0) (unread s)
+
+-- "If a transmit end is owed, it is reported". "If capacity - fill is at least 2,000 the wish for a frame is raised. Less
+-- room does not lower it."
 abbrev pub updatedPending : ℕ → ℕ → ℕ → ℕ → Pending → Pending
-updatedPending p fill capacity latency s = record {
+updatedPending p fill capacity end s = record {
   «update_idle» = s .«update_idle»;
   «calculate_tx_end» = false;
-  «report_tx_end» = cond (s .«calculate_tx_end») (endReport fill latency) (s .«report_tx_end»);
+  «report_tx_end» = cond (s .«calculate_tx_end») (After (record { 0 = end })) (s .«report_tx_end»);
   «try_get_frame» = leb (wishRoom p) (capacity - fill) || s .«try_get_frame»;
 }
 

@@ -5,7 +5,7 @@ use lib.Dec.{leb}
 use lib.ListN.{getD}
 use lib.Ieee.{Float, nan, binary32, ofBits, le}
 use Rattle.numbers.specs.Below.{allBelow}
-use Rattle.shaping.specs.Rate.{tapCount, storePlaces, paddingLimit}
+use Rattle.shaping.specs.Rate.{tapCount, storePlaces, paddingLimit, endLimit}
 use Rattle.modulator.specs.declared.EndReport.{EndReport}
 use Rattle.modulator.specs.declared.EndReport.the-variants.{Nothing, After}
 use Rattle.modulator.specs.declared.Progress.{Progress}
@@ -34,10 +34,10 @@ countFit n = leb n 16777216
 abbrev pub bufferFit : OutputBuffer → Bool
 bufferFit b = countFit (b .«samples_in_buf» .0) && countFit (b .«buf_capacity» .0) && countFit (b .«output_latency» .0) && leb (b .«samples_in_buf» .0) (b .«buf_capacity» .0)
 
--- "a reported end above 33,554,432"
-abbrev pub reportFit : EndReport → Bool
-reportFit Nothing = true
-reportFit (After end) = leb (end .0) 33554432
+-- "a reported end above" its limit, which request a raises
+abbrev pub reportFit : ℕ → EndReport → Bool
+reportFit p Nothing = true
+reportFit p (After end) = leb (end .0) (endLimit p)
 
 unfoldable pub recordFit : ℕ → SoftModulator → Bool
-recordFit p m = cursorFit p m && windowFit p m && progressFit p (m .progress) && bufferFit (m .buffer) && reportFit (m .pending .«report_tx_end»)
+recordFit p m = cursorFit p m && windowFit p m && progressFit p (m .progress) && bufferFit (m .buffer) && reportFit p (m .pending .«report_tx_end»)

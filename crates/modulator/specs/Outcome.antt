@@ -14,7 +14,7 @@ use Rattle.modulator.specs.declared.ModulatorFrame.{ModulatorFrame}
 use Rattle.modulator.specs.declared.ModulatorFrame.the-variants.{Nothing as NoFrame, Preamble, Symbols as GivenSymbols, EndOfTransmission}
 use Rattle.modulator.specs.Paper.{Paper, refusal, done, transmitEnd, readOutput, idle, getFrame, nothing}
 use Rattle.modulator.specs.Frame.{Symbols, preamble, given, ending, symbolFit, paddingOf}
-use Rattle.modulator.specs.Control.{Control, bufferOf, dropped, ended, updatedPending, reported, idled}
+use Rattle.modulator.specs.Control.{Control, bufferOf, dropped, ended, endAfter, updatedPending, reported, idled}
 use Rattle.modulator.specs.Fit.{countFit}
 
 pub data Outcome : Type 0 where
@@ -50,7 +50,7 @@ unfoldable pub updateOutcome : ℕ → ℕ → ℕ → ℕ → Control → Outco
 updateOutcome p fill capacity latency s =
     cond (tooLarge fill capacity latency) (only (refusal 8))
     (cond (ltb capacity fill) (only (refusal 9))
-    (told done (updatedPending p fill capacity latency (s .pending)) (bufferOf fill capacity latency)))
+    (told done (updatedPending p fill capacity (endAfter fill latency (s .progress)) (s .pending)) (bufferOf fill capacity latency)))
 
 -- ---- the next action
 -- "first that applies: transmit end (once), read output if unread samples are left, idle yes (once from a fresh start), get a frame if wished, nothing"

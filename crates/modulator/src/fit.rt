@@ -34,11 +34,11 @@ fn buffer_fit(buffer: OutputBuffer) -> bool
 }
 
 fn report_fit(report: EndReport) -> bool
-    ensures { λ r. ⌜ r ≡ reportFit report ⌝ }
+    ensures { λ r. ⌜ r ≡ reportFit 10 report ⌝ }
 {
     match report {
         EndReport::Nothing => true,
-        EndReport::After(end) => end.0 <= 33554432,
+        EndReport::After(end) => end.0 <= 33680832,
     }
 }
 

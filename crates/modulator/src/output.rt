@@ -17,7 +17,7 @@ ghost use Prim.Native.Nat.{ℕ, _+_, _-_, _≤_, min};
 ghost use lib.IntN.{pos};
 ghost use lib.ListN.{length, getD};
 ghost use Rattle.numbers.specs.Firsts.{written};
-ghost use Rattle.modulator.specs.Control.{updatedPending};
+ghost use Rattle.modulator.specs.Control.{endAfter, updatedPending};
 ghost use Rattle.modulator.specs.Calls.{read-output-samples-says, update-output-buffer-says};
 
 // `usize::min`.
@@ -58,25 +58,38 @@ fn copy_frame(store: &[i16; 4000], read: usize, len: usize, room: &mut [i16]) ->
     end
 }
 
-// What is pending once the card's counts are known: the end that is owed is worked out, and the wish for a frame is raised or stays.
+// The samples from now to the end of the transmission: those that the card has, and those that are still to be read.
+fn end_after(progress: Progress, fill: SampleCount, latency: SampleCount) -> SampleCount
+    requires card { ⌜ (fill .0 ≤ 16777216) × (latency .0 ≤ 16777216) ⌝ }
+    requires padding { ⌜ progress .«tx_delay_padding» .0 ≤ 122400 ⌝ }
+    requires frame { ⌜ (progress .«next_read» ≤ progress .«next_len») × (progress .«next_len» ≤ 4000) ⌝ }
+    ensures { λ r. ⌜ r .0 ≡ endAfter (fill .0) (latency .0) progress ⌝ }
+{
+    let padding_left = progress.tx_delay_padding;
+    let unread = progress.next_len - progress.next_read;
+    let played = fill.0 + latency.0;
+    let padded = played + padding_left.0;
+    let end = padded + unread;
+    SampleCount(end)
+}
+
+// What is pending once the card's counts are known: an end that is owed is reported, and the wish for a frame is raised or stays.
 fn updated_pending(
     pending: Pending,
     fill: SampleCount,
     capacity: SampleCount,
-    latency: SampleCount,
+    end: SampleCount,
 ) -> Pending
-    requires { ⌜ (fill .0 ≤ 16777216) × (latency .0 ≤ 16777216) ⌝ }
-    ensures { λ r. ⌜ r ≡ updatedPending 10 (fill .0) (capacity .0) (latency .0) pending ⌝ }
+    ensures { λ r. ⌜ r ≡ updatedPending 10 (fill .0) (capacity .0) (end .0) pending ⌝ }
 {
     let report = pending.report_tx_end;
     let room = capacity.saturating_sub(fill);
-    let end = fill.0 + latency.0;
     let wish = (2000 <= room.0) | pending.try_get_frame;
     if pending.calculate_tx_end {
         return Pending {
             update_idle: pending.update_idle,
             calculate_tx_end: false,
-            report_tx_end: EndReport::After(SampleCount(end)),
+            report_tx_end: EndReport::After(end),
             try_get_frame: wish,
         };
     }
@@ -151,7 +164,9 @@ impl SoftModulator {
             };
         }
         let pending = self.pending;
-        let told = updated_pending(pending, samples_to_play, capacity, output_latency);
+        let progress = self.progress;
+        let end = end_after(progress, samples_to_play, output_latency);
+        let told = updated_pending(pending, samples_to_play, capacity, end);
         let buffer = OutputBuffer {
             output_latency,
             samples_in_buf: samples_to_play,

@@ -3,7 +3,7 @@ use mathlib.Core.Path.{_≡_, refl}
 use mathlib.Core.Bool.{Bool, true, false, not}
 use mathlib.Core.List.{List}
 use Prim.Native.Nat.{ℕ, _≤_, _<_}
-use borrow.Author.Tests.{ltb-true, ltb-false, not-false}
+use borrow.Author.Tests.{ltb-true, ltb-false, not-true, not-false}
 use lib.Dec.{eqb, ltb}
 use lib.ListN.{length, getD}
 use lib.Ieee.{Float, nan}
@@ -13,23 +13,23 @@ use Rattle.modulator.specs.declared.EndReport.{EndReport}
 use Rattle.modulator.specs.declared.EndReport.the-variants.{Nothing, After}
 use Rattle.modulator.specs.Paper.{refusal, done, transmitEnd, readOutput, idle, getFrame, nothing}
 use Rattle.modulator.specs.Frame.{given, symbolFit}
-use Rattle.modulator.specs.Control.{Control, bufferOf, updatedPending, reported, idled}
+use Rattle.modulator.specs.Control.{Control, bufferOf, endAfter, updatedPending, reported, idled}
 use Rattle.modulator.specs.Outcome.{Outcome, only, told, sends, givenOutcome, tooLarge, updateOutcome, actionBy, actionOutcome}
 use Rattle.modulator_laws.proofs.Picked.{picked}
 
 module _ (s : Control) (P : Outcome → Type 0) where
-  pub each-given : (symbols : List Float) → P (only (refusal 6)) → P (only (refusal 7))
-      → (allBelow 192 (λ (i : ℕ). symbolFit (getD symbols i nan)) ≡ true → P (sends (given symbols) (s .progress .«tx_delay_padding» .0) (s .pending)))
+  pub each-given : (symbols : List Float) → (eqb (length symbols) 192 ≡ false → P (only (refusal 6))) → (allBelow 192 (λ (i : ℕ). symbolFit (getD symbols i nan)) ≡ false → P (only (refusal 7)))
+      → (eqb (length symbols) 192 ≡ true → allBelow 192 (λ (i : ℕ). symbolFit (getD symbols i nan)) ≡ true → P (sends (given symbols) (s .progress .«tx_delay_padding» .0) (s .pending)))
       → P (givenOutcome symbols s)
   unfolding givenOutcome
   each-given symbols miscounted outside taken =
       let tested : Bool = allBelow 192 (λ (i : ℕ). symbolFit (getD symbols i nan)) in
-      picked P (not (eqb (length symbols) 192)) _ _ (λ _. miscounted) λ _.
-      picked P (not tested) _ _ (λ _. outside) λ e.
-      taken (not-false tested e)
+      picked P (not (eqb (length symbols) 192)) _ _ (λ e. miscounted (not-true _ e)) λ counted.
+      picked P (not tested) _ _ (λ e. outside (not-true tested e)) λ e.
+      taken (not-false _ counted) (not-false tested e)
 
   pub each-update : (p fill capacity latency : ℕ) → (tooLarge fill capacity latency ≡ true → P (only (refusal 8))) → (tooLarge fill capacity latency ≡ false → capacity < fill → P (only (refusal 9)))
-      → (tooLarge fill capacity latency ≡ false → fill ≤ capacity → P (told done (updatedPending p fill capacity latency (s .pending)) (bufferOf fill capacity latency)))
+      → (tooLarge fill capacity latency ≡ false → fill ≤ capacity → P (told done (updatedPending p fill capacity (endAfter fill latency (s .progress)) (s .pending)) (bufferOf fill capacity latency)))
       → P (updateOutcome p fill capacity latency s)
   unfolding updateOutcome
   each-update p fill capacity latency large below taken =

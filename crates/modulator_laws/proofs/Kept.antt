@@ -36,21 +36,21 @@ module _ (R : Rate) (m : SoftModulator) (fit : recordFit (R .p) m ≡ true) wher
   abbrev g : Groups (R .p) m
   g = groups (R .p) m fit
 
-  short : m .progress .«tx_delay_padding» .0 ≤ paddingLimit (R .p)
-  short = record-facts (R .p) m fit .progress .padding
+  far : ProgressFacts (R .p) (m .progress)
+  far = record-facts (R .p) m fit .progress
 
   -- ---- with one of the groups changed
   with-progress : (s : Progress) → ProgressFacts (R .p) s → recordFit (R .p) (withProgress s m) ≡ true
   unfolding windowFit
   with-progress s f = grouped (R .p) (withProgress s m) (record { cursor = g .cursor; window = g .window; progress = progress-fit (R .p) s f; buffer = g .buffer; report = g .report })
 
-  with-pending : (pending : Pending) (b : OutputBuffer) → T (reportFit (pending .«report_tx_end»)) → T (bufferFit b) → recordFit (R .p) (withPending pending b m) ≡ true
+  with-pending : (pending : Pending) (b : OutputBuffer) → T (reportFit (R .p) (pending .«report_tx_end»)) → T (bufferFit b) → recordFit (R .p) (withPending pending b m) ≡ true
   unfolding windowFit
   with-pending pending b r f = grouped (R .p) (withPending pending b m) (record { cursor = g .cursor; window = g .window; progress = g .progress; buffer = f; report = r })
 
   -- ---- with a frame
   framed-fit : (s : Symbols) (padding : ℕ) (pending : Pending) → s .count ≤ 400 → Small s → padding ≤ paddingLimit (R .p)
-      → T (reportFit (pending .«report_tx_end»)) → recordFit (R .p) (framed R s padding pending m) ≡ true
+      → T (reportFit (R .p) (pending .«report_tx_end»)) → recordFit (R .p) (framed R s padding pending m) ≡ true
   unfolding framed windowFit
   framed-fit s padding pending few small least report =
       let p = R .p in
@@ -77,12 +77,12 @@ module _ (R : Rate) (m : SoftModulator) (fit : recordFit (R .p) m ≡ true) wher
   pub frame-keeps : (frame : ModulatorFrame) (symbols : List Float) → Byte frame → recordFit (R .p) (provided R m frame symbols .modulator) ≡ true
   unfolding provided
   frame-keeps frame symbols h =
-      rw fit (settled-fit (frameOutcome (R .p) frame symbols (controlOf m)) (frame-few (R .p) (controlOf m) frame symbols) (frame-sound (R .p) (controlOf m) short (g .buffer) (g .report) frame symbols h))
+      rw fit (settled-fit (frameOutcome (R .p) frame symbols (controlOf m)) (frame-few (R .p) (controlOf m) frame symbols) (frame-sound (R .p) (controlOf m) far (g .buffer) (g .report) frame symbols h))
 
   pub drained-fit : (room : List ℤ) → recordFit (R .p) (drained m room .modulator) ≡ true
   unfolding drained
   drained-fit room =
-      let f = record-facts (R .p) m fit .progress in
+      let f = far in
       with-progress _ (record { len = f .len; read = omega arith; padding = omega arith })
 
   pub read-keeps : (room : List ℤ) → recordFit (R .p) (read R m room .modulator) ≡ true
@@ -91,8 +91,8 @@ module _ (R : Rate) (m : SoftModulator) (fit : recordFit (R .p) m ≡ true) wher
   pub update-keeps : (fill capacity latency : ℕ) → recordFit (R .p) (updated R m fill capacity latency .modulator) ≡ true
   unfolding updated
   update-keeps fill capacity latency =
-      rw fit (settled-fit (updateOutcome (R .p) fill capacity latency (controlOf m)) (update-few (R .p) (controlOf m) fill capacity latency) (update-sound (R .p) (controlOf m) short (g .buffer) (g .report) fill capacity latency))
+      rw fit (settled-fit (updateOutcome (R .p) fill capacity latency (controlOf m)) (update-few (R .p) (controlOf m) fill capacity latency) (update-sound (R .p) (controlOf m) far (g .buffer) (g .report) fill capacity latency))
 
   pub run-keeps : recordFit (R .p) (ran R m .modulator) ≡ true
   unfolding ran
-  run-keeps = rw fit (settled-fit (actionOutcome (controlOf m)) (action-few (R .p) (controlOf m)) (action-sound (R .p) (controlOf m) short (g .buffer) (g .report)))
+  run-keeps = rw fit (settled-fit (actionOutcome (controlOf m)) (action-few (R .p) (controlOf m)) (action-sound (R .p) (controlOf m) far (g .buffer) (g .report)))

@@ -42,60 +42,60 @@ abbrev fits : SoftModulator → Bool → Type 0
 fits m answer = recordFit 10 m ≡ answer
 
 -- all limits at once
-highest : fits (made 80 loudest most fullest 33554432) true
+highest : fits (made 80 loudest most fullest 33680832) true
 unfolding recordFit windowFit pulseFit allBelow ofBits le
 highest = refl
 
 -- "cursor past 80"
-cursor-past : fits (made 81 loudest most fullest 33554432) false
+cursor-past : fits (made 81 loudest most fullest 33680832) false
 unfolding recordFit
 cursor-past = refl
 
 -- "a window value not within ±35,461"
-value-past : fits (made 80 (set loudest 80 (ofBits binary32 0x470a_8501)) most fullest 33554432) false
+value-past : fits (made 80 (set loudest 80 (ofBits binary32 0x470a_8501)) most fullest 33680832) false
 unfolding recordFit windowFit pulseFit allBelow ofBits le
 value-past = refl
 
-value-below : fits (made 80 (set loudest 0 (ofBits binary32 0xc70a_8501)) most fullest 33554432) false
+value-below : fits (made 80 (set loudest 0 (ofBits binary32 0xc70a_8501)) most fullest 33680832) false
 unfolding recordFit windowFit pulseFit allBelow ofBits le
 value-below = refl
 
 -- "A not-a-number is never within."
-value-nan : fits (made 80 (set loudest 40 nan) most fullest 33554432) false
+value-nan : fits (made 80 (set loudest 40 nan) most fullest 33680832) false
 unfolding recordFit windowFit pulseFit allBelow ofBits le
 value-nan = refl
 
 -- "length above 4,000; read place above length; padding above 122,400"
-length-past : fits (made 80 loudest (progressed 4001 4000 122400) fullest 33554432) false
+length-past : fits (made 80 loudest (progressed 4001 4000 122400) fullest 33680832) false
 unfolding recordFit windowFit pulseFit allBelow ofBits le
 length-past = refl
 
-place-past : fits (made 80 loudest (progressed 3999 4000 122400) fullest 33554432) false
+place-past : fits (made 80 loudest (progressed 3999 4000 122400) fullest 33680832) false
 unfolding recordFit windowFit pulseFit allBelow ofBits le
 place-past = refl
 
-padding-past : fits (made 80 loudest (progressed 4000 4000 122401) fullest 33554432) false
+padding-past : fits (made 80 loudest (progressed 4000 4000 122401) fullest 33680832) false
 unfolding recordFit windowFit pulseFit allBelow ofBits le
 padding-past = refl
 
 -- "fill, capacity or latency above 16,777,216; capacity below fill"
-fill-past : fits (made 80 loudest most (bufferOf 16777217 16777217 16777216) 33554432) false
+fill-past : fits (made 80 loudest most (bufferOf 16777217 16777217 16777216) 33680832) false
 unfolding recordFit windowFit pulseFit allBelow ofBits le
 fill-past = refl
 
-capacity-past : fits (made 80 loudest most (bufferOf 16777216 16777217 16777216) 33554432) false
+capacity-past : fits (made 80 loudest most (bufferOf 16777216 16777217 16777216) 33680832) false
 unfolding recordFit windowFit pulseFit allBelow ofBits le
 capacity-past = refl
 
-latency-past : fits (made 80 loudest most (bufferOf 16777216 16777216 16777217) 33554432) false
+latency-past : fits (made 80 loudest most (bufferOf 16777216 16777216 16777217) 33680832) false
 unfolding recordFit windowFit pulseFit allBelow ofBits le
 latency-past = refl
 
-capacity-below : fits (made 80 loudest most (bufferOf 16777216 16777215 16777216) 33554432) false
+capacity-below : fits (made 80 loudest most (bufferOf 16777216 16777215 16777216) 33680832) false
 unfolding recordFit windowFit pulseFit allBelow ofBits le
 capacity-below = refl
 
--- "a reported end above 33,554,432"
-end-past : fits (made 80 loudest most fullest 33554433) false
+-- "The record's limit for a reported end becomes 33,680,832"
+end-past : fits (made 80 loudest most fullest 33680833) false
 unfolding recordFit windowFit pulseFit allBelow ofBits le
 end-past = refl

@@ -2,23 +2,25 @@
 use mathlib.Core.Path.{_≡_, refl, sym, subst}
 use mathlib.Core.Bool.{Bool, true, false, cond}
 use mathlib.Core.List.{List}
-use Prim.Native.Nat.{ℕ, _+_, _*_, _≤_, _<_}
+use Prim.Native.Nat.{ℕ, _*_, _≤_, _<_}
 use native.Mathlib.Nat.{mul-le-mul-left}
 use native.Mathlib.Omega.{arith}
 use borrow.Author.Tests.{le-leb}
 use lib.Dec.{T, lit≤}
 use lib.Ieee.{Float}
-use Rattle.shaping.specs.Rate.{delayStep, paddingLimit}
+use Rattle.shaping.specs.Rate.{delayStep, paddingLimit, endLimit}
 use Rattle.modulator.specs.declared.DelaySteps.{DelaySteps}
 use Rattle.modulator.specs.declared.EndReport.{EndReport}
+use Rattle.modulator.specs.declared.EndReport.the-variants.{After}
+use Rattle.modulator.specs.declared.Progress.{Progress}
 use Rattle.modulator.specs.declared.OutputBuffer.{OutputBuffer}
 use Rattle.modulator.specs.declared.ModulatorFrame.{ModulatorFrame}
 use Rattle.modulator.specs.declared.ModulatorFrame.the-variants.{Nothing as NoFrame, Preamble, Symbols as GivenSymbols, EndOfTransmission}
 use Rattle.modulator.specs.Frame.{paddingOf}
-use Rattle.modulator.specs.Control.{Control, bufferOf, endReport}
+use Rattle.modulator.specs.Control.{Control, bufferOf, endAfter}
 use Rattle.modulator.specs.Fit.{bufferFit, reportFit}
 use Rattle.modulator.specs.Outcome.{Outcome, only, told, sends, frameOutcome, updateOutcome, actionOutcome}
-use Rattle.modulator.proofs.Fitness.{BufferFacts}
+use Rattle.modulator.proofs.Fitness.{ProgressFacts, BufferFacts}
 use Rattle.modulator.proofs.Cases.{counts-taken}
 use Rattle.modulator_laws.proofs.EachCase.{each-given, each-update, each-action}
 use Rattle.modulator_laws.proofs.Sizes.{Small, preamble-small, ending-small, given-small}
@@ -38,7 +40,7 @@ module _ (p : ℕ) (s : Control) where
   unfolding Few frameOutcome
   frame-few NoFrame symbols = tt
   frame-few (Preamble steps) symbols = lit≤ tt
-  frame-few GivenSymbols symbols = each-given s Few symbols tt tt (λ _. lit≤ tt)
+  frame-few GivenSymbols symbols = each-given s Few symbols (λ _. tt) (λ _. tt) (λ _ _. lit≤ tt)
   frame-few EndOfTransmission symbols = lit≤ tt
 
   pub update-few : (fill capacity latency : ℕ) → Few (updateOutcome p fill capacity latency s)
@@ -52,8 +54,8 @@ module _ (p : ℕ) (s : Control) where
 -- ---- symbols, padding, report and buffer are within their limits
 unfoldable pub Sound : ℕ → Outcome → Type 0
 Sound p (only answer) = Unit {0}
-Sound p (told answer pending buffer) = T (reportFit (pending .«report_tx_end»)) × T (bufferFit buffer)
-Sound p (sends frame padding pending) = Small frame × (padding ≤ paddingLimit p) × T (reportFit (pending .«report_tx_end»))
+Sound p (told answer pending buffer) = T (reportFit p (pending .«report_tx_end»)) × T (bufferFit buffer)
+Sound p (sends frame padding pending) = Small frame × (padding ≤ paddingLimit p) × T (reportFit p (pending .«report_tx_end»))
 
 -- 255 steps at most
 padding-short : (p steps latency : ℕ) → steps < 256 → paddingOf p steps latency ≤ paddingLimit p
@@ -65,24 +67,25 @@ buffer-fit : (b : OutputBuffer) → BufferFacts b → T (bufferFit b)
 buffer-fit b f =
     rw (le-leb (b .«samples_in_buf» .0) 16777216 (f .fill), le-leb (b .«buf_capacity» .0) 16777216 (f .capacity), le-leb (b .«output_latency» .0) 16777216 (f .latency), le-leb (b .«samples_in_buf» .0) (b .«buf_capacity» .0) (f .room)) tt
 
-report-fit : (fill latency : ℕ) (owed : Bool) (old : EndReport) → fill + latency ≤ 33554432 → T (reportFit old) → T (reportFit (cond owed (endReport fill latency) old))
-report-fit fill latency true old l t = rw (le-leb (fill + latency) 33554432 l) tt
-report-fit fill latency false old l t = t
+report-fit : (p fill latency : ℕ) (t : Progress) (owed : Bool) (old : EndReport) → fill ≤ 16777216 → latency ≤ 16777216 → ProgressFacts p t → T (reportFit p old)
+    → T (reportFit p (cond owed (After (record { 0 = endAfter fill latency t })) old))
+report-fit p fill latency t true old f l h r = rw (le-leb (endAfter fill latency t) (endLimit p) (omega arith)) tt
+report-fit p fill latency t false old f l h r = r
 
-module _ (p : ℕ) (s : Control) (short : s .progress .«tx_delay_padding» .0 ≤ paddingLimit p) (buffer : T (bufferFit (s .buffer))) (report : T (reportFit (s .pending .«report_tx_end»))) where
+module _ (p : ℕ) (s : Control) (far : ProgressFacts p (s .progress)) (buffer : T (bufferFit (s .buffer))) (report : T (reportFit p (s .pending .«report_tx_end»))) where
   pub frame-sound : (frame : ModulatorFrame) (symbols : List Float) → Byte frame → Sound p (frameOutcome p frame symbols s)
   unfolding Sound frameOutcome
   frame-sound NoFrame symbols h = (report, buffer)
   frame-sound (Preamble steps) symbols h = (preamble-small, padding-short p (steps .0) _ (h steps refl), report)
-  frame-sound GivenSymbols symbols h = each-given s (Sound p) symbols tt tt (λ e. (given-small symbols (subst T (sym e) tt), short, report))
-  frame-sound EndOfTransmission symbols h = (ending-small, short, report)
+  frame-sound GivenSymbols symbols h = each-given s (Sound p) symbols (λ _. tt) (λ _. tt) (λ _ e. (given-small symbols (subst T (sym e) tt), far .padding, report))
+  frame-sound EndOfTransmission symbols h = (ending-small, far .padding, report)
 
   pub update-sound : (fill capacity latency : ℕ) → Sound p (updateOutcome p fill capacity latency s)
   unfolding Sound
   update-sound fill capacity latency =
       each-update s (Sound p) p fill capacity latency (λ _. tt) (λ _ _. tt) λ small l.
       let c = counts-taken fill capacity latency small in (
-        report-fit fill latency (s .pending .«calculate_tx_end») (s .pending .«report_tx_end») (omega arith) report,
+        report-fit p fill latency (s .progress) (s .pending .«calculate_tx_end») (s .pending .«report_tx_end») (c .0) (c .2) far report,
         buffer-fit (bufferOf fill capacity latency) (record { fill = c .0; capacity = c .1; latency = c .2; room = l }),
       )
 

@@ -1,13 +1,13 @@
 -- What holds of a call in each case of the rules holds of every call. Assumes nothing.
-use mathlib.Core.Path.{_≡_}
-use mathlib.Core.Bool.{true, false}
+use mathlib.Core.Path.{_≡_, refl}
+use mathlib.Core.Bool.{Bool, true, false, _&&_}
 use mathlib.Core.List.{List, []}
 use Prim.Native.Nat.{ℕ, _≤_, _<_}
 use borrow.Author.Tests.{lt-ltb, le-ltb}
+use lib.Dec.{eqb}
 use lib.IntN.{ℤ}
-use lib.ListN.{getD}
-use lib.Ieee.{Float, nan}
-use Rattle.numbers.specs.Below.{allBelow}
+use lib.ListN.{length}
+use lib.Ieee.{Float}
 use Rattle.shaping.specs.Rate.{Rate}
 use Rattle.modulator.specs.declared.DelaySteps.{DelaySteps}
 use Rattle.modulator.specs.declared.EndReport.the-variants.{Nothing as NoReport, After as Reported}
@@ -15,19 +15,23 @@ use Rattle.modulator.specs.declared.SampleCount.{SampleCount}
 use Rattle.modulator.specs.declared.ModulatorFrame.{ModulatorFrame}
 use Rattle.modulator.specs.declared.ModulatorFrame.the-variants.{Nothing as NoFrame, Preamble, Symbols as GivenSymbols, EndOfTransmission}
 use Rattle.modulator.specs.Paper.{refusal, done, transmitEnd, readOutput, idle, getFrame, nothing}
-use Rattle.modulator.specs.Frame.{preamble, given, ending, symbolFit, paddingOf}
-use Rattle.modulator.specs.Control.{bufferOf, dropped, ended, updatedPending, reported, idled}
+use Rattle.modulator.specs.Frame.{preamble, given, ending, paddingOf}
+use Rattle.modulator.specs.Control.{bufferOf, dropped, ended, endAfter, updatedPending, reported, idled}
 use Rattle.modulator.specs.Outcome.{Outcome, frameOutcome, updateOutcome, actionOutcome}
 use Rattle.modulator_laws.proofs.EachCase.{each-given, each-update, each-action}
 use Rattle.modulator_run.specs.Rules.{Call, provide, read, update, ask, Sent, After, controlIn, after, withPending, framed, settled, drained, called}
-use Rattle.modulator_run.specs.Kinds.{stores}
+use Rattle.modulator_run.specs.Kinds.{stores, replaces}
 
 -- a call that is refused, by a number other than 1
 pub data Refusing : Call → ℕ → Type 0 where
-  miscounted : {symbols : List Float} → Refusing (provide GivenSymbols symbols) 6
-  outside : {symbols : List Float} → Refusing (provide GivenSymbols symbols) 7
+  miscounted : {symbols : List Float} → replaces (provide GivenSymbols symbols) ≡ false → Refusing (provide GivenSymbols symbols) 6
+  outside : {symbols : List Float} → replaces (provide GivenSymbols symbols) ≡ false → Refusing (provide GivenSymbols symbols) 7
   large : {fill capacity latency : ℕ} → stores (update fill capacity latency) ≡ false → Refusing (update fill capacity latency) 8
   below : {fill capacity latency : ℕ} → stores (update fill capacity latency) ≡ false → Refusing (update fill capacity latency) 9
+
+none-too : (b : Bool) → b && false ≡ false
+none-too true = refl
+none-too false = refl
 
 module _ (R : Rate) (s : Sent) (P : Call → After → Type 0) where
   -- the cases of the rules, with what is known in each
@@ -36,13 +40,13 @@ module _ (R : Rate) (s : Sent) (P : Call → After → Type 0) where
     pub no-frame : (symbols : List Float) → P (provide NoFrame symbols) (after done [] (withPending (dropped (s .pending)) (s .buffer) s))
     pub delayed : (steps : DelaySteps) (symbols : List Float)
         → P (provide (Preamble steps) symbols) (after done [] (framed R preamble (paddingOf (R .p) (steps .0) (s .buffer .«output_latency» .0)) (s .pending) s))
-    pub symbols-given : (symbols : List Float) → allBelow 192 (λ (i : ℕ). symbolFit (getD symbols i nan)) ≡ true
+    pub symbols-given : (symbols : List Float) → replaces (provide GivenSymbols symbols) ≡ true
         → P (provide GivenSymbols symbols) (after done [] (framed R (given symbols) (s .progress .«tx_delay_padding» .0) (s .pending) s))
     pub last-frame : (symbols : List Float) → P (provide EndOfTransmission symbols) (after done [] (framed R ending (s .progress .«tx_delay_padding» .0) (ended (s .pending)) s))
     pub reads : (room : List ℤ) → P (read room) (drained R room s)
     pub stored : (fill capacity latency : ℕ) → stores (update fill capacity latency) ≡ true
         → P (update fill capacity latency)
-        (after done [] (withPending (updatedPending (R .p) fill capacity latency (s .pending)) (bufferOf fill capacity latency) s))
+        (after done [] (withPending (updatedPending (R .p) fill capacity (endAfter fill latency (s .progress)) (s .pending)) (bufferOf fill capacity latency) s))
     pub told : (end : SampleCount) → s .pending .«report_tx_end» ≡ Reported end → P ask (after (transmitEnd (end .0)) [] (withPending (reported (s .pending)) (s .buffer) s))
     pub unread : s .pending .«report_tx_end» ≡ NoReport → s .progress .«next_read» < s .progress .«next_len» → P ask (after readOutput [] s)
     pub idles : s .pending .«report_tx_end» ≡ NoReport → s .progress .«next_len» ≤ s .progress .«next_read» → s .pending .«update_idle» ≡ true
@@ -52,11 +56,14 @@ module _ (R : Rate) (s : Sent) (P : Call → After → Type 0) where
 
   module _ (k : Cases) where
     each-provided : (frame : ModulatorFrame) (symbols : List Float) → P (provide frame symbols) (settled R s (frameOutcome (R .p) frame symbols (controlIn s)))
-    unfolding settled frameOutcome
+    unfolding settled frameOutcome replaces
     each-provided NoFrame symbols = k .no-frame symbols
     each-provided (Preamble steps) symbols = k .delayed steps symbols
     each-provided GivenSymbols symbols =
-        each-given (controlIn s) (λ (o : Outcome). P (provide GivenSymbols symbols) (settled R s o)) symbols (k .refused _ 6 miscounted) (k .refused _ 7 outside) (k .symbols-given symbols)
+        each-given (controlIn s) (λ (o : Outcome). P (provide GivenSymbols symbols) (settled R s o)) symbols
+        (λ e. k .refused _ 6 (miscounted (rw e)))
+        (λ e. k .refused _ 7 (outside (rw e (none-too (eqb (length symbols) 192)))))
+        (λ n e. k .symbols-given symbols (rw (n, e)))
     each-provided EndOfTransmission symbols = k .last-frame symbols
 
     each-updated : (fill capacity latency : ℕ) → P (update fill capacity latency) (settled R s (updateOutcome (R .p) fill capacity latency (controlIn s)))

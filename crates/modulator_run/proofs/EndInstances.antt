@@ -1,7 +1,7 @@
--- Small instances of the laws of the end, of what is told once and of reads in pieces: what they ask can be met. Assumes nothing.
+-- Small instances of the laws of the end of transmission, of idle and of reads in pieces: what they ask can be met. Assumes nothing.
 use mathlib.Core.Path.{_≡_, refl}
 use mathlib.Core.Bool.{true}
-use mathlib.Core.List.{List, [], _∷_, _++_, flatten}
+use mathlib.Core.List.{List, [], _∷_, flatten}
 use lib.Dec.{lit≤, lit<}
 use lib.IntN.{ℤ, pos}
 use lib.ListN.{replicate}
@@ -14,23 +14,19 @@ use Rattle.shaping.proofs.RateFacts.{facts48}
 use Rattle.pulse.specs.Pulse.{pulses}
 use Rattle.modulator.specs.declared.SoftModulator.{SoftModulator}
 use Rattle.modulator.specs.declared.ModulatorFrame.the-variants.{EndOfTransmission}
-use Rattle.modulator.specs.Paper.{transmitEnd, idle}
+use Rattle.modulator.specs.Paper.{idle}
 use Rattle.modulator.specs.Frame.{ending}
 use Rattle.modulator.specs.Record.{fresh}
 use Rattle.modulator.specs.Fit.{pulseFit, windowFit, recordFit}
 use Rattle.modulator.specs.Calls.{provided}
 use Rattle.modulator.specs.Calls.{read as readInto}
 use Rattle.modulator_run.specs.Stream.{sentAt}
-use Rattle.modulator_run.specs.Rules.{Call, provide, update, ask, called, sentAll}
-use Rattle.modulator_run.specs.Run.{left, saidBy, sender, recordAfter, Delay, Given}
-use Rattle.modulator_run.specs.Kinds.{stores, ends, none}
-use Rattle.modulator_run.specs.Reports.{Owed, NewReport, Free, FreeBefore}
+use Rattle.modulator_run.specs.Rules.{ask, called, sentAll}
+use Rattle.modulator_run.specs.Run.{left, saidBy, sender, recordAfter, Given}
+use Rattle.modulator_run.specs.Reports.{Free, FreeBefore}
 use Rattle.modulator_run.specs.EndFrame.{EndFrame}
 use Rattle.modulator_run.specs.Pieces.{reads, SameAs, SameLeft}
 use Rattle.modulator_run.proofs.LastCall.{no-parts}
-use Rattle.modulator_run.proofs.ReportParts.{reporting-none}
-use Rattle.modulator_run.proofs.Owed.{owed, owed-exactly}
-use Rattle.modulator_run.proofs.EndOnce.{told-next, told-once, told-by-record}
 use Rattle.modulator_run.proofs.IdleOnce.{idle-first, idle-only, idle-by-record}
 use Rattle.modulator_run.proofs.Flush.{flush-pulse, end-silent}
 use Rattle.modulator_run.proofs.EndFrame.{end-frame}
@@ -61,54 +57,6 @@ last-flushed = flush-pulse 10 (lit< tt) 1911 (lit< tt)
 
 last-silent : sentAt at48 (ofBits binary32 0x3f80_0000 ∷ firsts (ending .symbol) 272) 2730 ≡ pos 0
 last-silent = end-silent at48 facts48 (ofBits binary32 0x3f80_0000 ∷ []) 728 (lit< tt)
-
--- ---- two ends, an update and a request; then another end, another update and a request
-abbrev end : Call
-end = provide EndOfTransmission []
-
-owed-twice : Owed (end ∷ end ∷ [])
-unfolding ends none
-owed-twice = record { before = end ∷ []; call = end; since = []; parts = refl; started = tt; unstopped = tt }
-
-owed-is : owed (sentAll at48 (end ∷ end ∷ [])) ≡ true
-owed-is = owed-exactly at48 (end ∷ end ∷ []) .1 owed-twice
-
-first-told : called at48 (sentAll at48 (end ∷ end ∷ update 100 3000 50 ∷ [])) ask .said .answer ≡ transmitEnd 150
-unfolding stores none
-first-told = told-next at48 (end ∷ end ∷ []) owed-twice 100 3000 50 tt [] tt reporting-none
-
-abbrev earlier : List Call
-earlier = end ∷ end ∷ update 100 3000 50 ∷ []
-
--- an end provided after the first report, whether or not that one was told
-owed-again : (cs : List Call) → Owed (cs ++ end ∷ [])
-unfolding ends none
-owed-again cs = record { before = cs; call = end; since = []; parts = refl; started = tt; unstopped = tt }
-
-second-told : called at48 (sentAll at48 (end ∷ end ∷ update 100 3000 50 ∷ ask ∷ end ∷ update 7 2500 3 ∷ [])) ask .said .answer ≡ transmitEnd 10
-unfolding stores none
-second-told = told-next at48 (end ∷ end ∷ update 100 3000 50 ∷ ask ∷ end ∷ []) (owed-again (end ∷ end ∷ update 100 3000 50 ∷ ask ∷ [])) 7 2500 3 tt [] tt reporting-none
-
-second-new : NewReport earlier (end ∷ update 7 2500 3 ∷ []) 10
-second-new = told-once at48 earlier (end ∷ update 7 2500 3 ∷ []) 10 second-told
-
--- the first report is replaced where it was not told
-replaced : called at48 (sentAll at48 (end ∷ end ∷ update 100 3000 50 ∷ end ∷ update 7 2500 3 ∷ [])) ask .said .answer ≡ transmitEnd 10
-unfolding stores none
-replaced = told-next at48 (end ∷ end ∷ update 100 3000 50 ∷ end ∷ []) (owed-again (end ∷ end ∷ update 100 3000 50 ∷ [])) 7 2500 3 tt [] tt reporting-none
-
-earlier-given : Each Given earlier
-unfolding Each Given Delay
-earlier-given = (tt, (tt, (tt, tt)))
-
-told-of-record : left at48 (recordAfter at48 earlier) ask .answer ≡ transmitEnd 150
-unfolding stores none
-told-of-record = told-by-record at48 facts48 earlier earlier-given 150 .1 (record {
-  report = record { before = end ∷ end ∷ []; fill = 100; capacity = 3000; latency = 50; since = []; parts = refl; taken = tt; owed = owed-twice };
-  samples = refl;
-  unasked = tt;
-  newest = reporting-none;
-})
 
 -- ---- the first request of all
 free-at-first : Free (sentAll at48 [])

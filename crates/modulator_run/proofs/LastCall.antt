@@ -1,5 +1,5 @@
 -- A list of calls by its last call, and how such a list is taken apart. Assumes nothing.
-use mathlib.Core.Path.{_≡_, refl}
+use mathlib.Core.Path.{_≡_, refl, sym, ap, subst}
 use mathlib.Core.Logic.{_⊎_, inl, inr}
 use mathlib.Core.Bool.{Bool, true, false, not, _&&_}
 use mathlib.Core.List.{List, [], _∷_, _++_, append-assoc, append-nil}
@@ -8,7 +8,7 @@ use native.Mathlib.Omega.{arith}
 use lib.Dec.{T}
 use lib.Ieee.Fits.{and-i, and-l, and-r}
 use Rattle.modulator_run.specs.Rules.{Call}
-use Rattle.modulator_run.specs.Kinds.{none}
+use Rattle.modulator_run.specs.Kinds.{none, Lasting}
 
 -- ---- one more call
 -- what holds of the empty list, and of a list with one more call at its end, holds of all
@@ -39,6 +39,19 @@ module _ (kind : Call → Bool) where
       let rest : Bool = none kind (cs ++ c ∷ []) in
       let fewer = none-fewer cs c (and-r (not (kind b)) rest t) in
       (and-i (not (kind b)) (none kind cs) (and-l (not (kind b)) rest t) (fewer .0), fewer .1)
+
+  -- no call of a list is of a kind, or one is the last
+  pub last-or-none : (cs : List Call) → T (none kind cs) ⊎ Lasting kind kind cs
+  unfolding none
+  last-or-none [] = inl tt
+  last-or-none (c ∷ cs) = elim (last-or-none cs) [
+    | inl t ↦ by-test (kind c) refl t
+    | inr l ↦ inr (record { before = c ∷ l .before; call = l .call; since = l .since; parts = ap (λ (ds : List Call). c ∷ ds) (l .parts); started = l .started; unstopped = l .unstopped })
+  ]
+    where
+      by-test : (k : Bool) → kind c ≡ k → T (none kind cs) → T (not (kind c) && none kind cs) ⊎ Lasting kind kind (c ∷ cs)
+      by-test true e t = inr (record { before = []; call = c; since = cs; parts = refl; started = subst T (sym e) tt; unstopped = t })
+      by-test false e t = inl (rw e t)
 
 -- ---- taking a list apart
 module _ {A : Type 0} where

@@ -28,11 +28,14 @@ pub mod Owed
 pub mod ReportParts
 pub mod Told
 pub mod EndOnce
+pub mod EndAsBefore
+pub mod EndCovers
 -- idle, once
 pub mod IdleOnce
--- the wish for a frame, and the padding
+-- the wish for a frame, the padding, and the frame samples unread
 pub mod Wish
 pub mod Padding
+pub mod Unread
 -- the end of transmission
 pub mod Flush
 pub mod EndFrame
@@ -43,4 +46,5 @@ pub mod Worked
 -- instances that meet what the laws ask
 pub mod RunInstances
 pub mod EndInstances
+pub mod ReportInstances
 pub mod WishInstances

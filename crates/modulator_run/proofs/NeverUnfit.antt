@@ -26,8 +26,8 @@ unfit getFrame = false
 unfit nothing = false
 
 other-number : (c : Call) (number : ℕ) → Refusing c number → T (not (eqb number 1))
-other-number c number miscounted = tt
-other-number c number outside = tt
+other-number c number (miscounted e) = tt
+other-number c number (outside e) = tt
 other-number c number (large e) = tt
 other-number c number (below e) = tt
 

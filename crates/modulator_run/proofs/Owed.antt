@@ -17,8 +17,8 @@ owed s = s .pending .«calculate_tx_end»
 
 refused-owed : (c : Call) (number : ℕ) (o : Bool) → Refusing c number → o ≡ lasted ends stores c o
 unfolding ends stores
-refused-owed c number o miscounted = refl
-refused-owed c number o outside = refl
+refused-owed c number o (miscounted e) = refl
+refused-owed c number o (outside e) = refl
 refused-owed c number o (large e) = rw e
 refused-owed c number o (below e) = rw e
 

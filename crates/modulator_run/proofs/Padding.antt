@@ -35,8 +35,8 @@ latency s = s .buffer .«output_latency» .0
 -- ---- the latency
 refused-latency : (c : Call) (number l : ℕ) → Refusing c number → l ≡ cond (stores c) (latencyOf c) l
 unfolding stores
-refused-latency c number l miscounted = refl
-refused-latency c number l outside = refl
+refused-latency c number l (miscounted e) = refl
+refused-latency c number l (outside e) = refl
 refused-latency c number l (large e) = rw e
 refused-latency c number l (below e) = rw e
 
@@ -51,6 +51,14 @@ none-stored : (cs : List Call) → cond (none stores cs) 0 (lastLatency cs) ≡ 
 unfolding none lastLatency
 none-stored [] = refl
 none-stored (c ∷ cs) = sym (last-one (stores c) (none stores cs) (latencyOf c) 0 (lastLatency cs))
+
+-- a read is never refused with a number other than 1
+pub no-places : (c : Call) (number : ℕ) → Refusing c number → placesOf c ≡ 0
+unfolding placesOf
+no-places c number (miscounted e) = refl
+no-places c number (outside e) = refl
+no-places c number (large e) = refl
+no-places c number (below e) = refl
 
 module _ (R : Rate) where
   latency-next : (s : Sent) (c : Call) → latency (called R s c .sent) ≡ cond (stores c) (latencyOf c) (latency s)
@@ -86,18 +94,11 @@ module _ (R : Rate) where
   unfolding called frameOutcome settled framed
   padding-set s steps symbols = refl
 
-  no-places : (c : Call) (number n : ℕ) → Refusing c number → n ≡ n - placesOf c
-  unfolding placesOf
-  no-places c number n miscounted = omega arith
-  no-places c number n outside = omega arith
-  no-places c number n (large e) = omega arith
-  no-places c number n (below e) = omega arith
-
-  padding-read : (s : Sent) (c : Call) → T (not (delays c)) → padding (called R s c .sent) ≡ padding s - placesOf c
+  pub padding-read : (s : Sent) (c : Call) → T (not (delays c)) → padding (called R s c .sent) ≡ padding s - placesOf c
   unfolding delays placesOf framed drained
   padding-read s =
       each-call R s (λ (c : Call) (a : After). T (not (delays c)) → padding (a .sent) ≡ padding s - placesOf c) (record {
-        refused = λ c number e _. no-places c number (padding s) e;
+        refused = λ c number e _. omega (arith, no-places c number e);
         no-frame = λ _ _. omega arith;
         delayed = λ _ _ t. absurd t;
         symbols-given = λ _ _ _. omega arith;

@@ -12,7 +12,7 @@ use Rattle.modulator.specs.declared.ModulatorFrame.{ModulatorFrame}
 use Rattle.modulator.specs.declared.ModulatorFrame.the-variants.{Nothing as NoFrame, Preamble, Symbols as GivenSymbols, EndOfTransmission}
 use Rattle.modulator.specs.declared.SoftModulator.{SoftModulator}
 use Rattle.modulator.specs.Paper.{Paper, refusal, done, wrote, transmitEnd, readOutput, idle, getFrame, nothing}
-use Rattle.modulator.specs.Control.{bufferOf, updatedPending}
+use Rattle.modulator.specs.Control.{bufferOf, endAfter, updatedPending}
 use Rattle.modulator.specs.Record.{controlOf}
 use Rattle.modulator.specs.Fit.{recordFit}
 use Rattle.modulator.specs.Outcome.{Outcome, only, told, frameOutcome, tooLarge, updateOutcome, actionOutcome}
@@ -47,8 +47,8 @@ refused-by a number e = rw e tt
 
 -- ---- the rules
 no-room-lent : (c : Call) (number : ℕ) → Refusing c number → [] ≡ lent c
-no-room-lent c number miscounted = refl
-no-room-lent c number outside = refl
+no-room-lent c number (miscounted e) = refl
+no-room-lent c number (outside e) = refl
 no-room-lent c number (large e) = refl
 no-room-lent c number (below e) = refl
 
@@ -91,7 +91,7 @@ module _ (R : Rate) (s : Sent) where
   stores-exactly fill capacity latency = by-tests (tooLarge fill capacity latency) (ltb capacity fill)
     where
       by-tests : (a b : Bool)
-          → refuses (settled R s (cond a (only (refusal 8)) (cond b (only (refusal 9)) (told done (updatedPending (R .p) fill capacity latency (s .pending)) (bufferOf fill capacity latency)))) .said .answer) ≡ not (not a && not b)
+          → refuses (settled R s (cond a (only (refusal 8)) (cond b (only (refusal 9)) (told done (updatedPending (R .p) fill capacity (endAfter fill latency (s .progress)) (s .pending)) (bufferOf fill capacity latency)))) .said .answer) ≡ not (not a && not b)
       by-tests true b = refl
       by-tests false true = refl
       by-tests false false = refl
@@ -108,7 +108,7 @@ module _ (R : Rate) (m : SoftModulator) where
   unfolding settledRecord frameOutcome
   kept-frame NoFrame symbols t = absurd t
   kept-frame (Preamble steps) symbols t = absurd t
-  kept-frame GivenSymbols symbols t = each-given (controlOf m) KeptBy symbols (λ _. (refl, refl)) (λ _. (refl, refl)) (λ _ u. absurd u) t
+  kept-frame GivenSymbols symbols t = each-given (controlOf m) KeptBy symbols (λ _ _. (refl, refl)) (λ _ _. (refl, refl)) (λ _ _ u. absurd u) t
   kept-frame EndOfTransmission symbols t = absurd t
 
   kept-update : (fill capacity latency : ℕ) → KeptBy (updateOutcome (R .p) fill capacity latency (controlOf m))

@@ -39,15 +39,15 @@ reporting-last cs c r = elim (last-parts cs c (r .before) (update (r .fill) (r .
   | inr (ws, parts) ↦ inr (record { before = r .before; fill = r .fill; capacity = r .capacity; latency = r .latency; since = ws; parts = parts; taken = r .taken; owed = r .owed })
 ]
 
-pub untold-more : (cs : List Call) (c : Call) (n : ℕ) → asks c ≡ false → (T (stores c) → Owed cs → ⊥) → Untold cs n → Untold (cs ++ c ∷ []) n
+pub untold-more : (p : ℕ) (cs : List Call) (c : Call) (n : ℕ) → asks c ≡ false → (T (stores c) → Owed cs → ⊥) → Untold p cs n → Untold p (cs ++ c ∷ []) n
 unfolding reporting-more
-untold-more cs c n quiet none-owed u =
+untold-more p cs c n quiet none-owed u =
     let r = u .report in
     let front : List Call = r .before ++ update (r .fill) (r .capacity) (r .latency) ∷ [] in
     let all : cs ≡ front ++ r .since = r .parts ∙ sym (append-assoc (r .before) (update (r .fill) (r .capacity) (r .latency) ∷ []) (r .since)) in
     record {
       report = reporting-more cs c r;
-      samples = u .samples;
+      number = u .number;
       unasked = none-more asks (r .since) c (u .unasked) quiet;
       newest = λ newer. elim (reporting-last (r .since) c newer) [
         | inl (taken, owing) ↦ none-owed taken (subst Owed (sym all) (owed-behind front (r .since) owing))

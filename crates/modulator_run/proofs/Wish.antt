@@ -27,8 +27,8 @@ raised-or-kept false w = refl
 module _ (R : Rate) where
   refused-wish : (c : Call) (number : ℕ) (w : Bool) → Refusing c number → w ≡ lasted (raises (R .p)) drops c w
   unfolding raises drops
-  refused-wish c number w miscounted = refl
-  refused-wish c number w outside = refl
+  refused-wish c number w (miscounted e) = refl
+  refused-wish c number w (outside e) = refl
   refused-wish c number w (large e) = rw e
   refused-wish c number w (below e) = rw e
 

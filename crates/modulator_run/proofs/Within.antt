@@ -6,12 +6,12 @@ use mathlib.Core.List.{List, [], _∷_, _++_, List·Memᴰ, List·Memᴰ·not-ni
 use Prim.Native.Nat.{ℕ, _+_, _-_, _≤_, _<_}
 use native.Mathlib.Omega.{arith}
 use borrow.Author.Tests.{ltb-true, ltb-false}
-use lib.Dec.{T, ltb, lit≤}
+use lib.Dec.{T, eqb, ltb, lit≤}
 use lib.IntN.{ℤ, pos, natAbs}
 use lib.ListN.{length, getD, drop, replicate, length-append, length-replicate, getD-replicate, List·getD-append}
 use lib.Seq.{getD-append-add}
 use lib.Ieee.{Float, nan, binary32, ofBits, le}
-use lib.Ieee.Fits.{and-i}
+use lib.Ieee.Fits.{and-i, and-r}
 use Rattle.numbers.specs.Firsts.{firsts}
 use Rattle.numbers.specs.Within.{Within}
 use Rattle.numbers.proofs.Bounds.{within→tests}
@@ -28,6 +28,7 @@ use Rattle.modulator_laws.proofs.Sizes.{Small, preamble-small, ending-small, gi
 use Rattle.modulator_run.specs.Stream.{sentAt}
 use Rattle.modulator_run.specs.Rules.{Call, Sent, Said, After, start, framed, frameSample, drained, called, rules, sentAll, saidAll}
 use Rattle.modulator_run.specs.Run.{recordAfter, answersTo, Given}
+use Rattle.modulator_run.specs.Kinds.{replaces}
 use Rattle.modulator_run.specs.Loudness.{SymbolsFit, Quiet}
 use Rattle.modulator_run.specs.Pieces.{counted}
 use Rattle.modulator_run.proofs.EachCall.{each-call}
@@ -70,13 +71,13 @@ module _ (R : Rate) where
   FitAfter a = SymbolsFit (a .sent .symbols)
 
   fit-called : (s : Sent) → SymbolsFit (s .symbols) → (c : Call) → FitAfter (called R s c)
-  unfolding framed drained
+  unfolding framed drained replaces
   fit-called s fit =
       each-call R s (λ (_ : Call). FitAfter) (record {
         refused = λ _ _ _. fit;
         no-frame = λ _. fit;
         delayed = λ _ _. more-fit (s .symbols) preamble fit preamble-small;
-        symbols-given = λ symbols e. more-fit (s .symbols) (given symbols) fit (given-small symbols (subst T (sym e) tt));
+        symbols-given = λ symbols e. more-fit (s .symbols) (given symbols) fit (given-small symbols (and-r (eqb (length symbols) 192) _ (subst T (sym e) tt)));
         last-frame = λ _. more-fit (s .symbols) ending fit ending-small;
         reads = λ _. fit;
         stored = λ _ _ _ _. fit;

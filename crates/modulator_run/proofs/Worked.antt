@@ -84,14 +84,14 @@ p12-run = (
   ap paddingIn (sender-run at48 facts48 (delayed 400) (delayed-given 400) .0 .progress) ∙ delayed-400,
 )
 
--- ---- two ends before one update make one report, told once; then the unread samples of the end are asked for
+-- ---- two ends before one update make one report, told once, with the 2,720 samples that are unread; then these are asked for
 abbrev pub endedTwice : List Call
 endedTwice = provide EndOfTransmission [] ∷ provide EndOfTransmission [] ∷ update 100 3000 50 ∷ ask ∷ ask ∷ []
 
 abbrev bare : Paper → Said
 bare answer = record { answer = answer; room = [] }
 
-pub one-report-said : saidAll at48 endedTwice ≡ bare done ∷ bare done ∷ bare done ∷ bare (transmitEnd 150) ∷ bare readOutput ∷ []
+pub one-report-said : saidAll at48 endedTwice ≡ bare done ∷ bare done ∷ bare done ∷ bare (transmitEnd 2870) ∷ bare readOutput ∷ []
 unfolding answers called updateOutcome settled frameOutcome framed actionBy
 one-report-said = refl
 

@@ -3,9 +3,13 @@ use mathlib.Core.Path.{_≡_}
 use mathlib.Core.Bool.{Bool, true, false, not, _&&_}
 use mathlib.Core.List.{List, [], _∷_, _++_}
 use Prim.Native.Nat.{ℕ, _-_}
-use lib.Dec.{T, leb, ltb}
+use lib.Dec.{T, eqb, leb, ltb}
+use lib.ListN.{length, getD}
+use lib.Ieee.{nan}
+use Rattle.numbers.specs.Below.{allBelow}
 use Rattle.shaping.specs.Rate.{wishRoom}
 use Rattle.modulator.specs.declared.ModulatorFrame.the-variants.{Nothing as NoFrame, Preamble, Symbols as GivenSymbols, EndOfTransmission}
+use Rattle.modulator.specs.Frame.{symbolFit}
 use Rattle.modulator.specs.Outcome.{tooLarge}
 use Rattle.modulator_run.specs.Rules.{Call, provide, read, update, ask}
 
@@ -38,6 +42,17 @@ drops (provide EndOfTransmission symbols) = false
 drops (read room) = false
 drops (update fill capacity latency) = false
 drops ask = false
+
+-- "Any other replaces unread samples": each frame but none, if it is not refused. 6: "symbols not exactly 192"; 7: "a symbol
+-- not a number or outside -1 to 1"
+unfoldable pub replaces : Call → Bool
+replaces (provide NoFrame symbols) = false
+replaces (provide (Preamble steps) symbols) = true
+replaces (provide GivenSymbols symbols) = eqb (length symbols) 192 && allBelow 192 (λ (i : ℕ). symbolFit (getD symbols i nan))
+replaces (provide EndOfTransmission symbols) = true
+replaces (read room) = false
+replaces (update fill capacity latency) = false
+replaces ask = false
 
 -- Of padding: "Only a preamble sets it."
 unfoldable pub delays : Call → Bool

@@ -8,12 +8,15 @@ pub mod Represents
 pub mod Loudness
 -- calls by their kind
 pub mod Kinds
--- what is told once
-pub mod Reports
--- the wish for a frame, and the padding
+-- the wish for a frame, the padding, and the frame samples unread
 pub mod Wish
 pub mod Padding
+pub mod Unread
+-- what is told once
+pub mod Reports
 -- the end of transmission
 pub mod EndFrame
 -- reads in pieces
 pub mod Pieces
+-- what the number of an end covers
+pub mod EndCovers

@@ -33,6 +33,10 @@ delayStep p = 48 * p
 abbrev pub paddingLimit : ℕ → ℕ
 paddingLimit p = 255 * delayStep p
 
+-- "The record's limit for a reported end becomes 33,680,832, raised by 4,000 for the frame and 122,400 for padding."
+abbrev pub endLimit : ℕ → ℕ
+endLimit p = 33554432 + storePlaces p + paddingLimit p
+
 -- "at least 2,000"
 abbrev pub wishRoom : ℕ → ℕ
 wishRoom p = 200 * p

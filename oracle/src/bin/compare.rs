@@ -1,5 +1,5 @@
-//! Holds the port against the old modem at scale: the programs that `tools/native` makes of it, and modem.rs as it
-//! stands, on the same random inputs, bit for bit. `tools/compare` builds and runs it; docs/COMPARISON.md says
+//! Holds the port against the old modem at scale: the programs that `tools/native` makes of it, and modem.rs with
+//! its amendments, on the same random inputs, bit for bit. `tools/compare` builds and runs it; docs/COMPARISON.md says
 //! what was compared. A difference is printed with the smallest input found that shows it, and ends the run
 //! with status 1.
 
@@ -23,12 +23,14 @@ mod modem;
 mod protocol;
 #[path = "../random.rs"]
 mod random;
-/// shaping.rs, the very file.
+/// shaping.rs, whole.
 mod shaping {
-    include!(env!("M17CORE_SHAPING"));
+    include!(concat!(env!("OUT_DIR"), "/shaping.rs"));
 }
 #[path = "../signal/mod.rs"]
 mod signal;
+#[path = "../unamended/mod.rs"]
+mod unamended;
 
 use compare::port::Program;
 use compare::tally::Tally;

@@ -1,4 +1,4 @@
-//! Times the port beside the old modem: the program that `tools/native speed` makes, and modem.rs as it stands,
+//! Times the port beside the old modem: the program that `tools/native speed` makes, and modem.rs with its amendments,
 //! in one run and on the same inputs. Prints ratios, the port's time over the old modem's, each a median;
 //! stops if the two do not come to the same. `tools/speed` builds and runs it.
 
@@ -22,9 +22,9 @@ mod programs;
 mod protocol;
 #[path = "../random.rs"]
 mod random;
-/// shaping.rs, the very file.
+/// shaping.rs, whole.
 mod shaping {
-    include!(env!("M17CORE_SHAPING"));
+    include!(concat!(env!("OUT_DIR"), "/shaping.rs"));
 }
 #[path = "../signal/mod.rs"]
 mod signal;

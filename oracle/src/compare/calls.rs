@@ -5,7 +5,7 @@ use super::flat::{ACTION, AMOUNT, SENDER_REFUSAL};
 use super::port::{Program, Sending};
 use super::refusals;
 use super::values::not_numbers;
-use super::{caught, tally::Tally};
+use super::{caught, tally::Tally, unamended};
 use crate::bits::row;
 use crate::harness::{a_packet, a_stream, an_lsf, lay_symbols};
 use crate::modem::peek::{lay_window, sending};
@@ -72,10 +72,11 @@ impl Pair {
             return self.refused(&before, &room, expected, tally);
         }
         caught(|| self.ask_old(call, &room))??;
-        match senders_differ(&flat::sender(&self.old), &self.port) {
-            Some(what) => Err(what),
-            None => Ok(true),
+        let mut what = senders_differ(&flat::sender(&self.old), &self.port);
+        if let Call::Update(counts) = call {
+            what = what.or_else(|| unamended::difference(&before, *counts, &self.port, tally));
         }
+        what.map_or(Ok(true), Err)
     }
 
     fn ask_port(&mut self, program: &mut Program, call: &Call, room: &mut [i16]) {

@@ -4,9 +4,8 @@
 
 use super::wire;
 use crate::decode::KINDS;
-use crate::modem::lay;
-use crate::modem::peek::{self, Control, Held, Sending};
-use crate::modem::{SoftDemodulator, SoftModulator};
+use crate::modem::kept::{Control, Held, Sending};
+use crate::modem::{lay, peek, SoftDemodulator, SoftModulator};
 
 /// The places of the receiver's numbers. Up to `OWED` they are the record, behind it an answer.
 pub const FILTER_CURSOR: usize = 0;
@@ -299,47 +298,58 @@ impl Sender {
         wire::floats(&bytes[VALUES_AT..], &mut self.window);
         wire::samples(&bytes[STORE_AT..], &mut self.store);
     }
+
+    /// A record of the old modem by its parts: the window and its cursor, the store, and what it keeps besides.
+    pub fn of((cursor, window): (usize, [f32; 81]), store: &[i16; 4000], kept: Sending) -> Self {
+        let mut flat = Sender::empty();
+        flat.store = *store;
+        flat.window = window;
+        flat.numbers[..=CAPACITY].copy_from_slice(&[
+            cursor as u64,
+            kept.length as u64,
+            kept.read as u64,
+            kept.padding as u64,
+            u64::from(kept.idle_due),
+            u64::from(kept.end_owed),
+            u64::from(kept.end.is_some()),
+            kept.end.unwrap_or(0) as u64,
+            u64::from(kept.wish),
+            kept.latency as u64,
+            kept.fill as u64,
+            kept.capacity as u64,
+        ]);
+        flat
+    }
+
+    pub fn cursor(&self) -> usize {
+        self.numbers[CURSOR] as usize
+    }
+
+    /// What a fit record keeps besides, as the old modem has it.
+    pub fn kept(&self) -> Sending {
+        let n = self.numbers.map(|number| number as usize);
+        Sending {
+            length: n[LENGTH],
+            read: n[READ],
+            padding: n[PADDING],
+            idle_due: n[IDLE_DUE] == 1,
+            wish: n[WISH] == 1,
+            end_owed: n[END_OWED] == 1,
+            end: (n[END_HELD] == 1).then_some(n[END]),
+            fill: n[FILL],
+            capacity: n[CAPACITY],
+            latency: n[LATENCY],
+        }
+    }
 }
 
 pub fn sender(old: &SoftModulator) -> Sender {
-    let (cursor, window) = peek::window(old);
-    let kept = peek::sending(old);
-    let mut flat = Sender::empty();
-    flat.store = *lay::store(old);
-    flat.window = window;
-    flat.numbers[..=CAPACITY].copy_from_slice(&[
-        cursor as u64,
-        kept.length as u64,
-        kept.read as u64,
-        kept.padding as u64,
-        u64::from(kept.idle_due),
-        u64::from(kept.end_owed),
-        u64::from(kept.end.is_some()),
-        kept.end.unwrap_or(0) as u64,
-        u64::from(kept.wish),
-        kept.latency as u64,
-        kept.fill as u64,
-        kept.capacity as u64,
-    ]);
-    flat
+    Sender::of(peek::window(old), lay::store(old), peek::sending(old))
 }
 
 /// The old modem with a fit record's values in its private fields.
 pub fn old_sender(flat: &Sender) -> SoftModulator {
-    let n = flat.numbers.map(|number| number as usize);
-    let kept = Sending {
-        length: n[LENGTH],
-        read: n[READ],
-        padding: n[PADDING],
-        idle_due: n[IDLE_DUE] == 1,
-        wish: n[WISH] == 1,
-        end_owed: n[END_OWED] == 1,
-        end: (n[END_HELD] == 1).then_some(n[END]),
-        fill: n[FILL],
-        capacity: n[CAPACITY],
-        latency: n[LATENCY],
-    };
-    lay::sender(&flat.store, n[CURSOR], &flat.window, kept)
+    lay::sender(&flat.store, flat.cursor(), &flat.window, flat.kept())
 }
 
 pub fn senders_differ(old: &Sender, port: &Sender) -> Option<String> {

@@ -10,7 +10,8 @@ use super::values::numbered;
 use super::{caught, Difference};
 use crate::decode::{name, SyncBurst, KINDS};
 use crate::harness::{lay_replies, take_offer, Offer};
-use crate::modem::peek::{control, Control};
+use crate::modem::kept::Control;
+use crate::modem::peek::control;
 use crate::modem::{Demodulator, SoftDemodulator};
 use crate::random::Random;
 

@@ -13,6 +13,7 @@ pub mod smallest;
 pub mod steps;
 pub mod stretches;
 pub mod tally;
+pub mod unamended;
 pub mod values;
 pub mod wire;
 

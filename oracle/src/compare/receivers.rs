@@ -5,7 +5,7 @@ use super::refusals::tested;
 use super::steps::{Case, Step};
 use super::values::{in_range, nan, numbered, out_of_range};
 use crate::decode::{signs, sync_burst_correlation, SyncBurst, KINDS};
-use crate::modem::peek::{Control, Held};
+use crate::modem::kept::{Control, Held};
 use crate::random::Random;
 use crate::shaping::RRC_48K;
 

@@ -1,5 +1,5 @@
 //! Which refusal document 01 gives for a call: 'Refusal numbers' and the two unfit lists, the smallest number
-//! first; 0 for none. The old modem has none of them.
+//! first; 0 for none. Request a of document 02 raises the limit of a reported end. The old modem has none of them.
 
 use super::calls::{Call, Frame};
 use super::flat::*;
@@ -77,7 +77,7 @@ fn sender_fit(record: &Sender) -> bool {
             .iter()
             .all(|&count| count <= LARGEST_COUNT)
         && n[FILL] <= n[CAPACITY]
-        && (n[END_HELD] == 0 || n[END] <= 2 * LARGEST_COUNT)
+        && (n[END_HELD] == 0 || n[END] <= 2 * LARGEST_COUNT + 4_000 + 122_400)
 }
 
 pub fn of_sender(record: &Sender, call: &Call) -> u64 {

@@ -101,7 +101,7 @@ fn made_up(random: &mut Random) -> Sender {
     let mut count = |most: usize| random.below(most + 1) as u64;
     let (a, b) = (count(16_777_216), count(16_777_216));
     let latency = count(16_777_216);
-    let end = count(33_554_432);
+    let end = count(33_680_832);
     let flags = count(31);
     record.numbers[..=CAPACITY].copy_from_slice(&[
         random.below(81) as u64,
@@ -138,7 +138,7 @@ fn spoil(random: &mut Random, record: &mut Sender) {
             6 => n[FILL + random.below(2)] = *random.pick(&[16_777_217, u64::MAX]),
             7 => n[LATENCY] = *random.pick(&[16_777_217, u64::MAX]),
             8 => (n[FILL], n[CAPACITY]) = (1 + n[CAPACITY].min(16_777_215), n[CAPACITY]),
-            _ => (n[END_HELD], n[END]) = (1, *random.pick(&[33_554_433, u64::MAX])),
+            _ => (n[END_HELD], n[END]) = (1, *random.pick(&[33_680_833, u64::MAX])),
         }
     }
 }

@@ -12,7 +12,8 @@ use super::{caught, Difference};
 use crate::bits::row;
 use crate::decode::{name, KINDS};
 use crate::harness::{lay_replies, take_offer, Offer};
-use crate::modem::peek::{control, Control, Held};
+use crate::modem::kept::{Control, Held};
+use crate::modem::peek::control;
 use crate::modem::{lay, Demodulator, SoftDemodulator};
 use crate::random::Random;
 

@@ -2,7 +2,8 @@
 
 use crate::decode::SyncBurst;
 use crate::harness::{lay_replies, take_offer};
-use crate::modem::peek::{control, Control, Held};
+use crate::modem::kept::{Control, Held};
+use crate::modem::peek::control;
 use crate::modem::{Demodulator, SoftDemodulator};
 
 /// Whether the receiver keeps a candidate of this kind and age.

@@ -5,7 +5,8 @@ use crate::bits::{hex, row};
 use crate::decode::name;
 use crate::harness::{lay_replies, replies_left, take_offer};
 use crate::lists::streams::{streams, Script};
-use crate::modem::peek::{control, cursors, Control, Held};
+use crate::modem::kept::{Control, Held};
+use crate::modem::peek::{control, cursors};
 use crate::modem::{Demodulator, SoftDemodulator};
 
 pub fn write() -> String {

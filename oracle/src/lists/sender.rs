@@ -27,6 +27,7 @@ pub fn write() -> String {
     extremes(&mut Session::new(&mut list, "extremes"));
     replaced(&mut Session::new(&mut list, "replaced"));
     shrinking(&mut Session::new(&mut list, "shrinking"));
+    ends(&mut Session::new(&mut list, "ends"));
     list
 }
 
@@ -268,6 +269,34 @@ fn shrinking(session: &mut Session) {
     session.end();
     session.update(16_777_216, 16_777_216, 16_777_216);
     session.run();
+    session.run();
+}
+
+/// Ends that an update finds unread, half read, with padding before them, and replaced by another frame; and the
+/// largest number that a session comes to. One that is read out is in `whole`.
+fn ends(session: &mut Session) {
+    session.end();
+    session.update(0, 0, 0);
+    session.run();
+    session.end();
+    session.read(100);
+    session.update(30, 50, 7);
+    session.run();
+    session.preamble(1);
+    session.read(30);
+    session.end(); // 443 of the padding are left
+    session.update(100, 3000, 50);
+    session.run();
+    session.read(450);
+    session.end();
+    session.symbols(house_frame()); // in the place of the end
+    session.read(20);
+    session.update(100, 3000, 50);
+    session.run();
+    session.update(0, 0, 0);
+    session.preamble(255);
+    session.end();
+    session.update(16_777_216, 16_777_216, 16_777_216);
     session.run();
 }
 

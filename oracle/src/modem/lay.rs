@@ -1,7 +1,7 @@
 //! Reads and sets every private field of the modem's records, for tools/compare.
 
-use super::peek::{Control, Held, Sending};
 use super::{DecodeCandidate, SoftDemodulator, SoftModulator};
+use crate::modem::kept::{Control, Held, Sending};
 
 /// The ring of samples and the ring of filtered values, place by place.
 pub fn rings(receiver: &SoftDemodulator) -> (&[i16; 81], &[f32; 1920]) {

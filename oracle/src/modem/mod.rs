@@ -1,9 +1,11 @@
-//! modem.rs, the very file, and below it the modules that look into its records and make them up.
+//! modem.rs, whole, with the amendments of the requests, and below it the modules that look into its records and
+//! make them up.
 
 #![allow(clippy::needless_range_loop)]
 
-include!(env!("M17CORE_MODEM"));
+include!(concat!(env!("OUT_DIR"), "/modem.rs"));
 
+pub mod kept;
 pub mod peek;
 
 #[cfg(feature = "compare")]

@@ -1,25 +1,7 @@
 //! Looks into the modem's private fields. A child module may, so modem.rs needs no change for it.
 
 use super::{SoftDemodulator, SoftModulator};
-use crate::decode::SyncBurst;
-
-/// What the receiver keeps besides its two rings.
-#[derive(Clone, Copy, PartialEq)]
-pub struct Control {
-    pub count: u64,
-    pub candidate: Option<Held>,
-    pub wait: Option<u16>,
-    pub timer: Option<u64>,
-}
-
-#[derive(Clone, Copy, PartialEq)]
-pub struct Held {
-    pub(crate) burst: SyncBurst,
-    pub age: u8,
-    pub diff: f32,
-    pub gain: f32,
-    pub shift: f32,
-}
+use crate::modem::kept::{Control, Held, Sending};
 
 pub fn control(receiver: &SoftDemodulator) -> Control {
     Control {
@@ -44,20 +26,6 @@ pub fn cursors(receiver: &SoftDemodulator) -> (usize, usize) {
 /// The filtered value that the last sample gave.
 pub fn newest(receiver: &SoftDemodulator) -> f32 {
     receiver.rx_win[(receiver.rx_cursor + 1920 - 1) % 1920]
-}
-
-/// What the sender keeps besides its window and its frame.
-pub struct Sending {
-    pub length: usize,
-    pub read: usize,
-    pub padding: usize,
-    pub idle_due: bool,
-    pub wish: bool,
-    pub end_owed: bool,
-    pub end: Option<usize>,
-    pub fill: usize,
-    pub capacity: usize,
-    pub latency: usize,
 }
 
 pub fn sending(sender: &SoftModulator) -> Sending {

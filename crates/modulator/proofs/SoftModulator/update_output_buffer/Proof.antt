@@ -6,6 +6,7 @@ use borrow.Author.Tests.{not-true, not-false}
 use Rattle.shaping.specs.Rate.{at48}
 use Rattle.modulator.specs.Fit.{recordFit}
 use Rattle.modulator.specs.Outcome.{tooLarge}
+use Rattle.modulator.proofs.Fitness.{record-facts}
 use Rattle.modulator.proofs.Cases.{counts-taken, update-unfit, update-large, update-below, update-done}
 use Rattle.modulator.proofs.SoftModulator.update_output_buffer.Statement.{statement}
 use Rattle.modulator.proofs.SoftModulator.update_output_buffer.Tie as tie
@@ -56,20 +57,25 @@ returns-3 c =
     let e = update-below at48 (a .self) (a .samples-to-play .0) (a .capacity .0) (a .output-latency .0) (fit f) (small s) (c .if3 .taken) in
     record { answers = rw e; leaves = rw e }
 
-updated-pending-requires : tie.Need-updated-pending-requires
-updated-pending-requires c κs =
-    let s = c .before .before .before .before in
-    let a = s .before .before .before .before .before .before .args in
+end-after-requires : tie.Need-end-after-requires
+end-after-requires c κs =
+    let s = c .before .before .before .before .before in
+    let e = s .before .before .before .before in
+    let a = e .before .before .args in
     let f = counts-taken (a .samples-to-play .0) (a .capacity .0) (a .output-latency .0) (small s) in
-    (f .0, f .2)
+    let far = record-facts 10 (a .self) (fit e) .progress in
+    ((f .0, f .2), (far .padding, (far .read, far .len)))
+
+updated-pending-requires : tie.Need-updated-pending-requires
+updated-pending-requires c κs = search needs
 
 returns-4 : tie.Need-returns-4
 returns-4 c =
-    let s = c .before .before .before .before .before in
+    let s = c .before .before .before .before .before .before .before in
     let f = s .before .before .before .before in
     let a = f .before .before .args in
-    let e = update-done at48 (a .self) (a .samples-to-play .0) (a .capacity .0) (a .output-latency .0) (fit f) (small s) (c .before .before .if3 .left) in
-    record { answers = rw e; leaves = rw (e, c .updated-pending .ensures) }
+    let e = update-done at48 (a .self) (a .samples-to-play .0) (a .capacity .0) (a .output-latency .0) (fit f) (small s) (c .before .before .before .before .if3 .left) in
+    record { answers = rw e; leaves = rw (e, c .updated-pending .ensures, c .before .end-after .ensures) }
 
 pub update-output-buffer-spec : {M : Type 1} → statement M
 update-output-buffer-spec =
@@ -82,5 +88,6 @@ update-output-buffer-spec =
     count-fit-requires-3
     returns-2
     returns-3
+    end-after-requires
     updated-pending-requires
     returns-4)
