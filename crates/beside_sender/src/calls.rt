@@ -10,6 +10,8 @@ use modulator::Read;
 use modulator::SampleCount;
 use modulator::SoftModulator;
 use modulator::Updated;
+use protocol::Place;
+use protocol::Refusal;
 ghost use Prim.Native.Nat.{_≤_};
 
 const FRESH: u64 = 0;
@@ -41,23 +43,32 @@ fn told(refusal: u32, action: u64, amount: usize) -> Words {
     }
 }
 
+// A refusal by its number, with its place or 0.
+fn refused(why: Refusal) -> Words {
+    let place = why.place();
+    match place {
+        Place::Nothing => told(why.number(), 0, 0),
+        Place::At(at) => told(why.number(), 0, at),
+    }
+}
+
 fn provided(answer: Provided) -> Words {
     match answer {
-        Provided::Refused(why) => told(why.number(), 0, 0),
+        Provided::Refused(why) => refused(why),
         Provided::Done => told(0, 0, 0),
     }
 }
 
 fn wrote(answer: Read) -> Words {
     match answer {
-        Read::Refused(why) => told(why.number(), 0, 0),
+        Read::Refused(why) => refused(why),
         Read::Wrote(count) => told(0, 0, count.0),
     }
 }
 
 fn updated(answer: Updated) -> Words {
     match answer {
-        Updated::Refused(why) => told(why.number(), 0, 0),
+        Updated::Refused(why) => refused(why),
         Updated::Done => told(0, 0, 0),
     }
 }
@@ -69,7 +80,7 @@ fn idle_number(yes: bool) -> u64 {
 // An action by its number: 0 for nothing, 1 for the end, 2 to read, 3 and 4 for idle yes and no, 5 to get a frame.
 fn ran(answer: ModulatorAction) -> Words {
     match answer {
-        ModulatorAction::Refused(why) => told(why.number(), 0, 0),
+        ModulatorAction::Refused(why) => refused(why),
         ModulatorAction::TransmissionWillEnd(end) => told(0, 1, end.0),
         ModulatorAction::ReadOutput => told(0, 2, 0),
         ModulatorAction::SetIdle(yes) => told(0, idle_number(yes), 0),

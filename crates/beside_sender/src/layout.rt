@@ -1,6 +1,6 @@
 // The sender's record in bytes: 15 numbers, the window's 81 values, the store's 4,000 samples. The numbers are the cursor, the length, the read place, the padding, whether idle is to be told,
 // whether an end is owed, whether one is to be reported and which, the wish for a frame, the latency, the fill, the capacity; then an answer: the refusal's number or 0, the action, and the
-// count that goes with it. The numbers end at byte 120, the window at 444 and the store at 8,444.
+// count or the place that goes with it. The numbers end at byte 120, the window at 444 and the store at 8,444.
 use libc::STDOUT_FILENO;
 use modulator::EndReport;
 use modulator::OutputBuffer;

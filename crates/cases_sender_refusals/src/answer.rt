@@ -1,14 +1,16 @@
-// A call's answer: its words, the number that goes with them, whether a refusal changed anything, and what stands in the room of a read.
+// A call's answer: its words, the number and the place that go with them, whether a refusal changed anything, and what stands in the room of a read.
 use modulator::ModulatorAction;
 use modulator::Provided;
 use modulator::Read;
 use modulator::Updated;
+use protocol::Place;
 use protocol::Refusal;
 ghost use Prim.Native.Nat.{_≤_};
 
 pub(crate) struct Answer {
     pub words: usize,
     pub number: u64,
+    pub place: Place,
     pub changed: bool,
     pub room: [i16; 16],
 }
@@ -45,6 +47,7 @@ fn plain(words: usize, number: u64) -> Answer {
     Answer {
         words,
         number,
+        place: Place::Nothing,
         changed: false,
         room: [UNWRITTEN; 16],
     }
@@ -55,6 +58,7 @@ fn refused(why: Refusal, kept: bool) -> Answer {
     Answer {
         words: REFUSED,
         number: why.number() as u64,
+        place: why.place(),
         changed: !kept,
         room: [UNWRITTEN; 16],
     }
@@ -84,6 +88,7 @@ pub(crate) fn of_read(answer: Read, kept: bool, room: [i16; 16]) -> Answer {
         Read::Wrote(count) => Answer {
             words: WROTE,
             number: count.0 as u64,
+            place: Place::Nothing,
             changed: false,
             room,
         },
@@ -111,11 +116,35 @@ fn same_room(a: [i16; 16], b: [i16; 16]) -> bool {
     all
 }
 
+fn is_at(place: Place, at: usize) -> bool {
+    match place {
+        Place::Nothing => false,
+        Place::At(other) => other == at,
+    }
+}
+
+fn is_nothing(place: Place) -> bool {
+    match place {
+        Place::Nothing => true,
+        Place::At(_) => false,
+    }
+}
+
+fn same_place(a: Place, b: Place) -> bool {
+    match a {
+        Place::Nothing => is_nothing(b),
+        Place::At(at) => is_at(b, at),
+    }
+}
+
 pub(crate) fn same(a: Answer, b: Answer) -> bool {
     let room = a.room;
     let other = b.room;
+    let place = a.place;
+    let beside = b.place;
     (a.words == b.words)
         & (a.number == b.number)
+        & same_place(place, beside)
         & (a.changed == b.changed)
         & same_room(room, other)
 }
@@ -145,13 +174,22 @@ fn put_room(room: [i16; 16], size: usize)
     }
 }
 
+fn put_place(place: Place) {
+    if let Place::At(at) = place {
+        io::write_all(1, b" at");
+        cases_text::put_count(at as u64);
+    }
+}
+
 // What stands in the room is shown where the line says how large it is.
 pub(crate) fn put(answer: Answer, parts: &[u8]) {
     let room = answer.room;
+    let place = answer.place;
     put_words(answer.words);
     if answer.words <= TRANSMIT_END {
         cases_text::put_count(answer.number);
     }
+    put_place(place);
     if answer.changed {
         put_words(AND_CHANGED);
     }

@@ -22,12 +22,15 @@ fn at_most(n: usize, most: usize) -> usize
     if n <= most { n } else { most }
 }
 
-// One value in all places but one.
+// One value in all places but two, or one.
 fn symbols(parts: &[u8]) -> [f32; 193] {
     let others = cases_text::float_behind(parts, b"others", 0.5);
     let mut symbols = [others; 193];
     let at = made::count(parts, made::PLACE) % 193;
     symbols[at] = cases_text::float_behind(parts, b"symbol", others);
+    let second = made::count(parts, made::SECOND_PLACE) % 193;
+    let own = symbols[second];
+    symbols[second] = cases_text::float_behind(parts, b"second", own);
     symbols
 }
 

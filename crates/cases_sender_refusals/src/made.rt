@@ -33,10 +33,12 @@ pub(crate) const TO_CAPACITY: usize = 22;
 
 pub(crate) const TO_LATENCY: usize = 24;
 
+pub(crate) const SECOND_PLACE: usize = 26;
+
 // The number that a line names, or else the fit line's. It has the counts of the fit record, and then the operands of the calls.
 pub(crate) fn count(parts: &[u8], place: usize) -> usize {
     let fit =
-        b"cursor 3 length 8 read_place 2 padding 5 fill 100 capacity 200 latency 30 given 192 place 0 room 16 to_fill 0 to_capacity 2000 to_latency 0";
+        b"cursor 3 length 8 read_place 2 padding 5 fill 100 capacity 200 latency 30 given 192 place 0 room 16 to_fill 0 to_capacity 2000 to_latency 0 second_place 0";
     let name = cases_text::word(fit, place);
     let own = cases_text::count_behind(fit, name, 0);
     cases_text::count_behind(parts, name, own) as usize

@@ -13,7 +13,7 @@ use Rattle.numbers.specs.Below.{anyBelow, allBelow}
 use Rattle.numbers.specs.Sum.{sumTo}
 use Rattle.protocol.specs.declared.SyncBurst.{SyncBurst}
 use Rattle.protocol.specs.Bursts.{signsOf}
-use Rattle.protocol.specs.Refusals.{paperNumber}
+use Rattle.protocol.specs.Refusals.{PaperRefusal, bare, onPaper}
 use Rattle.decode.specs.declared.Correlation.{Correlation}
 use Rattle.decode.specs.declared.Correlated.{Correlated}
 use Rattle.decode.specs.declared.Correlated.the-variants.{Refused, Answered}
@@ -93,13 +93,13 @@ matches burst v = lt (correlation burst v .diff) threshold
 unfoldable pub inRange : Float → Bool
 inRange x = le (ofBits binary32 0xc974_2400) x && le x (ofBits binary32 0x4974_2400)
 
--- the paper's answer: a refusal's number, or diff, gain and shift
+-- the paper's answer: a refusal, or diff, gain and shift
 pub data Paper : Type 0 where
-  refusal : ℕ → Paper
+  refusal : PaperRefusal → Paper
   values : Float → Float → Float → Paper
 
 abbrev pub paper : Correlated → Paper
-paper (Refused why) = refusal (paperNumber why)
+paper (Refused why) = refusal (onPaper why)
 paper (Answered c) = values (c .diff) (c .gain) (c .shift)
 
 abbrev pub told : Correlation → Paper
@@ -111,8 +111,8 @@ correlated burst vs =
     cond (eqb (length vs) 8)
     (cond (allBelow 8 (λ (i : ℕ). inRange (getD vs i nan)))
     (told (correlation burst (λ (i : ℕ). getD vs i nan)))
-    (refusal 10))
-    (refusal 6)
+    (refusal (bare 10)))
+    (refusal (bare 6))
 
 -- ---- what the functions promise
 abbrev pub in-range-says : Float → Bool → Type 0

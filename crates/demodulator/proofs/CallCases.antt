@@ -10,7 +10,7 @@ use lib.Ieee.{Float}
 use borrow.Author.Tests.{lt-ltb, le-ltb, eq-eqb, ne-eqb}
 use Rattle.shaping.specs.Rate.{at48}
 use Rattle.protocol.specs.declared.Refusal.{Refusal}
-use Rattle.protocol.specs.Refusals.{paperNumber}
+use Rattle.protocol.specs.Refusals.{bare, onPaper}
 use Rattle.search.specs.declared.Control.{Control}
 use Rattle.search.specs.declared.Reply.{Reply}
 use Rattle.search.specs.Turn.{Outcome, sampled}
@@ -50,7 +50,7 @@ module _ (m : SoftDemodulator) (x : ℤ) (room : List Float) where
 
 -- a refusal's step, of a record that is given by its parts
 pub refuses : (window : List ℤ) (ring room : List Float) (at : Places) (c : Control) (x : ℤ) (why : Refusal) (r : Stepped) → r ≡ unmoved why at c
-    → let m = assembled window (at .«filter_cursor») ring (at .«rx_cursor») c in demodulated at48 m x room ≡ refused (paperNumber why) m room → Steps window ring at c x room r window ring room
+    → let m = assembled window (at .«filter_cursor») ring (at .«rx_cursor») c in demodulated at48 m x room ≡ record { answer = refusal (onPaper why); demodulator = m; room = room } → Steps window ring at c x room r window ring room
 refuses window ring room at c x why r e d = rw e (record { answers = rw d; leaves = rw d; writes = rw d })
 
 -- ---- a reply
@@ -69,7 +69,7 @@ module _ (m : SoftDemodulator) (reply : Reply) (room : List Float) where
     reply-taken e = rw (fit, e)
 
 -- ---- the carrier
-pub carrier-unfit : (m : SoftDemodulator) → recordFit 10 m ≡ false → detected 10 m ≡ refusal 1
+pub carrier-unfit : (m : SoftDemodulator) → recordFit 10 m ≡ false → detected 10 m ≡ refusal (bare 1)
 unfolding detected
 carrier-unfit m e = rw e
 

@@ -13,7 +13,7 @@ use Rattle.numbers.proofs.Answer.{same-answer}
 use Rattle.shaping.specs.Rate.{Rate, at48}
 use Rattle.protocol.specs.declared.Refusal.{Refusal}
 use Rattle.protocol.specs.declared.Refusal.the-variants.{RecordUnfit}
-use Rattle.protocol.specs.Refusals.{paperNumber}
+use Rattle.protocol.specs.Refusals.{PaperRefusal, onPaper}
 use Rattle.search.specs.Turn.{Outcome, quiet, offer, sampled}
 use Rattle.search.proofs.AgeInPass.{by-test}
 use Rattle.demodulator.specs.declared.SoftDemodulator.{SoftDemodulator}
@@ -36,7 +36,7 @@ drop-at (suc i) (x ∷ xs) d l = drop-at i xs d (le-of-suc-le-suc l)
 -- ---- a refused sample
 -- "Every refusal returns its number only, with record and buffers as they were."
 abbrev Unmoved : SoftDemodulator → List Float → Left → Type 0
-Unmoved m room l = (number : ℕ) → l .answer ≡ refusal number → (l .demodulator ≡ m) × (l .room ≡ room)
+Unmoved m room l = (number : PaperRefusal) → l .answer ≡ refusal number → (l .demodulator ≡ m) × (l .room ≡ room)
 
 finished-unmoved : (m n : SoftDemodulator) (room : List Float) (o : Outcome) → Unmoved m room (finished 10 n room o)
 finished-unmoved m n room (quiet c) number e = let z : _≡_ {A = ℕ} 0 1 = cc in absurd (omega arith)
@@ -70,7 +70,7 @@ restFrom R = fedFrom SoftDemodulator (sampleSaid R) (sampleNext R) (sampleRoom R
 abbrev pub ends : ℕ → Heard → SoftDemodulator → List Float → Stretch SoftDemodulator
 ends n answer m room = record { answer = heardPaper (toldAfter n answer); fed = n + wentIn answer; state = m; room = room }
 
-stops : (b : Bool) (why : Refusal) → heardPaper (cond b (Refused why) Quiet) ≡ cond b (refusal (paperNumber why)) nothing
+stops : (b : Bool) (why : Refusal) → heardPaper (cond b (Refused why) Quiet) ≡ cond b (refusal (onPaper why)) nothing
 stops true why = refl
 stops false why = refl
 

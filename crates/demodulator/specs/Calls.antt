@@ -9,7 +9,7 @@ use lib.ListN.{length}
 use lib.Ieee.{Float}
 use Rattle.numbers.specs.Firsts.{written}
 use Rattle.shaping.specs.Rate.{Rate, at48}
-use Rattle.protocol.specs.Refusals.{paperNumber}
+use Rattle.protocol.specs.Refusals.{PaperRefusal, bare, onPaper}
 use Rattle.search.specs.declared.Timer.{Timer}
 use Rattle.search.specs.declared.Timer.the-variants.{Off, Until}
 use Rattle.search.specs.declared.Shown.{Shown}
@@ -29,9 +29,9 @@ use Rattle.demodulator.specs.Spans.{eight, symbolAt}
 use Rattle.demodulator.specs.Record.{back, fresh, stored, withControl}
 use Rattle.demodulator.specs.Fit.{recordFit, fitForSample, fitForReply}
 
--- ---- the paper's answers: a refusal's number, or the paper's values
+-- ---- the paper's answers: a refusal, or the paper's values
 pub data Paper : Type 0 where
-  refusal : ℕ → Paper
+  refusal : PaperRefusal → Paper
   nothing : Paper
   frame : Offer → Paper
   done : Paper
@@ -39,23 +39,23 @@ pub data Paper : Type 0 where
 
 -- "Every refusal returns its number only"
 abbrev pub isRefusal : Paper → Bool
-isRefusal (refusal number) = true
+isRefusal (refusal why) = true
 isRefusal nothing = false
 isRefusal (frame o) = false
 isRefusal done = false
 isRefusal (carrier held) = false
 
 abbrev pub heardPaper : Heard → Paper
-heardPaper (HeardRefused why) = refusal (paperNumber why)
+heardPaper (HeardRefused why) = refusal (onPaper why)
 heardPaper Quiet = nothing
 heardPaper (Offered o) = frame o
 
 abbrev pub repliedPaper : Replied → Paper
-repliedPaper (ReplyRefused why) = refusal (paperNumber why)
+repliedPaper (ReplyRefused why) = refusal (onPaper why)
 repliedPaper Done = done
 
 abbrev pub carrierPaper : Carrier → Paper
-carrierPaper (CarrierRefused why) = refusal (paperNumber why)
+carrierPaper (CarrierRefused why) = refusal (onPaper why)
 carrierPaper (Detected there) = carrier there
 
 -- ---- what a call leaves
@@ -66,7 +66,7 @@ pub record Left : Type 0 where
 
 -- "Every refusal returns its number only, with record and buffers as they were."
 abbrev pub refused : ℕ → SoftDemodulator → List Float → Left
-refused number m room = record { answer = refusal number; demodulator = m; room = room }
+refused number m room = record { answer = refusal (bare number); demodulator = m; room = room }
 
 -- ---- a sample
 -- "the kind, the sample number d"
@@ -108,7 +108,7 @@ timerHeld Off = false
 timerHeld (Until end) = true
 
 unfoldable pub detected : ℕ → SoftDemodulator → Paper
-detected p m = cond (not (recordFit p m)) (refusal 1) (carrier (timerHeld (m .control .dcd)))
+detected p m = cond (not (recordFit p m)) (refusal (bare 1)) (carrier (timerHeld (m .control .dcd)))
 
 -- ---- what the functions promise, at 48 kHz
 abbrev pub new-says : SoftDemodulator → Type 0

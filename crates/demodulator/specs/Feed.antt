@@ -7,6 +7,7 @@ use lib.Dec.{eqb}
 use lib.IntN.{ℤ}
 use lib.Ieee.{Float}
 use Rattle.shaping.specs.Rate.{Rate, at48}
+use Rattle.protocol.specs.Refusals.{bare}
 use Rattle.demodulator.specs.declared.SoftDemodulator.{SoftDemodulator}
 use Rattle.demodulator.specs.declared.Heard.{Heard}
 use Rattle.demodulator.specs.declared.Heard.the-variants.{Refused, Quiet, Offered}
@@ -48,7 +49,7 @@ module _ (S : Type 0) (said : S → ℤ → List Float → Paper) (next : S → 
   -- "a call that gives neither tests no filtered value": an empty stretch gives no sample, and is refused with 1 where the receiver
   -- is unfit even so
   unfoldable pub fed : (S → Bool) → S → List ℤ → List Float → Stretch S
-  fed fit s [] room = record { answer = cond (fit s) nothing (refusal 1); fed = 0; state = s; room = room }
+  fed fit s [] room = record { answer = cond (fit s) nothing (refusal (bare 1)); fed = 0; state = s; room = room }
   fed fit s (x ∷ xs) room = fedFrom 0 s (x ∷ xs) room
 
 -- ---- the record

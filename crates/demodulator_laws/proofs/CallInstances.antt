@@ -11,6 +11,7 @@ use Rattle.numbers.specs.Below.{allBelow}
 use Rattle.shaping.specs.Rate.{at48}
 use Rattle.protocol.specs.declared.Kind.the-variants.{Bert}
 use Rattle.protocol.specs.declared.Refusal.the-variants.{RecordUnfit}
+use Rattle.protocol.specs.Refusals.{bare}
 use Rattle.decode.specs.Correlator.{inRange}
 use Rattle.search.specs.declared.Candidate.the-variants.{Nothing}
 use Rattle.search.specs.declared.Wait.the-variants.{Free, Due}
@@ -159,7 +160,7 @@ reply-unasked-meets = reply-unasked fresh Accepted [] fresh-for-reply fresh-free
 pub reply-taken-meets : answered 10 debtor Rejected [] ≡ record { answer = done; demodulator = replyLeaves 10 debtor Rejected; room = [] }
 reply-taken-meets = reply-taken debtor Rejected [] debtor-for-reply refl
 
-carrier-unfit-meets : detected 10 past ≡ refusal 1
+carrier-unfit-meets : detected 10 past ≡ refusal (bare 1)
 unfolding past recordFit
 carrier-unfit-meets = carrier-unfit past refl
 

@@ -10,6 +10,7 @@ use lib.Ieee.{ofBits, lt, le}
 use Rattle.numbers.specs.Below.{allBelow}
 use Rattle.shaping.specs.Rate.{at48}
 use Rattle.protocol.specs.declared.Kind.the-variants.{Lsf}
+use Rattle.protocol.specs.Refusals.{bare}
 use Rattle.decode.specs.Correlator.{inRange}
 use Rattle.search.specs.declared.Wait.the-variants.{Due}
 use Rattle.search.specs.declared.Timer.the-variants.{Off}
@@ -45,11 +46,11 @@ last-fit : fitForSample 10 last ≡ true
 unfolding fresh fitForSample recordFit controlFit candidateFit waitFit allBelow inRange ofBits le lt
 last-fit = refl
 
-last-refused : fedInto at48 last two room .answer ≡ refusal 5
+last-refused : fedInto at48 last two room .answer ≡ refusal (bare 5)
 last-refused = ap (λ (t : Stretch SoftDemodulator). t .answer) (fed-some at48 last two room (lit< tt) ∙ fed-stuck at48 last (pos 1) (pos 1 ∷ []) room 0 5 (sample-last last (pos 1) room last-fit refl room-enough refl))
 
-refused-feed-meets : fedInto at48 last two room ≡ record { answer = refusal 5; fed = 0; state = last; room = room }
-refused-feed-meets = refused-feed SoftDemodulator (sampleSaid at48) (sampleNext at48) (sampleRoom at48) (recordFit 10) last two room 5 last-refused
+refused-feed-meets : fedInto at48 last two room ≡ record { answer = refusal (bare 5); fed = 0; state = last; room = room }
+refused-feed-meets = refused-feed SoftDemodulator (sampleSaid at48) (sampleNext at48) (sampleRoom at48) (recordFit 10) last two room (bare 5) last-refused
 
 -- ---- one before it
 abbrev before : SoftDemodulator
@@ -79,5 +80,5 @@ before-stops =
 before-less : fedInto at48 before two room .fed < 2
 before-less = rw before-stops (lit< tt)
 
-rest-refused-meets : let t = fedInto at48 before two room in (number : ℕ) × (fedInto at48 (t .state) (drop (t .fed) two) (t .room) ≡ record { answer = refusal number; fed = 0; state = t .state; room = t .room })
+rest-refused-meets : let t = fedInto at48 before two room in (number : ℕ) × (fedInto at48 (t .state) (drop (t .fed) two) (t .room) ≡ record { answer = refusal (bare number); fed = 0; state = t .state; room = t .room })
 rest-refused-meets = rest-refused at48 before two room (ap (λ (t : Stretch SoftDemodulator). t .answer) before-stops) before-less

@@ -19,6 +19,7 @@ use Rattle.numbers.proofs.Tests.{holds}
 use Rattle.numbers.proofs.Below.{below-all}
 use Rattle.shaping.specs.Rate.{at48}
 use Rattle.shaping.proofs.RateFacts.{facts48}
+use Rattle.protocol.specs.Refusals.{PaperRefusal, bare}
 use Rattle.decode.specs.Correlator.{inRange}
 use Rattle.search.specs.declared.Control.{Control}
 use Rattle.search.specs.declared.Reply.{Reply}
@@ -59,7 +60,7 @@ pub record Aged (m after : SoftDemodulator) : Type 0 where
 
 -- no refusal
 abbrev pub Accepted : Paper → Type 0
-Accepted answer = (n : ℕ) → answer ≡ refusal n → ⊥
+Accepted answer = (n : PaperRefusal) → answer ≡ refusal n → ⊥
 
 -- ---- a record whose values are in range is fit by its control
 placed : (cursor j : ℕ) → (cursor + (1919 - j)) % 1920 < 1920
@@ -81,7 +82,7 @@ module _ (m : SoftDemodulator) (in-range : InRange m) where
 
 -- ---- what an accepted call was given
 never : {A : Type 0} (call : Left) → Accepted (call .answer) → (n : ℕ) (m : SoftDemodulator) (room : List Float) → call ≡ refused n m room → A
-never call accepted n m room e = absurd (accepted n (ap (λ (p : Left). p .answer) e))
+never call accepted n m room e = absurd (accepted (bare n) (ap (λ (p : Left). p .answer) e))
 
 pub record Given (m : SoftDemodulator) (room : List Float) : Type 0 where
   pub fit : fitForSample 10 m ≡ true

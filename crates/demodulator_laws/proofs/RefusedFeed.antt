@@ -11,6 +11,7 @@ use lib.IntN.{ℤ}
 use lib.ListN.{length, drop, length-drop}
 use lib.Ieee.{Float}
 use Rattle.shaping.specs.Rate.{Rate}
+use Rattle.protocol.specs.Refusals.{PaperRefusal, bare}
 use Rattle.demodulator.specs.declared.SoftDemodulator.{SoftDemodulator}
 use Rattle.demodulator.specs.Calls.{Paper, refusal, nothing, frame, done, carrier, demodulated}
 use Rattle.demodulator.specs.Feed.{Stretch, stopsBefore, goesOn, fedFrom, fed, fedInto}
@@ -21,9 +22,9 @@ use Rattle.demodulator_laws.proofs.SampleComes.{silent, offering, stuck
 -- ---- "Every refusal returns its number only, with record and buffers as they were.", of any receiver
 module _ (S : Type 0) (said : S → ℤ → List Float → Paper) (next : S → ℤ → List Float → S) (after : S → ℤ → List Float → List Float) where
   abbrev Unmoved : ℕ → S → List Float → Stretch S → Type 0
-  Unmoved n s room t = (number : ℕ) → t .answer ≡ refusal number → (n ≡ 0) × (t ≡ record { answer = refusal number; fed = 0; state = s; room = room })
+  Unmoved n s room t = (number : PaperRefusal) → t .answer ≡ refusal number → (n ≡ 0) × (t ≡ record { answer = refusal number; fed = 0; state = s; room = room })
 
-  stops-unmoved : (why : Paper) (n : ℕ) (s : S) (room : List Float) (b : Bool) → b ≡ eqb n 0 → (number : ℕ) → cond b why nothing ≡ refusal number
+  stops-unmoved : (why : Paper) (n : ℕ) (s : S) (room : List Float) (b : Bool) → b ≡ eqb n 0 → (number : PaperRefusal) → cond b why nothing ≡ refusal number
       → (n ≡ 0) × (_≡_ {A = Stretch S} (record { answer = cond b why nothing; fed = n; state = s; room = room }) (record { answer = refusal number; fed = 0; state = s; room = room }))
   stops-unmoved why n s room true e number told =
       let none : n ≡ 0 = eqb-true n 0 (sym e) in
@@ -47,7 +48,7 @@ module _ (S : Type 0) (said : S → ℤ → List Float → Paper) (next : S → 
       (λ k told. let more : n + 1 ≡ 0 = rest-unmoved xs (n + 1) (next s x room) (after s x room) k told .0 in omega arith)
       number e
 
-  pub refused-feed : (fit : S → Bool) (s : S) (xs : List ℤ) (room : List Float) (number : ℕ) → fed S said next after fit s xs room .answer ≡ refusal number
+  pub refused-feed : (fit : S → Bool) (s : S) (xs : List ℤ) (room : List Float) (number : PaperRefusal) → fed S said next after fit s xs room .answer ≡ refusal number
       → fed S said next after fit s xs room ≡ record { answer = refusal number; fed = 0; state = s; room = room }
   unfolding fed
   refused-feed fit s [] room number e = λ i. record { answer = e i; fed = 0; state = s; room = room }
@@ -55,7 +56,7 @@ module _ (S : Type 0) (said : S → ℤ → List Float → Paper) (next : S → 
 
 -- ---- a stretch that stops before its end, with no offer: the caller who gives the rest gets the refusal
 abbrev refusedWith : ℕ → SoftDemodulator → List Float → Stretch SoftDemodulator
-refusedWith number m room = record { answer = refusal number; fed = 0; state = m; room = room }
+refusedWith number m room = record { answer = refusal (bare number); fed = 0; state = m; room = room }
 
 module _ (R : Rate) where
   pub at-least : (xs : List ℤ) (n : ℕ) (m : SoftDemodulator) (room : List Float) → n ≤ restFrom R n m xs room .fed

@@ -8,6 +8,7 @@ use lib.IntN.{ℤ}
 use lib.ListN.{length}
 use lib.Ieee.{Float}
 use Rattle.shaping.specs.Rate.{Rate}
+use Rattle.protocol.specs.Refusals.{bare}
 use Rattle.search.specs.Turn.{Outcome, quiet, offer, sampled}
 use Rattle.demodulator.specs.declared.SoftDemodulator.{SoftDemodulator}
 use Rattle.demodulator.specs.declared.Offer.{Offer}
@@ -62,6 +63,6 @@ module _ (R : Rate) where
     unfolding fedFrom goesOn
     fed-offering o m′ window e = ap turned e
 
-    pub fed-stuck : (number : ℕ) → demodulated R m x room ≡ refused number m room → restFrom R n m (x ∷ xs) room ≡ stopsBefore (refusal number) n m room
+    pub fed-stuck : (number : ℕ) → demodulated R m x room ≡ refused number m room → restFrom R n m (x ∷ xs) room ≡ stopsBefore (refusal (bare number)) n m room
     unfolding fedFrom goesOn
     fed-stuck number e = ap turned e

@@ -13,6 +13,7 @@ use lib.Ieee.{Float}
 use Rattle.machine.specs.Runs.{run, answers}
 use Rattle.shaping.specs.Rate.{Rate}
 use Rattle.protocol.specs.declared.Kind.{Kind}
+use Rattle.protocol.specs.Refusals.{bare}
 use Rattle.search.specs.declared.Candidate.{Candidate}
 use Rattle.search.specs.declared.Wait.{Wait}
 use Rattle.search.specs.declared.Wait.the-variants.{Free, Due}
@@ -138,7 +139,7 @@ module _ (R : Rate) where
   abbrev NoFrame : Paper → Type 0
   NoFrame a = (o : Offer) → a ≡ frame o → ⊥
 
-  refusal-none : (number : ℕ) → NoFrame (refusal number)
+  refusal-none : (number : ℕ) → NoFrame (refusal (bare number))
   refusal-none number o e = let z : _≡_ {A = ℕ} 0 1 = cc in omega arith
 
   reply-none : (m : SoftDemodulator) (r : Reply) → NoFrame (answered (R .p) m r [] .answer)
@@ -150,7 +151,7 @@ module _ (R : Rate) where
 
   query-none : (m : SoftDemodulator) → NoFrame (detected (R .p) m)
   unfolding detected
-  query-none m = by-test NoFrame (not (recordFit (R .p) m)) (refusal 1) _ (λ _. refusal-none 1) (λ _ o e. let z : _≡_ {A = ℕ} 0 1 = cc in omega arith)
+  query-none m = by-test NoFrame (not (recordFit (R .p) m)) (refusal (bare 1)) _ (λ _. refusal-none 1) (λ _ o e. let z : _≡_ {A = ℕ} 0 1 = cc in omega arith)
 
   pub sample-only : (m : SoftDemodulator) (c : Single) (o : Offer) → left R m c .answer ≡ frame o → (x : ℤ) × (room : List Float) × (c ≡ sample x room)
   unfolding left

@@ -14,6 +14,7 @@ use Rattle.machine.proofs.Parts.{each-front}
 use Rattle.machine.proofs.Simulation.{runs-related, answers-alike}
 use Rattle.shaping.specs.Rate.{Rate}
 use Rattle.shaping.proofs.RateFacts.{Facts}
+use Rattle.protocol.specs.Refusals.{bare}
 use Rattle.search.specs.Turn.{Outcome, quiet, offer, sampled}
 use Rattle.search.proofs.AgeInPass.{by-test}
 use Rattle.demodulator.specs.declared.SoftDemodulator.{SoftDemodulator}
@@ -70,12 +71,12 @@ module _ (R : Rate) (F : Facts R) where
 
   -- the rules know no refusal 1
   abbrev Fine : Paper → Type 0
-  Fine a = a ≡ refusal 1 → ⊥
+  Fine a = a ≡ refusal (bare 1) → ⊥
 
   abbrev FineAfter : After → Type 0
   FineAfter a = Fine (a .said .answer)
 
-  other : (number : ℕ) → (number ≡ 1 → ⊥) → Fine (refusal number)
+  other : (number : ℕ) → (number ≡ 1 → ⊥) → Fine (refusal (bare number))
   other number h e = h cc
 
   fine-settled : (xs : List ℤ) (room : List Float) (o : Outcome) → FineAfter (settled (R .taps) (R .p) xs room o)
@@ -126,5 +127,5 @@ module _ (R : Rate) (F : Facts R) where
     | inr j ↦ fine-all cs (historyNext (R .taps) (R .p) h c) a j
   ]
 
-  pub never-unfit : (cs : List Call) → Each Given cs → (a : Told) → List·Memᴰ a (answers (receiver R) fresh cs) → a .answer ≡ refusal 1 → ⊥
+  pub never-unfit : (cs : List Call) → Each Given cs → (a : Told) → List·Memᴰ a (answers (receiver R) fresh cs) → a .answer ≡ refusal (bare 1) → ⊥
   never-unfit cs g a i = fine-all cs start a (rw (receiver-run cs g .1) at i)

@@ -10,6 +10,7 @@ use lib.ListN.{length}
 use lib.Ieee.{Float}
 use Rattle.machine.specs.Runs.{run, answers}
 use Rattle.shaping.specs.Rate.{Rate}
+use Rattle.protocol.specs.Refusals.{PaperRefusal}
 use Rattle.search.specs.Turn.{Outcome, quiet, offer, sampled}
 use Rattle.search.proofs.AgeInPass.{by-test}
 use Rattle.demodulator.specs.declared.SoftDemodulator.{SoftDemodulator}
@@ -38,20 +39,20 @@ lentWith (one c) = roomOf c
 lentWith (stretch xs room) = room
 
 -- "its number only, with record and buffers as they were"
-abbrev turnedDown : ℕ → List Float → Told
+abbrev turnedDown : PaperRefusal → List Float → Told
 turnedDown number room = record { answer = refusal number; fed = 0; room = room }
 
 -- ---- the rules
 module _ (table : List Float) (p : ℕ) (h : History) where
   abbrev Kept : List Float → After → Type 0
-  Kept room a = (number : ℕ) → a .said .answer ≡ refusal number → (a .history ≡ h) × (a .said .room ≡ room)
+  Kept room a = (number : PaperRefusal) → a .said .answer ≡ refusal number → (a .history ≡ h) × (a .said .room ≡ room)
 
   settled-kept : (xs : List ℤ) (room : List Float) (o : Outcome) → Kept room (settled table p xs room o)
   unfolding settled
   settled-kept xs room (quiet c) number e = let z : _≡_ {A = ℕ} 0 1 = cc in absurd (omega arith)
   settled-kept xs room (offer shown c) number e = let z : _≡_ {A = ℕ} 0 1 = cc in absurd (omega arith)
 
-  single-nothing : (c : Single) (number : ℕ) → single table p h c .said .answer ≡ refusal number → (single table p h c .history ≡ h) × (single table p h c .said .room ≡ roomOf c)
+  single-nothing : (c : Single) (number : PaperRefusal) → single table p h c .said .answer ≡ refusal number → (single table p h c .history ≡ h) × (single table p h c .said .room ≡ roomOf c)
   unfolding single given repliedTo
   single-nothing (sample x room) =
       by-test (Kept room) (h .control .owed) _ _ (λ _ number e. (refl, refl))
@@ -62,7 +63,7 @@ module _ (table : List Float) (p : ℕ) (h : History) where
       by-test (Kept []) (not (h .control .owed)) _ _ (λ _ number e. (refl, refl)) (λ _ number e. let z : _≡_ {A = ℕ} 0 1 = cc in absurd (omega arith))
   single-nothing query = λ number e. (refl, refl)
 
-  pub refused-nothing : (c : Call) (number : ℕ) → toldTo table p h c .answer ≡ refusal number → (historyNext table p h c ≡ h) × (toldTo table p h c ≡ turnedDown number (lentWith c))
+  pub refused-nothing : (c : Call) (number : PaperRefusal) → toldTo table p h c .answer ≡ refusal number → (historyNext table p h c ≡ h) × (toldTo table p h c ≡ turnedDown number (lentWith c))
   unfolding historyNext toldTo
   refused-nothing (one c) number e = let k = single-nothing c number e in (k .0, λ i. record { answer = e i; fed = 0; room = k .1 i })
   refused-nothing (stretch xs room) number e =
@@ -70,7 +71,7 @@ module _ (table : List Float) (p : ℕ) (h : History) where
       (ap (λ (f : Stretch History). f .state) k, ap (λ (f : Stretch History). toldStretch f) k)
 
 -- and so it counts for nothing: what comes after it is as if it had not been made
-pub refused-skipped : (R : Rate) (h : History) (c : Call) (number : ℕ) (cs : List Call) → toldTo (R .taps) (R .p) h c .answer ≡ refusal number
+pub refused-skipped : (R : Rate) (h : History) (c : Call) (number : PaperRefusal) (cs : List Call) → toldTo (R .taps) (R .p) h c .answer ≡ refusal number
     → (run (rules R) h (c ∷ cs) ≡ run (rules R) h cs) × (answers (rules R) h (c ∷ cs) ≡ toldTo (R .taps) (R .p) h c ∷ answers (rules R) h cs)
 unfolding run answers
 refused-skipped R h c number cs e =
@@ -80,13 +81,13 @@ refused-skipped R h c number cs e =
 -- ---- every record
 module _ (R : Rate) (m : SoftDemodulator) where
   abbrev KeptRecord : List Float → Left → Type 0
-  KeptRecord room l = (number : ℕ) → l .answer ≡ refusal number → (l .demodulator ≡ m) × (l .room ≡ room)
+  KeptRecord room l = (number : PaperRefusal) → l .answer ≡ refusal number → (l .demodulator ≡ m) × (l .room ≡ room)
 
   taken-kept : (x : ℤ) (room : List Float) (o : Outcome) → KeptRecord room (finished (R .p) (stored R m x) room o)
   taken-kept x room (quiet c) number e = let z : _≡_ {A = ℕ} 0 1 = cc in absurd (omega arith)
   taken-kept x room (offer shown c) number e = let z : _≡_ {A = ℕ} 0 1 = cc in absurd (omega arith)
 
-  single-record : (c : Single) (number : ℕ) → left R m c .answer ≡ refusal number → (left R m c .demodulator ≡ m) × (left R m c .room ≡ roomOf c)
+  single-record : (c : Single) (number : PaperRefusal) → left R m c .answer ≡ refusal number → (left R m c .demodulator ≡ m) × (left R m c .room ≡ roomOf c)
   unfolding left demodulated answered admittedBy
   single-record (sample x room) =
       by-test (KeptRecord room) (not (fitForSample (R .p) m)) _ _ (λ _ number e. (refl, refl))
@@ -99,7 +100,7 @@ module _ (R : Rate) (m : SoftDemodulator) where
       (λ _. by-test (KeptRecord []) (not (m .control .owed)) _ _ (λ _ number e. (refl, refl)) (λ _ number e. let z : _≡_ {A = ℕ} 0 1 = cc in absurd (omega arith)))
   single-record query = λ number e. (refl, refl)
 
-  pub refused-record : (c : Call) (number : ℕ) → toldBy R m c .answer ≡ refusal number → (recordNext R m c ≡ m) × (toldBy R m c ≡ turnedDown number (lentWith c))
+  pub refused-record : (c : Call) (number : PaperRefusal) → toldBy R m c .answer ≡ refusal number → (recordNext R m c ≡ m) × (toldBy R m c ≡ turnedDown number (lentWith c))
   unfolding recordNext toldBy
   refused-record (one c) number e = let k = single-record c number e in (k .0, λ i. record { answer = e i; fed = 0; room = k .1 i })
   refused-record (stretch xs room) number e =

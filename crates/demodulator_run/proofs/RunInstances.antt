@@ -15,6 +15,7 @@ use Rattle.machine.specs.Runs.{run, answers, Each}
 use Rattle.shaping.specs.Rate.{at48}
 use Rattle.shaping.proofs.RateFacts.{facts48}
 use Rattle.shaping.specs.Taps.{taps}
+use Rattle.protocol.specs.Refusals.{bare}
 use Rattle.decode.specs.Correlator.{inRange}
 use Rattle.search.specs.declared.Reply.the-variants.{Accepted}
 use Rattle.demodulator.specs.Record.{fresh}
@@ -82,9 +83,9 @@ mixed-represents = receiver-run at48 facts48 mixed mixed-given .0
 -- the record's answers, from the rules' alone
 mixed-answers : answers (receiver at48) fresh mixed
     ≡ record { answer = carrier false; fed = 0; room = [] }
-    ∷ record { answer = refusal 3; fed = 0; room = [] }
-    ∷ record { answer = refusal 4; fed = 0; room = cramped }
-    ∷ record { answer = refusal 4; fed = 0; room = cramped }
+    ∷ record { answer = refusal (bare 3); fed = 0; room = [] }
+    ∷ record { answer = refusal (bare 4); fed = 0; room = cramped }
+    ∷ record { answer = refusal (bare 4); fed = 0; room = cramped }
     ∷ record { answer = nothing; fed = 0; room = room }
     ∷ record { answer = nothing; fed = 0; room = cramped }
     ∷ []
@@ -93,9 +94,9 @@ mixed-answers =
     receiver-run at48 facts48 mixed mixed-given .1
     ∙ ap (λ (a : After).
     record { answer = carrier false; fed = 0; room = [] }
-    ∷ record { answer = refusal 3; fed = 0; room = [] }
-    ∷ record { answer = refusal 4; fed = 0; room = cramped }
-    ∷ record { answer = refusal 4; fed = 0; room = cramped }
+    ∷ record { answer = refusal (bare 3); fed = 0; room = [] }
+    ∷ record { answer = refusal (bare 4); fed = 0; room = cramped }
+    ∷ record { answer = refusal (bare 4); fed = 0; room = cramped }
     ∷ toldOne (a .said)
     ∷ record { answer = nothing; fed = 0; room = cramped }
     ∷ []) first
@@ -106,8 +107,8 @@ mixed-fit = fit-throughout at48 facts48 mixed mixed-given
 -- a refused sample is not heard, nor a refused stretch
 mixed-unheard : historyNext taps 10 start (one (sample (pos 32767) [])) ≡ start
 unfolding toldTo single given
-mixed-unheard = refused-nothing taps 10 start (one (sample (pos 32767) [])) 4 refl .0
+mixed-unheard = refused-nothing taps 10 start (one (sample (pos 32767) [])) (bare 4) refl .0
 
 stretch-unheard : historyNext taps 10 start (stretch (pos 32767 ∷ []) []) ≡ start
 unfolding toldTo fed fedFrom goesOn single given
-stretch-unheard = refused-nothing taps 10 start (stretch (pos 32767 ∷ []) []) 4 refl .0
+stretch-unheard = refused-nothing taps 10 start (stretch (pos 32767 ∷ []) []) (bare 4) refl .0

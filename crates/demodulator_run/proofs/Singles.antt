@@ -11,6 +11,7 @@ use lib.Ieee.{Float}
 use Rattle.machine.specs.Runs.{run, answers, Each}
 use Rattle.machine.proofs.Parts.{run-joined, answers-joined, each-joined}
 use Rattle.shaping.specs.Rate.{Rate}
+use Rattle.protocol.specs.Refusals.{bare}
 use Rattle.demodulator.specs.declared.SoftDemodulator.{SoftDemodulator}
 use Rattle.demodulator.specs.declared.Offer.{Offer}
 use Rattle.demodulator.specs.Fit.{recordFit}
@@ -44,7 +45,7 @@ module _ (R : Rate) where
     state : run (singleReceiver R) m ss ≡ after
     offers : offersSaid (answers (singleReceiver R) m ss) ≡ offerIn answer
 
-  no-offer : (number : ℕ) (b : Bool) → [] ≡ offerIn (cond b (refusal number) nothing)
+  no-offer : (number : ℕ) (b : Bool) → [] ≡ offerIn (cond b (refusal (bare number)) nothing)
   unfolding offerIn
   no-offer number true = refl
   no-offer number false = refl
@@ -87,7 +88,7 @@ module _ (R : Rate) where
       ]
 
   -- ---- a call
-  unfit-offer : (b : Bool) → [] ≡ offerIn (cond b nothing (refusal 1))
+  unfit-offer : (b : Bool) → [] ≡ offerIn (cond b nothing (refusal (bare 1)))
   unfolding offerIn
   unfit-offer true = refl
   unfit-offer false = refl

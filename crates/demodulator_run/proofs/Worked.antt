@@ -15,6 +15,7 @@ use Rattle.shaping.specs.Sum.{dot}
 use Rattle.shaping.proofs.Impulse.{middle-tap}
 use Rattle.protocol.specs.Bursts.{signsOf}
 use Rattle.protocol.specs.declared.Kind.the-variants.{Lsf, Stream}
+use Rattle.protocol.specs.Refusals.{bare}
 use Rattle.decode.specs.declared.Correlation.{Correlation}
 use Rattle.decode.specs.Correlator.{zeroUnsigned, highest, lowest, gainOf, shiftOf, symbolOf, distanceOf, summed, diffOf, correlation, matches}
 use Rattle.search.specs.declared.Candidate.the-variants.{Nothing}
@@ -42,12 +43,12 @@ p1-tap = p1 ∙ sym middle-tap
 
 -- ---- refusals
 -- "reply given while none is owed"
-refuses-3 : single taps 10 start (reply Accepted) .said .answer ≡ refusal 3
+refuses-3 : single taps 10 start (reply Accepted) .said .answer ≡ refusal (bare 3)
 unfolding single answered
 refuses-3 = refl
 
 -- "room for symbols below 192"
-refuses-4 : single taps 10 start (sample (pos 1) (replicate 191 nought)) .said .answer ≡ refusal 4
+refuses-4 : single taps 10 start (sample (pos 1) (replicate 191 nought)) .said .answer ≡ refusal (bare 4)
 unfolding single given
 refuses-4 = refl
 
@@ -55,7 +56,7 @@ refuses-4 = refl
 owed : History
 owed = record { samples = []; control = record { candidate = Nothing; wait = Free; dcd = Until 5; owed = true; sample = 0 } }
 
-refuses-2 : single taps 10 owed (sample (pos 1) []) .said .answer ≡ refusal 2
+refuses-2 : single taps 10 owed (sample (pos 1) []) .said .answer ≡ refusal (bare 2)
 unfolding single given owed
 refuses-2 = refl
 
@@ -63,7 +64,7 @@ refuses-2 = refl
 last : History
 last = record { samples = []; control = record { candidate = Nothing; wait = Free; dcd = Off; owed = false; sample = 2 ^ 63 } }
 
-refuses-5 : single taps 10 last (sample (pos 1) (replicate 192 nought)) .said .answer ≡ refusal 5
+refuses-5 : single taps 10 last (sample (pos 1) (replicate 192 nought)) .said .answer ≡ refusal (bare 5)
 unfolding single given last
 refuses-5 = refl
 

@@ -8,6 +8,7 @@ use lib.ListN.{length}
 use lib.Ieee.{Float}
 use Rattle.numbers.specs.Firsts.{written}
 use Rattle.machine.specs.Runs.{Machine, run, answers}
+use Rattle.protocol.specs.Refusals.{bare}
 use Rattle.search.specs.declared.Control.{Control}
 use Rattle.search.specs.declared.Reply.{Reply}
 use Rattle.search.specs.Turn.{Outcome, quiet, offer, sampled, replied}
@@ -32,7 +33,7 @@ start = record { samples = []; control = freshControl }
 
 -- "Every refusal returns its number only, with record and buffers as they were."
 abbrev pub refused : ℕ → List Float → History → After
-refused number room h = record { said = record { answer = refusal number; room = room }; history = h }
+refused number room h = record { said = record { answer = refusal (bare number); room = room }; history = h }
 
 module _ (table : List Float) (p : ℕ) where
   -- "A due LSF, Stream or Packet frame is offered: the kind, the sample number d, and symbol i"; "Symbol room is written only by an offer, first 192 places only"

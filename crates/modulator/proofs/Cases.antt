@@ -7,6 +7,7 @@ use lib.Dec.{T}
 use lib.IntN.{ℤ}
 use borrow.Author.Tests.{lt-ltb, le-ltb, leb-true}
 use Rattle.shaping.specs.Rate.{Rate}
+use Rattle.protocol.specs.Refusals.{bare}
 use Rattle.modulator.specs.declared.SampleCount.{SampleCount}
 use Rattle.modulator.specs.declared.EndReport.the-variants.{Nothing, After}
 use Rattle.modulator.specs.declared.SoftModulator.{SoftModulator}
@@ -28,7 +29,7 @@ counts-taken fill capacity latency e = go (countFit fill) (countFit capacity) (c
 
 module _ (R : Rate) (m : SoftModulator) where
   -- ---- a read
-  pub read-unfit : (room : List ℤ) → recordFit (R .p) m ≡ false → read R m room ≡ left (refusal 1) m room
+  pub read-unfit : (room : List ℤ) → recordFit (R .p) m ≡ false → read R m room ≡ left (refusal (bare 1)) m room
   unfolding read
   read-unfit room e = rw e
 
@@ -38,15 +39,15 @@ module _ (R : Rate) (m : SoftModulator) where
 
   -- ---- an update
   module _ (fill capacity latency : ℕ) where
-    pub update-unfit : recordFit (R .p) m ≡ false → updated R m fill capacity latency ≡ left (refusal 1) m []
+    pub update-unfit : recordFit (R .p) m ≡ false → updated R m fill capacity latency ≡ left (refusal (bare 1)) m []
     unfolding updated settled updateOutcome
     update-unfit e = rw e
 
-    pub update-large : recordFit (R .p) m ≡ true → tooLarge fill capacity latency ≡ true → updated R m fill capacity latency ≡ left (refusal 8) m []
+    pub update-large : recordFit (R .p) m ≡ true → tooLarge fill capacity latency ≡ true → updated R m fill capacity latency ≡ left (refusal (bare 8)) m []
     unfolding updated settled updateOutcome
     update-large e t = rw (e, t)
 
-    pub update-below : recordFit (R .p) m ≡ true → tooLarge fill capacity latency ≡ false → capacity < fill → updated R m fill capacity latency ≡ left (refusal 9) m []
+    pub update-below : recordFit (R .p) m ≡ true → tooLarge fill capacity latency ≡ false → capacity < fill → updated R m fill capacity latency ≡ left (refusal (bare 9)) m []
     unfolding updated settled updateOutcome
     update-below e t l = rw (e, t, lt-ltb capacity fill l)
 
@@ -57,7 +58,7 @@ module _ (R : Rate) (m : SoftModulator) where
     update-done e t l = rw (e, t, le-ltb capacity fill l)
 
   -- ---- the next action
-  pub run-unfit : recordFit (R .p) m ≡ false → ran R m ≡ left (refusal 1) m []
+  pub run-unfit : recordFit (R .p) m ≡ false → ran R m ≡ left (refusal (bare 1)) m []
   unfolding ran
   run-unfit e = rw e
 

@@ -1,37 +1,29 @@
 -- What `provided` is in each case of the rules for a frame. Assumes nothing.
-use mathlib.Core.Path.{_≡_, sym, ap, _∙_}
+use mathlib.Core.Path.{_≡_, _∙_}
 use mathlib.Core.Bool.{true, false}
 use mathlib.Core.List.{List, []}
-use Prim.Native.Nat.{ℕ}
 use borrow.Author.Tests.{eq-eqb, ne-eqb}
-use lib.ListN.{length, getD}
-use lib.Ieee.{Float, nan, binary32, ofBits, neg}
-use Rattle.numbers.specs.Below.{allBelow}
+use lib.ListN.{length}
+use lib.Ieee.{Float}
 use Rattle.shaping.specs.Rate.{Rate}
+use Rattle.protocol.specs.declared.Refusal.{Refusal}
+use Rattle.protocol.specs.Refusals.{bare, onPaper}
 use Rattle.modulator.specs.declared.DelaySteps.{DelaySteps}
 use Rattle.modulator.specs.declared.SoftModulator.{SoftModulator}
+use Rattle.modulator.specs.declared.Provided.the-variants.{Refused, Done}
 use Rattle.modulator.specs.declared.ModulatorFrame.{ModulatorFrame}
 use Rattle.modulator.specs.declared.ModulatorFrame.the-variants.{Nothing as NoFrame, Preamble, Symbols as GivenSymbols, EndOfTransmission}
 use Rattle.modulator.specs.Paper.{refusal, done}
-use Rattle.modulator.specs.Frame.{preamble, given, ending, within, symbolFit, paddingOf}
+use Rattle.modulator.specs.Frame.{preamble, given, ending, paddingOf}
+use Rattle.modulator.specs.Offender.{judgedBelow}
 use Rattle.modulator.specs.Control.{dropped, ended}
 use Rattle.modulator.specs.Record.{controlOf, withPending, framed}
 use Rattle.modulator.specs.Fit.{recordFit}
 use Rattle.modulator.specs.Outcome.{givenOutcome, frameOutcome}
 use Rattle.modulator.specs.Calls.{left, settled, provided}
 
--- 1.0
-abbrev pub one : Float
-one = ofBits binary32 0x3f80_0000
-
--- symbols from -1 to 1 are those within 1.0
-pub symbols-within : (symbols : List Float) → length symbols ≡ 192
-    → allBelow (length symbols) (λ (i : ℕ). within one (getD symbols i nan)) ≡ allBelow 192 (λ (i : ℕ). symbolFit (getD symbols i nan))
-unfolding symbolFit ofBits neg
-symbols-within symbols e = ap (λ (n : ℕ). allBelow n (λ (i : ℕ). within one (getD symbols i nan))) e
-
 module _ (R : Rate) (m : SoftModulator) (frame : ModulatorFrame) (symbols : List Float) where
-  pub frame-unfit : recordFit (R .p) m ≡ false → provided R m frame symbols ≡ left (refusal 1) m []
+  pub frame-unfit : recordFit (R .p) m ≡ false → provided R m frame symbols ≡ left (refusal (bare 1)) m []
   unfolding provided
   frame-unfit h = rw h
 
@@ -55,16 +47,16 @@ module _ (R : Rate) (m : SoftModulator) (frame : ModulatorFrame) (symbols : List
       unfolding provided settled frameOutcome
       frame-given-symbols = rw (fit, k)
 
-      pub frame-count : (length symbols ≡ 192 → ⊥) → provided R m frame symbols ≡ left (refusal 6) m []
+      pub frame-count : (length symbols ≡ 192 → ⊥) → provided R m frame symbols ≡ left (refusal (bare 6)) m []
       unfolding settled givenOutcome
       frame-count n = frame-given-symbols ∙ rw (ne-eqb (length symbols) 192 n)
 
-      pub frame-outside : length symbols ≡ 192 → allBelow (length symbols) (λ (i : ℕ). within one (getD symbols i nan)) ≡ false
-          → provided R m frame symbols ≡ left (refusal 7) m []
+      pub frame-outside : length symbols ≡ 192 → (why : Refusal) → judgedBelow (length symbols) symbols ≡ Refused why
+          → provided R m frame symbols ≡ left (refusal (onPaper why)) m []
       unfolding settled givenOutcome
-      frame-outside n h = frame-given-symbols ∙ rw (eq-eqb (length symbols) 192 n, sym (symbols-within symbols n) ∙ h)
+      frame-outside n why h = let all : judgedBelow 192 symbols ≡ Refused why = rw n at h in frame-given-symbols ∙ rw (eq-eqb (length symbols) 192 n, all)
 
-      pub frame-given : length symbols ≡ 192 → allBelow (length symbols) (λ (i : ℕ). within one (getD symbols i nan)) ≡ true
+      pub frame-given : length symbols ≡ 192 → judgedBelow (length symbols) symbols ≡ Done
           → provided R m frame symbols ≡ left done (framed R (given symbols) (m .progress .«tx_delay_padding» .0) (m .pending) m) []
       unfolding settled givenOutcome
-      frame-given n h = frame-given-symbols ∙ rw (eq-eqb (length symbols) 192 n, sym (symbols-within symbols n) ∙ h)
+      frame-given n h = let all : judgedBelow 192 symbols ≡ Done = rw n at h in frame-given-symbols ∙ rw (eq-eqb (length symbols) 192 n, all)

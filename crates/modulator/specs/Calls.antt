@@ -7,6 +7,7 @@ use lib.IntN.{ℤ}
 use lib.ListN.{length}
 use lib.Ieee.{Float}
 use Rattle.shaping.specs.Rate.{Rate, at48}
+use Rattle.protocol.specs.Refusals.{bare}
 use Rattle.modulator.specs.declared.SampleCount.{SampleCount}
 use Rattle.modulator.specs.declared.SoftModulator.{SoftModulator}
 use Rattle.modulator.specs.declared.ModulatorFrame.{ModulatorFrame}
@@ -31,7 +32,7 @@ left answer m room = record { answer = answer; modulator = m; room = room }
 
 -- 1: "record unfit". "Where several apply, the smallest number is given": it comes before all others.
 abbrev pub unlessUnfit : ℕ → SoftModulator → List ℤ → Left → Left
-unlessUnfit p m room l = cond (not (recordFit p m)) (left (refusal 1) m room) l
+unlessUnfit p m room l = cond (not (recordFit p m)) (left (refusal (bare 1)) m room) l
 
 unfoldable pub settled : Rate → SoftModulator → Outcome → Left
 settled R m (only answer) = left answer m []

@@ -31,7 +31,7 @@ ending = record { symbol = λ (i : ℕ). cond (ltb i 192) (ofInt binary32 (endSi
 abbrev pub within : Float → Float → Bool
 within size value = le (neg size) value && le value size
 
--- 7: "a symbol not a number or outside -1 to 1"
+-- from -1 to 1; document 01's 7 was "a symbol not a number or outside -1 to 1"
 unfoldable pub symbolFit : Float → Bool
 symbolFit symbol = le (ofBits binary32 0xbf80_0000) symbol && le symbol (ofBits binary32 0x3f80_0000)
 

@@ -3,17 +3,20 @@ use mathlib.Core.Bool.{Bool, true, not, cond, _||_}
 use mathlib.Core.List.{List}
 use Prim.Native.Nat.{ℕ}
 use lib.Dec.{eqb, ltb}
-use lib.ListN.{length, getD}
-use lib.Ieee.{Float, nan}
-use Rattle.numbers.specs.Below.{allBelow}
+use lib.ListN.{length}
+use lib.Ieee.{Float}
+use Rattle.protocol.specs.Refusals.{bare, onPaper}
 use Rattle.modulator.specs.declared.EndReport.{EndReport}
 use Rattle.modulator.specs.declared.EndReport.the-variants.{Nothing as NoReport, After}
 use Rattle.modulator.specs.declared.Pending.{Pending}
 use Rattle.modulator.specs.declared.OutputBuffer.{OutputBuffer}
 use Rattle.modulator.specs.declared.ModulatorFrame.{ModulatorFrame}
 use Rattle.modulator.specs.declared.ModulatorFrame.the-variants.{Nothing as NoFrame, Preamble, Symbols as GivenSymbols, EndOfTransmission}
+use Rattle.modulator.specs.declared.Provided.{Provided}
+use Rattle.modulator.specs.declared.Provided.the-variants.{Refused, Done}
 use Rattle.modulator.specs.Paper.{Paper, refusal, done, transmitEnd, readOutput, idle, getFrame, nothing}
-use Rattle.modulator.specs.Frame.{Symbols, preamble, given, ending, symbolFit, paddingOf}
+use Rattle.modulator.specs.Frame.{Symbols, preamble, given, ending, paddingOf}
+use Rattle.modulator.specs.Offender.{judgedBelow}
 use Rattle.modulator.specs.Control.{Control, bufferOf, dropped, ended, endAfter, updatedPending, reported, idled}
 use Rattle.modulator.specs.Fit.{countFit}
 
@@ -26,12 +29,14 @@ pub data Outcome : Type 0 where
   sends : Symbols → ℕ → Pending → Outcome
 
 -- ---- a frame
--- 6: "symbols not exactly 192"; 7: "a symbol not a number or outside -1 to 1"
+-- 71 to 74 "replace 7, at its place in the order, and are the first to return a place beside the number"
+abbrev pub judgedOutcome : Provided → List Float → Control → Outcome
+judgedOutcome (Refused why) symbols s = only (refusal (onPaper why))
+judgedOutcome Done symbols s = sends (given symbols) (s .progress .«tx_delay_padding» .0) (s .pending)
+
+-- 6: "symbols not exactly 192"
 unfoldable pub givenOutcome : List Float → Control → Outcome
-givenOutcome symbols s =
-    cond (not (eqb (length symbols) 192)) (only (refusal 6))
-    (cond (not (allBelow 192 (λ (i : ℕ). symbolFit (getD symbols i nan)))) (only (refusal 7))
-    (sends (given symbols) (s .progress .«tx_delay_padding» .0) (s .pending)))
+givenOutcome symbols s = cond (not (eqb (length symbols) 192)) (only (refusal (bare 6))) (judgedOutcome (judgedBelow 192 symbols) symbols s)
 
 -- "A frame is a preamble with TxDelay, 192 symbols, the end of transmission, or none. None only drops the wish for a frame." Of padding: "Only a preamble sets it."
 unfoldable pub frameOutcome : ℕ → ModulatorFrame → List Float → Control → Outcome
@@ -48,8 +53,8 @@ tooLarge fill capacity latency = not (countFit fill) || not (countFit capacity) 
 -- 9: "capacity below fill"
 unfoldable pub updateOutcome : ℕ → ℕ → ℕ → ℕ → Control → Outcome
 updateOutcome p fill capacity latency s =
-    cond (tooLarge fill capacity latency) (only (refusal 8))
-    (cond (ltb capacity fill) (only (refusal 9))
+    cond (tooLarge fill capacity latency) (only (refusal (bare 8)))
+    (cond (ltb capacity fill) (only (refusal (bare 9)))
     (told done (updatedPending p fill capacity (endAfter fill latency (s .progress)) (s .pending)) (bufferOf fill capacity latency)))
 
 -- ---- the next action

@@ -1,7 +1,7 @@
--- The paper's answers of the sender: a refusal's number, or the paper's values; and what each answer of its functions is on paper. Assumes nothing.
+-- The paper's answers of the sender: a refusal, or the paper's values; and what each answer of its functions is on paper. Assumes nothing.
 use mathlib.Core.Bool.{Bool}
 use Prim.Native.Nat.{ℕ}
-use Rattle.protocol.specs.Refusals.{paperNumber}
+use Rattle.protocol.specs.Refusals.{PaperRefusal, onPaper}
 use Rattle.modulator.specs.declared.Provided.{Provided}
 use Rattle.modulator.specs.declared.Provided.the-variants.{Refused as ProvideRefused, Done as Taken}
 use Rattle.modulator.specs.declared.Read.{Read}
@@ -12,7 +12,7 @@ use Rattle.modulator.specs.declared.ModulatorAction.{ModulatorAction}
 use Rattle.modulator.specs.declared.ModulatorAction.the-variants.{Refused as RunRefused, TransmissionWillEnd, ReadOutput, SetIdle, GetNextFrame, Nothing as NoAction}
 
 pub data Paper : Type 0 where
-  refusal : ℕ → Paper
+  refusal : PaperRefusal → Paper
   done : Paper
   wrote : ℕ → Paper
   transmitEnd : ℕ → Paper
@@ -22,19 +22,19 @@ pub data Paper : Type 0 where
   nothing : Paper
 
 abbrev pub providedPaper : Provided → Paper
-providedPaper (ProvideRefused why) = refusal (paperNumber why)
+providedPaper (ProvideRefused why) = refusal (onPaper why)
 providedPaper Taken = done
 
 abbrev pub readPaper : Read → Paper
-readPaper (ReadRefused why) = refusal (paperNumber why)
+readPaper (ReadRefused why) = refusal (onPaper why)
 readPaper (Wrote n) = wrote (n .0)
 
 abbrev pub updatedPaper : Updated → Paper
-updatedPaper (UpdateRefused why) = refusal (paperNumber why)
+updatedPaper (UpdateRefused why) = refusal (onPaper why)
 updatedPaper Stored = done
 
 abbrev pub actionPaper : ModulatorAction → Paper
-actionPaper (RunRefused why) = refusal (paperNumber why)
+actionPaper (RunRefused why) = refusal (onPaper why)
 actionPaper (TransmissionWillEnd n) = transmitEnd (n .0)
 actionPaper ReadOutput = readOutput
 actionPaper (SetIdle state) = idle state

@@ -10,7 +10,7 @@ use super::Provided;
 use super::SampleCount;
 use super::SoftModulator;
 use super::fit::record_fit;
-use super::within::all_within;
+use super::offender::first_offender;
 use protocol::Refusal;
 use pulse::SAMPLES_PER_SYMBOL;
 use pulse::push_symbols;
@@ -155,9 +155,10 @@ impl SoftModulator {
                         modulator: self,
                     };
                 }
-                if !all_within(1.0, symbols) {
+                let offender = first_offender(symbols);
+                if let Provided::Refused(_) = offender {
                     return AfterFrame {
-                        answer: Provided::Refused(Refusal::SymbolOutside),
+                        answer: offender,
                         modulator: self,
                     };
                 }

@@ -5,6 +5,7 @@ mod action;
 mod counts;
 mod fit;
 mod frame;
+mod offender;
 mod output;
 mod within;
 

@@ -1,34 +1,44 @@
 -- What holds in each case of a call holds of what comes of it, for record and rules alike. Assumes nothing.
 use mathlib.Core.Path.{_≡_, refl}
-use mathlib.Core.Bool.{Bool, true, false, not}
+use mathlib.Core.Bool.{true, false, not}
 use mathlib.Core.List.{List}
 use Prim.Native.Nat.{ℕ, _≤_, _<_}
 use borrow.Author.Tests.{ltb-true, ltb-false, not-true, not-false}
 use lib.Dec.{eqb, ltb}
 use lib.ListN.{length, getD}
 use lib.Ieee.{Float, nan}
+use lib.Ieee.Bits.{is-true}
 use Rattle.numbers.specs.Below.{allBelow}
+use Rattle.numbers.proofs.Below.{below-all, all-failed}
+use Rattle.protocol.specs.Refusals.{bare, placed}
 use Rattle.modulator.specs.declared.SampleCount.{SampleCount}
 use Rattle.modulator.specs.declared.EndReport.{EndReport}
 use Rattle.modulator.specs.declared.EndReport.the-variants.{Nothing, After}
+use Rattle.modulator.specs.declared.Provided.{Provided}
+use Rattle.modulator.specs.declared.Provided.the-variants.{Refused, Done}
 use Rattle.modulator.specs.Paper.{refusal, done, transmitEnd, readOutput, idle, getFrame, nothing}
 use Rattle.modulator.specs.Frame.{given, symbolFit}
+use Rattle.modulator.specs.Offender.{judgedBelow}
 use Rattle.modulator.specs.Control.{Control, bufferOf, endAfter, updatedPending, reported, idled}
-use Rattle.modulator.specs.Outcome.{Outcome, only, told, sends, givenOutcome, tooLarge, updateOutcome, actionBy, actionOutcome}
+use Rattle.modulator.specs.Outcome.{Outcome, only, told, sends, judgedOutcome, givenOutcome, tooLarge, updateOutcome, actionBy, actionOutcome}
 use Rattle.modulator_laws.proofs.Picked.{picked}
+use Rattle.modulator_laws.proofs.FirstOffender.{FirstOf, none, first, first-of}
 
 module _ (s : Control) (P : Outcome → Type 0) where
-  pub each-given : (symbols : List Float) → (eqb (length symbols) 192 ≡ false → P (only (refusal 6))) → (allBelow 192 (λ (i : ℕ). symbolFit (getD symbols i nan)) ≡ false → P (only (refusal 7)))
+  pub each-given : (symbols : List Float) → (eqb (length symbols) 192 ≡ false → P (only (refusal (bare 6))))
+      → ((number place : ℕ) → allBelow 192 (λ (i : ℕ). symbolFit (getD symbols i nan)) ≡ false → P (only (refusal (placed number place))))
       → (eqb (length symbols) 192 ≡ true → allBelow 192 (λ (i : ℕ). symbolFit (getD symbols i nan)) ≡ true → P (sends (given symbols) (s .progress .«tx_delay_padding» .0) (s .pending)))
       → P (givenOutcome symbols s)
   unfolding givenOutcome
   each-given symbols miscounted outside taken =
-      let tested : Bool = allBelow 192 (λ (i : ℕ). symbolFit (getD symbols i nan)) in
-      picked P (not (eqb (length symbols) 192)) _ _ (λ e. miscounted (not-true _ e)) λ counted.
-      picked P (not tested) _ _ (λ e. outside (not-true tested e)) λ e.
-      taken (not-false _ counted) (not-false tested e)
+      picked P (not (eqb (length symbols) 192)) _ _ (λ e. miscounted (not-true _ e)) λ e.
+      by-first (not-false _ e) (judgedBelow 192 symbols) (first-of symbols 192)
+    where
+      by-first : eqb (length symbols) 192 ≡ true → (a : Provided) → FirstOf symbols 192 a → P (judgedOutcome a symbols s)
+      by-first counted Done (none all) = taken counted (is-true _ (below-all 192 (λ (i : ℕ). symbolFit (getD symbols i nan)) all))
+      by-first counted (Refused why) (first _ number place e l o) = rw e (outside number place (all-failed 192 (λ (i : ℕ). symbolFit (getD symbols i nan)) place l (o .outside)))
 
-  pub each-update : (p fill capacity latency : ℕ) → (tooLarge fill capacity latency ≡ true → P (only (refusal 8))) → (tooLarge fill capacity latency ≡ false → capacity < fill → P (only (refusal 9)))
+  pub each-update : (p fill capacity latency : ℕ) → (tooLarge fill capacity latency ≡ true → P (only (refusal (bare 8)))) → (tooLarge fill capacity latency ≡ false → capacity < fill → P (only (refusal (bare 9))))
       → (tooLarge fill capacity latency ≡ false → fill ≤ capacity → P (told done (updatedPending p fill capacity (endAfter fill latency (s .progress)) (s .pending)) (bufferOf fill capacity latency)))
       → P (updateOutcome p fill capacity latency s)
   unfolding updateOutcome

@@ -4,6 +4,10 @@ pub mod Picked
 -- that each promise leaves one answer
 pub mod Papers
 pub mod OnlyAnswer
+-- which symbol is wrong, and that no other frame is refused than before
+pub mod SymbolFaults
+pub mod FirstOffender
+pub mod SymbolsAsBefore
 -- what holds in every case of a call
 pub mod EachCase
 -- a fit record stays fit

@@ -40,7 +40,7 @@ module _ (p : ℕ) (s : Control) where
   unfolding Few frameOutcome
   frame-few NoFrame symbols = tt
   frame-few (Preamble steps) symbols = lit≤ tt
-  frame-few GivenSymbols symbols = each-given s Few symbols (λ _. tt) (λ _. tt) (λ _ _. lit≤ tt)
+  frame-few GivenSymbols symbols = each-given s Few symbols (λ _. tt) (λ _ _ _. tt) (λ _ _. lit≤ tt)
   frame-few EndOfTransmission symbols = lit≤ tt
 
   pub update-few : (fill capacity latency : ℕ) → Few (updateOutcome p fill capacity latency s)
@@ -77,7 +77,7 @@ module _ (p : ℕ) (s : Control) (far : ProgressFacts p (s .progress)) (buffer :
   unfolding Sound frameOutcome
   frame-sound NoFrame symbols h = (report, buffer)
   frame-sound (Preamble steps) symbols h = (preamble-small, padding-short p (steps .0) _ (h steps refl), report)
-  frame-sound GivenSymbols symbols h = each-given s (Sound p) symbols (λ _. tt) (λ _. tt) (λ _ e. (given-small symbols (subst T (sym e) tt), far .padding, report))
+  frame-sound GivenSymbols symbols h = each-given s (Sound p) symbols (λ _. tt) (λ _ _ _. tt) (λ _ e. (given-small symbols (subst T (sym e) tt), far .padding, report))
   frame-sound EndOfTransmission symbols h = (ending-small, far .padding, report)
 
   pub update-sound : (fill capacity latency : ℕ) → Sound p (updateOutcome p fill capacity latency s)

@@ -1,7 +1,7 @@
 -- No two answers of a call say the same on paper. Assumes nothing.
 use mathlib.Core.Path.{_≡_, refl, sym, ap, _∙_}
 use Prim.Native.Nat.{ℕ}
-use Rattle.protocol.proofs.Numbers.{numbered, numbered-back, number-once}
+use Rattle.protocol.proofs.Numbers.{numbered, numbered-back, refusal-once}
 use Rattle.modulator.specs.declared.Provided.{Provided}
 use Rattle.modulator.specs.declared.Provided.the-variants.{Refused as ProvideRefused, Done as Taken}
 use Rattle.modulator.specs.declared.Read.{Read}
@@ -13,19 +13,19 @@ use Rattle.modulator.specs.declared.ModulatorAction.the-variants.{Refused as Ru
 use Rattle.modulator.specs.Paper.{Paper, refusal, done, wrote, transmitEnd, readOutput, idle, getFrame, nothing, providedPaper, readPaper, updatedPaper, actionPaper}
 
 pub provided-once : (a b : Provided) → providedPaper a ≡ providedPaper b → a ≡ b
-provided-once (ProvideRefused a) (ProvideRefused b) e = ap ProvideRefused (number-once a b (cc))
+provided-once (ProvideRefused a) (ProvideRefused b) e = ap ProvideRefused (refusal-once a b (cc))
 provided-once (ProvideRefused a) Taken e = cc
 provided-once Taken (ProvideRefused b) e = cc
 provided-once Taken Taken e = refl
 
 pub read-once : (a b : Read) → readPaper a ≡ readPaper b → a ≡ b
-read-once (ReadRefused a) (ReadRefused b) e = ap ReadRefused (number-once a b (cc))
+read-once (ReadRefused a) (ReadRefused b) e = ap ReadRefused (refusal-once a b (cc))
 read-once (ReadRefused a) (Wrote n) e = cc
 read-once (Wrote n) (ReadRefused b) e = cc
 read-once (Wrote n) (Wrote m) e = let counts : n .0 ≡ m .0 = cc in ap (λ (k : ℕ). Wrote (record { 0 = k })) counts
 
 pub updated-once : (a b : Updated) → updatedPaper a ≡ updatedPaper b → a ≡ b
-updated-once (UpdateRefused a) (UpdateRefused b) e = ap UpdateRefused (number-once a b (cc))
+updated-once (UpdateRefused a) (UpdateRefused b) e = ap UpdateRefused (refusal-once a b (cc))
 updated-once (UpdateRefused a) Stored e = cc
 updated-once Stored (UpdateRefused b) e = cc
 updated-once Stored Stored e = refl

@@ -43,7 +43,7 @@ reach-of-one t n w =
     let below : (num t * n + (d - 1)) / d < suc n = div-lt-iff-lt-mul some .1 (omega (arith, size, some, whole)) in
     le-of-suc-le-suc below
 
--- 7: what is no refusal
+-- what is no refusal
 pub symbol-size : (x : Float) → T (symbolFit x) → Within x 1
 unfolding symbolFit ofBits
 symbol-size x t =

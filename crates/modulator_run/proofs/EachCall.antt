@@ -9,6 +9,7 @@ use lib.IntN.{ℤ}
 use lib.ListN.{length}
 use lib.Ieee.{Float}
 use Rattle.shaping.specs.Rate.{Rate}
+use Rattle.protocol.specs.Refusals.{PaperRefusal, bare, placed}
 use Rattle.modulator.specs.declared.DelaySteps.{DelaySteps}
 use Rattle.modulator.specs.declared.EndReport.the-variants.{Nothing as NoReport, After as Reported}
 use Rattle.modulator.specs.declared.SampleCount.{SampleCount}
@@ -23,11 +24,11 @@ use Rattle.modulator_run.specs.Rules.{Call, provide, read, update, ask, 
 use Rattle.modulator_run.specs.Kinds.{stores, replaces}
 
 -- a call that is refused, by a number other than 1
-pub data Refusing : Call → ℕ → Type 0 where
-  miscounted : {symbols : List Float} → replaces (provide GivenSymbols symbols) ≡ false → Refusing (provide GivenSymbols symbols) 6
-  outside : {symbols : List Float} → replaces (provide GivenSymbols symbols) ≡ false → Refusing (provide GivenSymbols symbols) 7
-  large : {fill capacity latency : ℕ} → stores (update fill capacity latency) ≡ false → Refusing (update fill capacity latency) 8
-  below : {fill capacity latency : ℕ} → stores (update fill capacity latency) ≡ false → Refusing (update fill capacity latency) 9
+pub data Refusing : Call → PaperRefusal → Type 0 where
+  miscounted : {symbols : List Float} → replaces (provide GivenSymbols symbols) ≡ false → Refusing (provide GivenSymbols symbols) (bare 6)
+  outside : {symbols : List Float} {number place : ℕ} → replaces (provide GivenSymbols symbols) ≡ false → Refusing (provide GivenSymbols symbols) (placed number place)
+  large : {fill capacity latency : ℕ} → stores (update fill capacity latency) ≡ false → Refusing (update fill capacity latency) (bare 8)
+  below : {fill capacity latency : ℕ} → stores (update fill capacity latency) ≡ false → Refusing (update fill capacity latency) (bare 9)
 
 none-too : (b : Bool) → b && false ≡ false
 none-too true = refl
@@ -36,7 +37,7 @@ none-too false = refl
 module _ (R : Rate) (s : Sent) (P : Call → After → Type 0) where
   -- the cases of the rules, with what is known in each
   pub record Cases : Type 0 where
-    pub refused : (c : Call) (number : ℕ) → Refusing c number → P c (after (refusal number) [] s)
+    pub refused : (c : Call) (number : PaperRefusal) → Refusing c number → P c (after (refusal number) [] s)
     pub no-frame : (symbols : List Float) → P (provide NoFrame symbols) (after done [] (withPending (dropped (s .pending)) (s .buffer) s))
     pub delayed : (steps : DelaySteps) (symbols : List Float)
         → P (provide (Preamble steps) symbols) (after done [] (framed R preamble (paddingOf (R .p) (steps .0) (s .buffer .«output_latency» .0)) (s .pending) s))
@@ -61,8 +62,8 @@ module _ (R : Rate) (s : Sent) (P : Call → After → Type 0) where
     each-provided (Preamble steps) symbols = k .delayed steps symbols
     each-provided GivenSymbols symbols =
         each-given (controlIn s) (λ (o : Outcome). P (provide GivenSymbols symbols) (settled R s o)) symbols
-        (λ e. k .refused _ 6 (miscounted (rw e)))
-        (λ e. k .refused _ 7 (outside (rw e (none-too (eqb (length symbols) 192)))))
+        (λ e. k .refused _ (bare 6) (miscounted (rw e)))
+        (λ number place e. k .refused _ (placed number place) (outside (rw e (none-too (eqb (length symbols) 192)))))
         (λ n e. k .symbols-given symbols (rw (n, e)))
     each-provided EndOfTransmission symbols = k .last-frame symbols
 
@@ -70,8 +71,8 @@ module _ (R : Rate) (s : Sent) (P : Call → After → Type 0) where
     unfolding settled stores
     each-updated fill capacity latency =
         each-update (controlIn s) (λ (o : Outcome). P (update fill capacity latency) (settled R s o)) (R .p) fill capacity latency
-        (λ e. k .refused _ 8 (large (rw e)))
-        (λ e l. k .refused _ 9 (below (rw (e, lt-ltb capacity fill l))))
+        (λ e. k .refused _ (bare 8) (large (rw e)))
+        (λ e l. k .refused _ (bare 9) (below (rw (e, lt-ltb capacity fill l))))
         (λ e l. k .stored fill capacity latency (rw (e, le-ltb capacity fill l)))
 
     each-asked : P ask (settled R s (actionOutcome (controlIn s)))

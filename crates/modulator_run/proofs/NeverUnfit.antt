@@ -3,11 +3,11 @@ use mathlib.Core.Path.{_≡_, sym, subst}
 use mathlib.Core.Logic.{inl, inr}
 use mathlib.Core.Bool.{Bool, false, not}
 use mathlib.Core.List.{List, [], _∷_, List·Memᴰ, List·Memᴰ·not-nil, List·Memᴰ·cases-cons}
-use Prim.Native.Nat.{ℕ}
 use lib.Dec.{T, eqb}
 use Rattle.machine.specs.Runs.{answers, Each}
 use Rattle.shaping.specs.Rate.{Rate}
 use Rattle.shaping.proofs.RateFacts.{Facts}
+use Rattle.protocol.specs.Refusals.{PaperRefusal, bare, placed}
 use Rattle.modulator.specs.Paper.{Paper, refusal, done, wrote, transmitEnd, readOutput, idle, getFrame, nothing}
 use Rattle.modulator_run.specs.Rules.{Call, Sent, Said, After, start, drained, called, rules}
 use Rattle.modulator_run.specs.Run.{answersTo, Given}
@@ -16,7 +16,8 @@ use Rattle.modulator_run.proofs.SenderRun.{sender-run}
 
 -- 1: "record unfit"
 abbrev unfit : Paper → Bool
-unfit (refusal number) = eqb number 1
+unfit (refusal (bare number)) = eqb number 1
+unfit (refusal (placed number place)) = false
 unfit done = false
 unfit (wrote n) = false
 unfit (transmitEnd n) = false
@@ -25,7 +26,7 @@ unfit (idle state) = false
 unfit getFrame = false
 unfit nothing = false
 
-other-number : (c : Call) (number : ℕ) → Refusing c number → T (not (eqb number 1))
+other-number : (c : Call) (number : PaperRefusal) → Refusing c number → T (not (unfit (refusal number)))
 other-number c number (miscounted e) = tt
 other-number c number (outside e) = tt
 other-number c number (large e) = tt
@@ -58,8 +59,8 @@ module _ (R : Rate) where
     | inr j ↦ fine-all cs (called R s c .sent) a j
   ]
 
-  pub rules-never-unfit : (cs : List Call) (s : Sent) (a : Said) → List·Memᴰ a (answers (rules R) s cs) → a .answer ≡ refusal 1 → ⊥
+  pub rules-never-unfit : (cs : List Call) (s : Sent) (a : Said) → List·Memᴰ a (answers (rules R) s cs) → a .answer ≡ refusal (bare 1) → ⊥
   rules-never-unfit cs s a i e = subst (λ (b : Paper). T (not (unfit b))) e (fine-all cs s a i)
 
-pub never-unfit : (R : Rate) → Facts R → (cs : List Call) → Each Given cs → (a : Said) → List·Memᴰ a (answersTo R cs) → a .answer ≡ refusal 1 → ⊥
+pub never-unfit : (R : Rate) → Facts R → (cs : List Call) → Each Given cs → (a : Said) → List·Memᴰ a (answersTo R cs) → a .answer ≡ refusal (bare 1) → ⊥
 never-unfit R F cs g a i = rules-never-unfit R cs start a (rw (sender-run R F cs g .1) at i)

@@ -3,9 +3,9 @@ use mathlib.Core.Path.{_≡_, refl}
 use mathlib.Core.Logic.{_↔_}
 use mathlib.Core.Bool.{Bool, true, false}
 use mathlib.Core.List.{List}
-use Prim.Native.Nat.{ℕ}
 use Rattle.machine.specs.Runs.{run}
 use Rattle.shaping.specs.Rate.{Rate}
+use Rattle.protocol.specs.Refusals.{PaperRefusal}
 use Rattle.modulator_run.specs.Rules.{Call, Sent, After, start, framed, drained, called, rules, sentAll}
 use Rattle.modulator_run.specs.Kinds.{stores, ends}
 use Rattle.modulator_run.specs.Reports.{Owed}
@@ -15,7 +15,7 @@ use Rattle.modulator_run.proofs.Lasting.{lasted, lasting-exactly}
 abbrev pub owed : Sent → Bool
 owed s = s .pending .«calculate_tx_end»
 
-refused-owed : (c : Call) (number : ℕ) (o : Bool) → Refusing c number → o ≡ lasted ends stores c o
+refused-owed : (c : Call) (number : PaperRefusal) (o : Bool) → Refusing c number → o ≡ lasted ends stores c o
 unfolding ends stores
 refused-owed c number o (miscounted e) = refl
 refused-owed c number o (outside e) = refl

@@ -13,6 +13,7 @@ use Rattle.machine.specs.Runs.{run, Each}
 use Rattle.machine.proofs.Parts.{run-joined}
 use Rattle.shaping.specs.Rate.{Rate}
 use Rattle.shaping.proofs.RateFacts.{Facts}
+use Rattle.protocol.specs.Refusals.{PaperRefusal}
 use Rattle.modulator.specs.declared.DelaySteps.{DelaySteps}
 use Rattle.modulator.specs.declared.ModulatorFrame.the-variants.{Nothing as NoFrame, Preamble, Symbols as GivenSymbols, EndOfTransmission}
 use Rattle.modulator.specs.declared.Progress.{Progress}
@@ -33,7 +34,7 @@ abbrev latency : Sent → ℕ
 latency s = s .buffer .«output_latency» .0
 
 -- ---- the latency
-refused-latency : (c : Call) (number l : ℕ) → Refusing c number → l ≡ cond (stores c) (latencyOf c) l
+refused-latency : (c : Call) (number : PaperRefusal) (l : ℕ) → Refusing c number → l ≡ cond (stores c) (latencyOf c) l
 unfolding stores
 refused-latency c number l (miscounted e) = refl
 refused-latency c number l (outside e) = refl
@@ -53,7 +54,7 @@ none-stored [] = refl
 none-stored (c ∷ cs) = sym (last-one (stores c) (none stores cs) (latencyOf c) 0 (lastLatency cs))
 
 -- a read is never refused with a number other than 1
-pub no-places : (c : Call) (number : ℕ) → Refusing c number → placesOf c ≡ 0
+pub no-places : (c : Call) (number : PaperRefusal) → Refusing c number → placesOf c ≡ 0
 unfolding placesOf
 no-places c number (miscounted e) = refl
 no-places c number (outside e) = refl

@@ -8,6 +8,7 @@ use lib.IntN.{ℤ}
 use lib.Ieee.{Float}
 use Rattle.machine.specs.Runs.{run, answers}
 use Rattle.shaping.specs.Rate.{Rate}
+use Rattle.protocol.specs.Refusals.{PaperRefusal, bare}
 use Rattle.modulator.specs.declared.ModulatorFrame.{ModulatorFrame}
 use Rattle.modulator.specs.declared.ModulatorFrame.the-variants.{Nothing as NoFrame, Preamble, Symbols as GivenSymbols, EndOfTransmission}
 use Rattle.modulator.specs.declared.SoftModulator.{SoftModulator}
@@ -42,11 +43,11 @@ refuses (idle state) = false
 refuses getFrame = false
 refuses nothing = false
 
-refused-by : (a : Paper) (number : ℕ) → a ≡ refusal number → T (refuses a)
+refused-by : (a : Paper) (number : PaperRefusal) → a ≡ refusal number → T (refuses a)
 refused-by a number e = rw e tt
 
 -- ---- the rules
-no-room-lent : (c : Call) (number : ℕ) → Refusing c number → [] ≡ lent c
+no-room-lent : (c : Call) (number : PaperRefusal) → Refusing c number → [] ≡ lent c
 no-room-lent c number (miscounted e) = refl
 no-room-lent c number (outside e) = refl
 no-room-lent c number (large e) = refl
@@ -74,11 +75,11 @@ module _ (R : Rate) (s : Sent) where
         rests = λ _ _ _ t. absurd t;
       })
 
-  pub refused-nothing : (c : Call) (number : ℕ) → called R s c .said .answer ≡ refusal number → (called R s c .sent ≡ s) × (called R s c .said .room ≡ lent c)
+  pub refused-nothing : (c : Call) (number : PaperRefusal) → called R s c .said .answer ≡ refusal number → (called R s c .sent ≡ s) × (called R s c .said .room ≡ lent c)
   refused-nothing c number e = kept c (refused-by _ number e)
 
   -- and so it counts for nothing: what comes after it is as if it had not been made
-  pub refused-skipped : (c : Call) (number : ℕ) (cs : List Call) → called R s c .said .answer ≡ refusal number
+  pub refused-skipped : (c : Call) (number : PaperRefusal) (cs : List Call) → called R s c .said .answer ≡ refusal number
       → (run (rules R) s (c ∷ cs) ≡ run (rules R) s cs) × (answers (rules R) s (c ∷ cs) ≡ called R s c .said ∷ answers (rules R) s cs)
   unfolding run answers
   refused-skipped c number cs e =
@@ -91,7 +92,7 @@ module _ (R : Rate) (s : Sent) where
   stores-exactly fill capacity latency = by-tests (tooLarge fill capacity latency) (ltb capacity fill)
     where
       by-tests : (a b : Bool)
-          → refuses (settled R s (cond a (only (refusal 8)) (cond b (only (refusal 9)) (told done (updatedPending (R .p) fill capacity (endAfter fill latency (s .progress)) (s .pending)) (bufferOf fill capacity latency)))) .said .answer) ≡ not (not a && not b)
+          → refuses (settled R s (cond a (only (refusal (bare 8))) (cond b (only (refusal (bare 9))) (told done (updatedPending (R .p) fill capacity (endAfter fill latency (s .progress)) (s .pending)) (bufferOf fill capacity latency)))) .said .answer) ≡ not (not a && not b)
       by-tests true b = refl
       by-tests false true = refl
       by-tests false false = refl
@@ -108,7 +109,7 @@ module _ (R : Rate) (m : SoftModulator) where
   unfolding settledRecord frameOutcome
   kept-frame NoFrame symbols t = absurd t
   kept-frame (Preamble steps) symbols t = absurd t
-  kept-frame GivenSymbols symbols t = each-given (controlOf m) KeptBy symbols (λ _ _. (refl, refl)) (λ _ _. (refl, refl)) (λ _ _ u. absurd u) t
+  kept-frame GivenSymbols symbols t = each-given (controlOf m) KeptBy symbols (λ _ _. (refl, refl)) (λ _ _ _ _. (refl, refl)) (λ _ _ u. absurd u) t
   kept-frame EndOfTransmission symbols t = absurd t
 
   kept-update : (fill capacity latency : ℕ) → KeptBy (updateOutcome (R .p) fill capacity latency (controlOf m))
@@ -130,10 +131,10 @@ module _ (R : Rate) (m : SoftModulator) where
   kept-record (update fill capacity latency) = unless-unfit [] _ (kept-update fill capacity latency)
   kept-record ask = unless-unfit [] _ kept-action
 
-  pub refused-record : (c : Call) (number : ℕ) → left R m c .answer ≡ refusal number → (left R m c .modulator ≡ m) × (left R m c .room ≡ lent c)
+  pub refused-record : (c : Call) (number : PaperRefusal) → left R m c .answer ≡ refusal number → (left R m c .modulator ≡ m) × (left R m c .room ≡ lent c)
   refused-record c number e = kept-record c (refused-by _ number e)
 
-  pub skipped-record : (c : Call) (number : ℕ) (cs : List Call) → left R m c .answer ≡ refusal number
+  pub skipped-record : (c : Call) (number : PaperRefusal) (cs : List Call) → left R m c .answer ≡ refusal number
       → (run (sender R) m (c ∷ cs) ≡ run (sender R) m cs) × (answers (sender R) m (c ∷ cs) ≡ saidBy (left R m c) ∷ answers (sender R) m cs)
   unfolding run answers
   skipped-record c number cs e =

@@ -20,6 +20,7 @@ use Rattle.shaping.specs.Reach.{Finite, sumReach}
 use Rattle.shaping.specs.Phase.{fullSymbol, phasesFit}
 use Rattle.shaping.proofs.RateFacts.{facts48}
 use Rattle.pulse.specs.Pulse.{pulses}
+use Rattle.protocol.specs.Refusals.{bare}
 use Rattle.modulator.specs.declared.Progress.{Progress}
 use Rattle.modulator.specs.declared.ModulatorFrame.the-variants.{Nothing as NoFrame, Preamble, Symbols as GivenSymbols, EndOfTransmission}
 use Rattle.modulator.specs.Paper.{refusal, done, wrote}
@@ -133,5 +134,5 @@ opening-long = ap (λ (s : Progress). s .«next_len») (sender-run at48 facts48 
 opening-made : Quiet (getD (recordAfter at48 opening .«next_transmission») 1919 (pos 0))
 opening-made = within-made at48 facts48 opening opening-given 1919 (rw opening-long (lit< tt))
 
-opening-taken : done ≡ refusal 1 → ⊥
+opening-taken : done ≡ refusal (bare 1) → ⊥
 opening-taken = never-unfit at48 facts48 opening opening-given (record { answer = done; room = [] }) (rw p2-run (List·Memᴰ·head refl))

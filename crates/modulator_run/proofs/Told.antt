@@ -11,6 +11,7 @@ use lib.Ieee.Bits.{is-true}
 use Rattle.machine.specs.Runs.{run}
 use Rattle.machine.proofs.Parts.{run-joined, run-last}
 use Rattle.shaping.specs.Rate.{Rate}
+use Rattle.protocol.specs.Refusals.{PaperRefusal}
 use Rattle.modulator.specs.declared.EndReport.{EndReport}
 use Rattle.modulator.specs.declared.EndReport.the-variants.{Nothing as NoReport, After as Reported}
 use Rattle.modulator.specs.declared.SampleCount.{SampleCount}
@@ -42,7 +43,7 @@ reportNext (read room) o t r = r
 reportNext (update fill capacity latency) o t r = cond (stores (update fill capacity latency)) (cond o (Reported (record { 0 = endAfter fill latency t })) r) r
 reportNext ask o t r = NoReport
 
-refused-report : (c : Call) (number : ℕ) (o : Bool) (t : Progress) (r : EndReport) → Refusing c number → r ≡ reportNext c o t r
+refused-report : (c : Call) (number : PaperRefusal) (o : Bool) (t : Progress) (r : EndReport) → Refusing c number → r ≡ reportNext c o t r
 unfolding reportNext
 refused-report c number o t r (miscounted e) = refl
 refused-report c number o t r (outside e) = refl

@@ -14,6 +14,7 @@ use Rattle.machine.specs.Runs.{run, answers, Each}
 use Rattle.machine.proofs.Parts.{run-joined, run-last}
 use Rattle.shaping.specs.Rate.{Rate}
 use Rattle.shaping.proofs.RateFacts.{Facts}
+use Rattle.protocol.specs.Refusals.{PaperRefusal}
 use Rattle.modulator.specs.declared.ModulatorFrame.the-variants.{Nothing as NoFrame, Preamble, Symbols as GivenSymbols, EndOfTransmission}
 use Rattle.modulator.specs.Control.{unread}
 use Rattle.modulator_run.specs.Rules.{Call, provide, read, update, ask, Sent, After, start, framed, drained, called, rules, sentAll}
@@ -33,7 +34,7 @@ samples s = unread (s .progress)
 
 -- ---- one call
 -- a refused call provides no frame
-not-framed : (c : Call) (number : ℕ) → Refusing c number → replaces c ≡ false
+not-framed : (c : Call) (number : PaperRefusal) → Refusing c number → replaces c ≡ false
 unfolding replaces
 not-framed c number (miscounted e) = e
 not-framed c number (outside e) = e

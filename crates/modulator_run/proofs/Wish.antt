@@ -3,11 +3,12 @@ use mathlib.Core.Path.{_≡_, refl, sym, ap, _∙_}
 use mathlib.Core.Logic.{_↔_}
 use mathlib.Core.Bool.{Bool, true, false, cond, _||_}
 use mathlib.Core.List.{List}
-use Prim.Native.Nat.{ℕ, _-_}
+use Prim.Native.Nat.{_-_}
 use lib.Dec.{leb}
 use Rattle.machine.specs.Runs.{Each}
 use Rattle.shaping.specs.Rate.{Rate, wishRoom}
 use Rattle.shaping.proofs.RateFacts.{Facts}
+use Rattle.protocol.specs.Refusals.{PaperRefusal}
 use Rattle.modulator.specs.declared.Pending.{Pending}
 use Rattle.modulator_run.specs.Rules.{Call, Sent, After, start, framed, drained, called, sentAll}
 use Rattle.modulator_run.specs.Run.{recordAfter, Given}
@@ -25,7 +26,7 @@ raised-or-kept true w = refl
 raised-or-kept false w = refl
 
 module _ (R : Rate) where
-  refused-wish : (c : Call) (number : ℕ) (w : Bool) → Refusing c number → w ≡ lasted (raises (R .p)) drops c w
+  refused-wish : (c : Call) (number : PaperRefusal) (w : Bool) → Refusing c number → w ≡ lasted (raises (R .p)) drops c w
   unfolding raises drops
   refused-wish c number w (miscounted e) = refl
   refused-wish c number w (outside e) = refl

@@ -8,6 +8,7 @@ use lib.ListN.{replicate}
 use Rattle.machine.specs.Runs.{run, answers, Each}
 use Rattle.shaping.specs.Rate.{at48}
 use Rattle.shaping.proofs.RateFacts.{facts48}
+use Rattle.protocol.specs.Refusals.{bare}
 use Rattle.modulator.specs.declared.ModulatorFrame.the-variants.{Nothing as NoFrame, Preamble, EndOfTransmission}
 use Rattle.modulator.specs.Paper.{refusal}
 use Rattle.modulator.specs.Outcome.{frameOutcome, updateOutcome, actionBy}
@@ -76,21 +77,21 @@ none-set = padding-exactly at48 readSince 0 .1 (unset tt)
 -- ---- capacity below fill, by the rules; and a read of an unfit record
 below-unsent : called at48 start (update 9 5 0) .sent ≡ start
 unfolding called updateOutcome settled
-below-unsent = refused-nothing at48 start (update 9 5 0) 9 refl .0
+below-unsent = refused-nothing at48 start (update 9 5 0) (bare 9) refl .0
 
 below-skipped : answers (rules at48) start (update 9 5 0 ∷ wishing) ≡ called at48 start (update 9 5 0) .said ∷ answers (rules at48) start wishing
 unfolding called updateOutcome settled
-below-skipped = refused-skipped at48 start (update 9 5 0) 9 wishing refl .1
+below-skipped = refused-skipped at48 start (update 9 5 0) (bare 9) wishing refl .1
 
 abbrev room : List ℤ
 room = pos 7 ∷ []
 
-astray-refuses : left at48 astray (read room) .answer ≡ refusal 1
+astray-refuses : left at48 astray (read room) .answer ≡ refusal (bare 1)
 unfolding left
 astray-refuses = rw (read-unfit at48 astray room astray-unfit)
 
 astray-kept : left at48 astray (read room) .room ≡ room
-astray-kept = refused-record at48 astray (read room) 1 astray-refuses .1
+astray-kept = refused-record at48 astray (read room) (bare 1) astray-refuses .1
 
 astray-skipped : run (sender at48) astray (read room ∷ wishing) ≡ run (sender at48) astray wishing
-astray-skipped = skipped-record at48 astray (read room) 1 wishing astray-refuses .0
+astray-skipped = skipped-record at48 astray (read room) (bare 1) wishing astray-refuses .0

@@ -6,20 +6,21 @@ use Prim.Native.Nat.{ℕ, _+_}
 use lib.Dec.{lit<}
 use lib.IntN.{ℤ, pos, negsuc}
 use lib.ListN.{replicate}
-use lib.Ieee.{Float, binary32, ofBits, ofInt, add, mul, le, toSigned}
+use lib.Ieee.{Float, binary32, ofBits, ofInt, add, mul, lt, toSigned}
 use Rattle.numbers.specs.Sum.{sumTo}
-use Rattle.numbers.specs.Below.{allBelow}
 use Rattle.numbers.specs.Firsts.{firsts}
 use Rattle.machine.specs.Runs.{run, answers, Each}
 use Rattle.shaping.specs.Taps.{taps}
 use Rattle.shaping.specs.Rate.{at48}
 use Rattle.shaping.specs.Sum.{dot}
 use Rattle.shaping.proofs.RateFacts.{facts48}
+use Rattle.protocol.specs.Refusals.{bare as alone, placed}
 use Rattle.encode.specs.Frames.{preambleSign}
 use Rattle.modulator.specs.declared.Progress.{Progress}
 use Rattle.modulator.specs.declared.ModulatorFrame.the-variants.{Nothing as NoFrame, Preamble, Symbols as GivenSymbols, EndOfTransmission}
 use Rattle.modulator.specs.Paper.{Paper, refusal, done, wrote, transmitEnd, readOutput, idle, getFrame, nothing}
-use Rattle.modulator.specs.Frame.{preamble, symbolFit, paddingOf}
+use Rattle.modulator.specs.Frame.{preamble, paddingOf}
+use Rattle.modulator.specs.Offender.{judged, judgedBelow}
 use Rattle.modulator.specs.Control.{handedOut}
 use Rattle.modulator.specs.Outcome.{givenOutcome, frameOutcome, updateOutcome, actionBy}
 use Rattle.modulator_run.specs.Stream.{entered, enteringAt, sentAt}
@@ -107,6 +108,6 @@ idle-said = refl
 abbrev refusing : List Call
 refusing = provide GivenSymbols [] ∷ provide GivenSymbols (replicate 192 (ofBits binary32 0x4000_0000)) ∷ update 16777217 0 0 ∷ update 1 0 0 ∷ []
 
-pub refused-said : saidAll at48 refusing ≡ bare (refusal 6) ∷ bare (refusal 7) ∷ bare (refusal 8) ∷ bare (refusal 9) ∷ []
-unfolding answers called updateOutcome settled frameOutcome givenOutcome allBelow symbolFit ofBits le
+pub refused-said : saidAll at48 refusing ≡ bare (refusal (alone 6)) ∷ bare (refusal (placed 73 0)) ∷ bare (refusal (alone 8)) ∷ bare (refusal (alone 9)) ∷ []
+unfolding answers called updateOutcome settled frameOutcome givenOutcome judgedBelow judged ofBits lt
 refused-said = refl

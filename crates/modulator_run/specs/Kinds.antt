@@ -43,8 +43,8 @@ drops (read room) = false
 drops (update fill capacity latency) = false
 drops ask = false
 
--- "Any other replaces unread samples": each frame but none, if it is not refused. 6: "symbols not exactly 192"; 7: "a symbol
--- not a number or outside -1 to 1"
+-- "Any other replaces unread samples": each frame but none, if it is not refused. 6: "symbols not exactly 192"; 71 to 74:
+-- "not a number, infinite, above 1, below -1"
 unfoldable pub replaces : Call → Bool
 replaces (provide NoFrame symbols) = false
 replaces (provide (Preamble steps) symbols) = true

@@ -1,32 +1,40 @@
--- No two refusals have one number. Assumes nothing.
+-- No two refusals have the same number and place. Assumes nothing.
 use mathlib.Core.Path.{_≡_, refl, sym, ap, _∙_}
 use mathlib.Core.List.{List, [], _∷_}
 use Prim.Native.Nat.{ℕ, _-_}
 use lib.ListN.{getD}
 use Rattle.protocol.specs.declared.Refusal.{Refusal}
-use Rattle.protocol.specs.declared.Refusal.the-variants.{RecordUnfit, ReplyOwed, NoReplyOwed, RoomTooSmall, CountAtItsEnd, WrongCount, SymbolOutside, BufferTooLarge, CapacityBelowFill, ValueOutside}
-use Rattle.protocol.specs.Refusals.{paperNumber}
+use Rattle.protocol.specs.declared.Refusal.the-variants.{RecordUnfit, ReplyOwed, NoReplyOwed, RoomTooSmall, CountAtItsEnd, WrongCount, SymbolNotANumber, SymbolInfinite, SymbolAboveOne, SymbolBelowMinusOne, BufferTooLarge, CapacityBelowFill, ValueOutside}
+use Rattle.protocol.specs.Refusals.{PaperRefusal, bare, placed, onPaper}
 
--- the refusals in the order of their numbers, the first being 1
+-- those without a place in the order of their numbers, from 1; 7 is none's, and any stands there
 table : List Refusal
-table = RecordUnfit ∷ ReplyOwed ∷ NoReplyOwed ∷ RoomTooSmall ∷ CountAtItsEnd ∷ WrongCount ∷ SymbolOutside ∷ BufferTooLarge ∷ CapacityBelowFill ∷ ValueOutside ∷ []
+table = RecordUnfit ∷ ReplyOwed ∷ NoReplyOwed ∷ RoomTooSmall ∷ CountAtItsEnd ∷ WrongCount ∷ RecordUnfit ∷ BufferTooLarge ∷ CapacityBelowFill ∷ ValueOutside ∷ []
 
--- the refusal that has a number
-pub numbered : ℕ → Refusal
-numbered n = getD table (n - 1) RecordUnfit
+-- those with one, from 71
+tableAt : ℕ → List Refusal
+tableAt place = SymbolNotANumber place ∷ SymbolInfinite place ∷ SymbolAboveOne place ∷ SymbolBelowMinusOne place ∷ []
 
-pub numbered-back : (why : Refusal) → numbered (paperNumber why) ≡ why
-unfolding numbered table
+-- the refusal of which the paper writes this
+pub numbered : PaperRefusal → Refusal
+numbered (bare n) = getD table (n - 1) RecordUnfit
+numbered (placed n place) = getD (tableAt place) (n - 71) RecordUnfit
+
+pub numbered-back : (why : Refusal) → numbered (onPaper why) ≡ why
+unfolding numbered table tableAt
 numbered-back RecordUnfit = refl
 numbered-back ReplyOwed = refl
 numbered-back NoReplyOwed = refl
 numbered-back RoomTooSmall = refl
 numbered-back CountAtItsEnd = refl
 numbered-back WrongCount = refl
-numbered-back SymbolOutside = refl
+numbered-back (SymbolNotANumber place) = refl
+numbered-back (SymbolInfinite place) = refl
+numbered-back (SymbolAboveOne place) = refl
+numbered-back (SymbolBelowMinusOne place) = refl
 numbered-back BufferTooLarge = refl
 numbered-back CapacityBelowFill = refl
 numbered-back ValueOutside = refl
 
-pub number-once : (a b : Refusal) → paperNumber a ≡ paperNumber b → a ≡ b
-number-once a b e = sym (numbered-back a) ∙ ap numbered e ∙ numbered-back b
+pub refusal-once : (a b : Refusal) → onPaper a ≡ onPaper b → a ≡ b
+refusal-once a b e = sym (numbered-back a) ∙ ap numbered e ∙ numbered-back b

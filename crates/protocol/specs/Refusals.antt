@@ -1,31 +1,52 @@
--- Document 01's table of refusal numbers, row by row. Assumes nothing.
+-- The refusals' numbers: document 01's table, row by row, with document 02's in their places. Assumes nothing.
 use mathlib.Core.Path.{_≡_}
 use Prim.Native.Nat.{ℕ}
 use Rattle.protocol.specs.declared.Refusal.{Refusal}
-use Rattle.protocol.specs.declared.Refusal.the-variants.{RecordUnfit, ReplyOwed, NoReplyOwed, RoomTooSmall, CountAtItsEnd, WrongCount, SymbolOutside, BufferTooLarge, CapacityBelowFill, ValueOutside}
+use Rattle.protocol.specs.declared.Refusal.the-variants.{RecordUnfit, ReplyOwed, NoReplyOwed, RoomTooSmall, CountAtItsEnd, WrongCount, SymbolNotANumber, SymbolInfinite, SymbolAboveOne, SymbolBelowMinusOne, BufferTooLarge, CapacityBelowFill, ValueOutside}
+use Rattle.protocol.specs.declared.Place.{Place}
+use Rattle.protocol.specs.declared.Place.the-variants.{Nothing, At}
 
-abbrev pub paperNumber : Refusal → ℕ
+-- a refusal on paper: its number alone, or with a place beside it
+pub data PaperRefusal : Type 0 where
+  bare : ℕ → PaperRefusal
+  placed : ℕ → ℕ → PaperRefusal
+
+abbrev pub onPaper : Refusal → PaperRefusal
 -- "record unfit"
-paperNumber RecordUnfit = 1
+onPaper RecordUnfit = bare 1
 -- "sample given while a reply is owed"
-paperNumber ReplyOwed = 2
+onPaper ReplyOwed = bare 2
 -- "reply given while none is owed"
-paperNumber NoReplyOwed = 3
+onPaper NoReplyOwed = bare 3
 -- "room for symbols below 192 (checked on every sample)"
-paperNumber RoomTooSmall = 4
+onPaper RoomTooSmall = bare 4
 -- "sample given at count 2^63"
-paperNumber CountAtItsEnd = 5
+onPaper CountAtItsEnd = bare 5
 -- "symbols not exactly 192; correlator values not exactly 8"
-paperNumber WrongCount = 6
--- "a symbol not a number or outside -1 to 1"
-paperNumber SymbolOutside = 7
+onPaper WrongCount = bare 6
+-- "not a number, infinite, above 1, below -1, each with the place of the first offending symbol": "71 to 74 in that order replace 7"
+onPaper (SymbolNotANumber place) = placed 71 place
+onPaper (SymbolInfinite place) = placed 72 place
+onPaper (SymbolAboveOne place) = placed 73 place
+onPaper (SymbolBelowMinusOne place) = placed 74 place
 -- "fill, capacity or latency above 16,777,216"
-paperNumber BufferTooLarge = 8
+onPaper BufferTooLarge = bare 8
 -- "capacity below fill"
-paperNumber CapacityBelowFill = 9
+onPaper CapacityBelowFill = bare 9
 -- "a correlator value not a number or beyond ±1,000,000"
-paperNumber ValueOutside = 10
+onPaper ValueOutside = bare 10
 
--- ---- what the function promises
+abbrev pub numberOf : PaperRefusal → ℕ
+numberOf (bare number) = number
+numberOf (placed number place) = number
+
+abbrev pub placeOf : PaperRefusal → Place
+placeOf (bare number) = Nothing
+placeOf (placed number place) = At place
+
+-- ---- what the functions promise
 abbrev pub number-says : Refusal → ℕ → Type 0
-number-says refusal r = r ≡ paperNumber refusal
+number-says refusal r = r ≡ numberOf (onPaper refusal)
+
+abbrev pub place-says : Refusal → Place → Type 0
+place-says refusal r = r ≡ placeOf (onPaper refusal)

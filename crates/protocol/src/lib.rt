@@ -1,6 +1,6 @@
-// What the M17 specification fixes for both ends of a channel: the four kinds of frame, the six sync bursts with their signs, and the refusals of document 01 with their numbers.
+// What the M17 specification fixes for both ends of a channel: the four kinds of frame, the six sync bursts with their signs, and the refusals of documents 01 and 02 with their numbers.
 ghost use Rattle.protocol.specs.Bursts.{target-says};
-ghost use Rattle.protocol.specs.Refusals.{number-says};
+ghost use Rattle.protocol.specs.Refusals.{number-says, place-says};
 
 // The kinds of frame, in the order in which the search tries them.
 pub enum Kind {
@@ -45,7 +45,7 @@ impl SyncBurst {
     }
 }
 
-// Why a call is refused. Nothing but the refusal is given then, and record and buffers are as they were.
+// Why a call is refused, with the place of the symbol that is wrong. Nothing else is given then, and record and buffers are as they were.
 pub enum Refusal {
     RecordUnfit,
     ReplyOwed,
@@ -53,14 +53,23 @@ pub enum Refusal {
     RoomTooSmall,
     CountAtItsEnd,
     WrongCount,
-    SymbolOutside,
+    SymbolNotANumber(usize),
+    SymbolInfinite(usize),
+    SymbolAboveOne(usize),
+    SymbolBelowMinusOne(usize),
     BufferTooLarge,
     CapacityBelowFill,
     ValueOutside,
 }
 
+// What a refusal tells beside its number: nothing, or a place, counted from 0.
+pub enum Place {
+    Nothing,
+    At(usize),
+}
+
 impl Refusal {
-    // The refusal's number in document 01.
+    // The refusal's number in document 01 or 02.
     pub fn number(self) -> u32
         ensures { λ r. ⌜ number-says self r ⌝ }
     {
@@ -71,10 +80,25 @@ impl Refusal {
             Refusal::RoomTooSmall => 4,
             Refusal::CountAtItsEnd => 5,
             Refusal::WrongCount => 6,
-            Refusal::SymbolOutside => 7,
+            Refusal::SymbolNotANumber(_) => 71,
+            Refusal::SymbolInfinite(_) => 72,
+            Refusal::SymbolAboveOne(_) => 73,
+            Refusal::SymbolBelowMinusOne(_) => 74,
             Refusal::BufferTooLarge => 8,
             Refusal::CapacityBelowFill => 9,
             Refusal::ValueOutside => 10,
+        }
+    }
+
+    pub fn place(self) -> Place
+        ensures { λ r. ⌜ place-says self r ⌝ }
+    {
+        match self {
+            Refusal::SymbolNotANumber(place) => Place::At(place),
+            Refusal::SymbolInfinite(place) => Place::At(place),
+            Refusal::SymbolAboveOne(place) => Place::At(place),
+            Refusal::SymbolBelowMinusOne(place) => Place::At(place),
+            _ => Place::Nothing,
         }
     }
 }

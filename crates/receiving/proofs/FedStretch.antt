@@ -12,6 +12,7 @@ use lib.ListN.{length, drop}
 use lib.Ieee.{Float}
 use Rattle.machine.specs.Runs.{run, answers}
 use Rattle.shaping.specs.Rate.{at48}
+use Rattle.protocol.specs.Refusals.{bare}
 use Rattle.demodulator.specs.declared.SoftDemodulator.{SoftDemodulator}
 use Rattle.demodulator.specs.declared.Offer.{Offer}
 use Rattle.demodulator.specs.Fit.{recordFit}
@@ -70,17 +71,17 @@ module _ (number : ℕ) (m : SoftDemodulator) (s : RefusesAll number m) where
 
 -- ---- where a stretch stops before a sample: no offer, and the refusal only at its start
 module _ (number : ℕ) where
-  stops-none : (window : List Float) (b : Bool) → listedOf verdict (cond b (refusal number) nothing) window ≡ []
+  stops-none : (window : List Float) (b : Bool) → listedOf verdict (cond b (refusal (bare number)) nothing) window ≡ []
   unfolding listedOf
   stops-none window true = refl
   stops-none window false = refl
 
-  stops-offer : (b : Bool) → isOffer (cond b (refusal number) nothing) ≡ false
+  stops-offer : (b : Bool) → isOffer (cond b (refusal (bare number)) nothing) ≡ false
   unfolding isOffer
   stops-offer true = refl
   stops-offer false = refl
 
-  stops-told : (b : Bool) → cond b (refusal number) nothing ≡ refusalIn (cond b (refusal number) nothing)
+  stops-told : (b : Bool) → cond b (refusal (bare number)) nothing ≡ refusalIn (cond b (refusal (bare number)) nothing)
   stops-told true = refl
   stops-told false = refl
 
@@ -142,7 +143,7 @@ module _ (n : ℕ) (m : SoftDemodulator) (x : ℤ) (xs : List ℤ) (places : ℕ
         told = λ _. none-told l e refl;
       }
 
-  goes-stuck : (number : ℕ) → RefusesAll number m → Here (stopsBefore (refusal number) n m blank)
+  goes-stuck : (number : ℕ) → RefusesAll number m → Here (stopsBefore (refusal (bare number)) n m blank)
   unfolding run linesOf flatMap
   goes-stuck number all =
       let none-fed : n - n ≡ 0 = omega arith in

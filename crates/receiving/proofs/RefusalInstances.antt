@@ -10,6 +10,7 @@ use lib.Ieee.{ofBits, lt, le}
 use Rattle.numbers.specs.Below.{allBelow}
 use Rattle.machine.specs.Runs.{run, answers}
 use Rattle.protocol.specs.declared.Refusal.the-variants.{RecordUnfit, CountAtItsEnd}
+use Rattle.protocol.specs.Refusals.{bare}
 use Rattle.decode.specs.Correlator.{inRange}
 use Rattle.search.specs.declared.Candidate.the-variants.{Nothing as NoCandidate}
 use Rattle.search.specs.declared.Wait.the-variants.{Free}
@@ -47,15 +48,15 @@ unfit-stuck y = sample-unfit unfit y blank refl
 unfit-silent : textFrom record48 unfit (pos 1 ∷ pos 2 ∷ []) ≡ []
 unfit-silent = stuck-text 1 unfit unfit-stuck (pos 1 ∷ pos 2 ∷ [])
 
-unfit-told : recordIntake waits (0x12 ∷ []) (length line) .answer ≡ refusal 1
+unfit-told : recordIntake waits (0x12 ∷ []) (length line) .answer ≡ refusal (bare 1)
 unfolding intakeOf samplesOf
 unfit-told = told-at unfit _ [] (refused 1 unfit blank) (unfit-stuck _)
 
 unfit-unmoved : Unmoved waits line (record { answer = Refused RecordUnfit; consumed = 0; written = 0; receiving = waits }) line
-unfit-unmoved = refused-hear waits (0x12 ∷ []) line _ line 1 (refused-says waits (0x12 ∷ []) line RecordUnfit unfit-told) refl
+unfit-unmoved = refused-hear waits (0x12 ∷ []) line _ line (bare 1) (refused-says waits (0x12 ∷ []) line RecordUnfit unfit-told) refl
 
 -- no byte at all, and it is refused all the same
-unfit-empty : recordIntake waits [] 0 ≡ record { answer = refusal 1; consumed = 0; text = []; state = unfit; odd = Held 0x34 }
+unfit-empty : recordIntake waits [] 0 ≡ record { answer = refusal (bare 1); consumed = 0; text = []; state = unfit; odd = Held 0x34 }
 unfolding intakeOf batchOf samplesOf oddOf goIn toldTo run answers linesOf flatMap recordFit
 unfit-empty = refl
 
@@ -74,12 +75,12 @@ roomy : 192 ≤ length blank
 unfolding blank
 roomy = lit≤ tt
 
-last-told : recordIntake counted (0x34 ∷ 0x12 ∷ 0x07 ∷ []) (length line) .answer ≡ refusal 5
+last-told : recordIntake counted (0x34 ∷ 0x12 ∷ 0x07 ∷ []) (length line) .answer ≡ refusal (bare 5)
 unfolding intakeOf samplesOf
 last-told = told-at last _ [] (refused 5 last blank) (sample-last last _ blank last-fit refl roomy refl)
 
 last-unmoved : Unmoved counted line (record { answer = Refused CountAtItsEnd; consumed = 0; written = 0; receiving = counted }) line
-last-unmoved = refused-hear counted (0x34 ∷ 0x12 ∷ 0x07 ∷ []) line _ line 5 (refused-says counted (0x34 ∷ 0x12 ∷ 0x07 ∷ []) line CountAtItsEnd last-told) refl
+last-unmoved = refused-hear counted (0x34 ∷ 0x12 ∷ 0x07 ∷ []) line _ line (bare 5) (refused-says counted (0x34 ∷ 0x12 ∷ 0x07 ∷ []) line CountAtItsEnd last-told) refl
 
 -- ---- no room for a line: no byte is consumed, which is no refusal
 no-room : recordIntake freshReceiving (0x34 ∷ []) 96 ≡ record { answer = nothing; consumed = 0; text = []; state = fresh; odd = Nothing }

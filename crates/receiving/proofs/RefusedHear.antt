@@ -12,7 +12,7 @@ use lib.ListN.{length}
 use Rattle.machine.specs.Runs.{Machine, run, answers}
 use Rattle.machine.proofs.Parts.{answers-long}
 use Rattle.protocol.specs.declared.Refusal.{Refusal}
-use Rattle.protocol.specs.Refusals.{paperNumber}
+use Rattle.protocol.specs.Refusals.{PaperRefusal, onPaper}
 use Rattle.search.proofs.AgeInPass.{by-test}
 use Rattle.demodulator.specs.Fit.{recordFit}
 use Rattle.demodulator.specs.Calls.{refusal, isRefusal}
@@ -36,7 +36,7 @@ module _ {S : Type 0} (m : Machine S Single Said) (fit : S → Bool) (s : S) (od
   abbrev call : Intake S
   call = intakeOf m fit s odd bytes places
 
-  pub refused-intake : (number : ℕ) → call .answer ≡ refusal number → call ≡ record { answer = refusal number; consumed = 0; text = []; state = s; odd = odd }
+  pub refused-intake : (number : PaperRefusal) → call .answer ≡ refusal number → call ≡ record { answer = refusal number; consumed = 0; text = []; state = s; odd = odd }
   unfolding intakeOf batchOf run answers linesOf flatMap
   refused-intake number e =
       let none : goIn said places ≡ 0 = told-none (fit s) said places (ap isRefusal e) in
@@ -61,13 +61,13 @@ pub record Unmoved (r : Receiving) (lines : List ℕ) (a : AfterBytes) (after : 
   pub leaves : a .receiving ≡ r
   pub room : after ≡ lines
 
-pub refused-hear : (r : Receiving) (bytes lines : List ℕ) (a : AfterBytes) (after : List ℕ) (number : ℕ) → hear-says r bytes lines a after → receiptPaper (a .answer) ≡ refusal number → Unmoved r lines a after
+pub refused-hear : (r : Receiving) (bytes lines : List ℕ) (a : AfterBytes) (after : List ℕ) (number : PaperRefusal) → hear-says r bytes lines a after → receiptPaper (a .answer) ≡ refusal number → Unmoved r lines a after
 refused-hear r bytes lines a after number says told =
     let e = refused-intake record48 (recordFit 10) (r .demodulator) (r .odd) (looked bytes (length lines)) (length lines) number (sym (says .answers) ∙ told) in
     record { consumes = says .consumes ∙ rw e; writes-none = says .counts ∙ rw e; leaves = says .leaves ∙ rw e; room = says .writes ∙ rw e }
 
 -- and there is such an answer wherever the call is refused
-pub refused-says : (r : Receiving) (bytes lines : List ℕ) (why : Refusal) → recordIntake r bytes (length lines) .answer ≡ refusal (paperNumber why) → hear-says r bytes lines (record { answer = Refused why; consumed = 0; written = 0; receiving = r }) lines
+pub refused-says : (r : Receiving) (bytes lines : List ℕ) (why : Refusal) → recordIntake r bytes (length lines) .answer ≡ refusal (onPaper why) → hear-says r bytes lines (record { answer = Refused why; consumed = 0; written = 0; receiving = r }) lines
 refused-says r bytes lines why e =
-    let same = refused-intake record48 (recordFit 10) (r .demodulator) (r .odd) (looked bytes (length lines)) (length lines) (paperNumber why) e in
+    let same = refused-intake record48 (recordFit 10) (r .demodulator) (r .odd) (looked bytes (length lines)) (length lines) (onPaper why) e in
     record { answers = rw same; consumes = rw same; counts = rw same; leaves = rw same; writes = rw same }

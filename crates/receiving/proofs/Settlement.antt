@@ -10,6 +10,7 @@ use lib.Ieee.{Float}
 use Rattle.machine.specs.Runs.{run, answers}
 use Rattle.protocol.specs.declared.Kind.{Kind}
 use Rattle.protocol.specs.declared.Refusal.{Refusal}
+use Rattle.protocol.specs.Refusals.{bare}
 use Rattle.search.specs.declared.Reply.the-variants.{Accepted, Rejected}
 use Rattle.demodulator.specs.declared.SoftDemodulator.{SoftDemodulator}
 use Rattle.demodulator.specs.declared.Heard.the-variants.{Refused, Quiet, Offered}
@@ -85,7 +86,7 @@ module _ (m : SoftDemodulator) (xs : List ℤ) (room : List ℕ) (r : AfterStret
       in-words (heardPaper (Offered o)) (rw e refl) (s .written) (s .demodulator) after (rw line-alone (settles .counts)) (settles .leaves) (rw line-alone (settles .writes))
 
 -- ---- no sample: the call is refused where the record is unfit, and leaves all as it was
-by-fitness : (m : SoftDemodulator) (b : Bool) → refusalIn (cond (not b) (refusal 1) (carrier (timerHeld (m .control .dcd)))) ≡ cond b nothing (refusal 1)
+by-fitness : (m : SoftDemodulator) (b : Bool) → refusalIn (cond (not b) (refusal (bare 1)) (carrier (timerHeld (m .control .dcd)))) ≡ cond b nothing (refusal (bare 1))
 by-fitness m true = refl
 by-fitness m false = refl
 

@@ -12,6 +12,7 @@ use lib.ListN.{length, length-append, drop-of-length-le}
 use lib.Seq.{take-all}
 use Rattle.machine.specs.Runs.{run, answers, Each}
 use Rattle.shaping.specs.Rate.{at48}
+use Rattle.protocol.specs.Refusals.{bare}
 use Rattle.demodulator.specs.declared.SoftDemodulator.{SoftDemodulator}
 use Rattle.demodulator.specs.Fit.{recordFit, fitForSample}
 use Rattle.demodulator.specs.Calls.{refusal, nothing, isRefusal, Left, demodulated}
@@ -63,7 +64,7 @@ unfit-told : (m : SoftDemodulator) (xs : List ℤ) → length xs ≡ 0 → isRef
 unfolding answers toldTo
 unfit-told m [] none = by-fitness (recordFit 10 m)
   where
-    by-fitness : (b : Bool) → isRefusal (cond b nothing (refusal 1)) ≡ true → b ≡ false
+    by-fitness : (b : Bool) → isRefusal (cond b nothing (refusal (bare 1))) ≡ true → b ≡ false
     by-fitness true e = absurd (false≢true e)
     by-fitness false e = refl
 unfit-told m (x ∷ xs) none = absurd (omega arith)

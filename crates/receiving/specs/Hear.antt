@@ -8,7 +8,7 @@ use lib.IntN.{ℤ}
 use lib.ListN.{length, take, drop}
 use Rattle.machine.specs.Runs.{Machine, answers}
 use Rattle.shaping.specs.Rate.{at48}
-use Rattle.protocol.specs.Refusals.{paperNumber}
+use Rattle.protocol.specs.Refusals.{onPaper}
 use Rattle.demodulator.specs.declared.SoftDemodulator.{SoftDemodulator}
 use Rattle.demodulator.specs.Record.{fresh}
 use Rattle.demodulator.specs.Fit.{recordFit}
@@ -71,7 +71,7 @@ abbrev pub freshReceiving : Receiving
 freshReceiving = record { demodulator = fresh; odd = Nothing }
 
 abbrev pub receiptPaper : Receipt → Paper
-receiptPaper (Refused why) = refusal (paperNumber why)
+receiptPaper (Refused why) = refusal (onPaper why)
 receiptPaper Admitted = nothing
 
 -- ---- what the functions promise

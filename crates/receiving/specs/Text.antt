@@ -8,6 +8,7 @@ use lib.ListN.{length, take}
 use lib.Ieee.{Float}
 use Rattle.machine.specs.Runs.{Machine, run, answers}
 use Rattle.protocol.specs.declared.Kind.{Kind}
+use Rattle.protocol.specs.Refusals.{bare}
 use Rattle.search.specs.declared.Reply.{Reply}
 use Rattle.search.specs.declared.Reply.the-variants.{Accepted, Rejected}
 use Rattle.demodulator.specs.Calls.{Paper, refusal, nothing, isRefusal}
@@ -55,5 +56,5 @@ refusalIn a = cond (isRefusal a) a nothing
 -- "Every refusal returns its number only, with record and buffers as they were": as in `feed`, only the first sample can be refused,
 -- and a call that gives none with 1, where the receiver is unfit with no filtered value tested
 unfoldable pub toldTo : Bool → List Said → Paper
-toldTo fit [] = cond fit nothing (refusal 1)
+toldTo fit [] = cond fit nothing (refusal (bare 1))
 toldTo fit (a ∷ later) = refusalIn (a .answer)

@@ -14,20 +14,23 @@ use lib.Ieee.Bits.{is-true}
 use Rattle.numbers.specs.Below.{allBelow}
 use Rattle.numbers.specs.Firsts.{firsts}
 use Rattle.numbers.proofs.Tests.{holds}
-use Rattle.numbers.proofs.Below.{all-below, below-all}
+use Rattle.numbers.proofs.Below.{all-below}
 use Rattle.numbers.proofs.Firsts.{length-firsts, firsts-at, firsts-same}
 use Rattle.shaping.specs.Rate.{at48}
 use Rattle.pulse.specs.Pulse.{listed}
 use Rattle.modulator.specs.declared.Pending.{Pending}
 use Rattle.modulator.specs.declared.SoftModulator.{SoftModulator}
+use Rattle.modulator.specs.declared.Provided.the-variants.{Done}
 use Rattle.modulator.specs.declared.ModulatorFrame.{ModulatorFrame}
 use Rattle.modulator.specs.declared.ModulatorFrame.the-variants.{Preamble, Symbols as GivenSymbols, EndOfTransmission}
 use Rattle.modulator.specs.Paper.{done, wrote}
 use Rattle.modulator.specs.Frame.{Symbols, preamble, given, ending, symbolFit}
+use Rattle.modulator.specs.Offender.{judgedBelow}
 use Rattle.modulator.specs.Control.{samplesRead, handedOut, ended}
 use Rattle.modulator.specs.Record.{controlOf}
 use Rattle.modulator.specs.Outcome.{givenOutcome, frameOutcome}
 use Rattle.modulator.specs.Calls.{settled as settledRecord}
+use Rattle.modulator_laws.proofs.FirstOffender.{fit-judged}
 use Rattle.modulator_run.specs.Stream.{sentAt}
 use Rattle.modulator_run.specs.Rules.{provide, Sent, after, framed, settled, frameSample, drained, called}
 use Rattle.modulator_run.specs.Run.{Delay}
@@ -75,8 +78,8 @@ module _ (line : List ℕ) (good : goodLine line ≡ true) where
       let digit : valueOf (getD line (i / 2) 0) < 16 = ltb-true _ 16 (is-true _ (good-digit line (holds good) (i / 2) (omega arith))) in
       rw (firsts-at (λ (j : ℕ). symbolOf (bitsAt line j)) 192 i nan l) (fit-symbol (bitsAt line i) (pair-below (valueOf (getD line (i / 2) 0)) i digit))
 
-  all-fit : allBelow 192 (λ (i : ℕ). symbolFit (getD (symbolsOf line) i nan)) ≡ true
-  all-fit = is-true _ (below-all 192 (λ (i : ℕ). symbolFit (getD (symbolsOf line) i nan)) fit-at)
+  all-fit : judgedBelow 192 (symbolsOf line) ≡ Done
+  all-fit = fit-judged (symbolsOf line) 192 fit-at
 
   -- by every record that is fit
   pub line-accepted : (m : SoftModulator) → settledRecord at48 m (frameOutcome 10 GivenSymbols (symbolsOf line) (controlOf m)) .answer ≡ done

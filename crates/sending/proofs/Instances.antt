@@ -10,6 +10,7 @@ use lib.Ieee.{le, ofBits}
 use Rattle.numbers.specs.Below.{allBelow}
 use Rattle.numbers.specs.Firsts.{firsts}
 use Rattle.shaping.specs.Rate.{at48}
+use Rattle.protocol.specs.Refusals.{bare}
 use Rattle.modulator.specs.declared.ModulatorFrame.the-variants.{EndOfTransmission}
 use Rattle.modulator.specs.Paper.{refusal, done}
 use Rattle.modulator.specs.Record.{fresh}
@@ -165,19 +166,19 @@ unfit = record {
 }
 
 -- a good line's frame
-unfit-line : turned unfit (drop 50 wholeCase) ≡ quiet (refusal 1) unfit false
+unfit-line : turned unfit (drop 50 wholeCase) ≡ quiet (refusal (bare 1)) unfit false
 unfolding unfit wholeCase recordFit turnFrame lineFrame isGiven held goodLine allBelow valueOf placeIn capitals
-unfit-line = refused-turn unfit (drop 50 wholeCase) 1 (refused-exactly unfit (drop 50 wholeCase))
+unfit-line = refused-turn unfit (drop 50 wholeCase) (bare 1) (refused-exactly unfit (drop 50 wholeCase))
 
 -- the end of the input
-unfit-end : turned unfit [] ≡ quiet (refusal 1) unfit false
+unfit-end : turned unfit [] ≡ quiet (refusal (bare 1)) unfit false
 unfolding unfit recordFit turnFrame isGiven
-unfit-end = refused-turn unfit [] 1 (refused-exactly unfit [])
+unfit-end = refused-turn unfit [] (bare 1) (refused-exactly unfit [])
 
 -- a bad line
-unfit-bad : turned unfit (lineFeed ∷ []) ≡ quiet (refusal 1) unfit false
+unfit-bad : turned unfit (lineFeed ∷ []) ≡ quiet (refusal (bare 1)) unfit false
 unfolding unfit wholeCase recordFit turnFrame lineFrame isGiven held hasFeed
-unfit-bad = refused-turn unfit (lineFeed ∷ []) 1 (refused-exactly unfit (lineFeed ∷ []))
+unfit-bad = refused-turn unfit (lineFeed ∷ []) (bare 1) (refused-exactly unfit (lineFeed ∷ []))
 
 -- and bytes that end no line, of which the sender hears nothing
 unfit-more : turned unfit (0x30 ∷ []) .answer ≡ done

@@ -7,6 +7,7 @@ use lib.Dec.{ltb}
 use lib.IntN.{ℤ}
 use lib.Ieee.{Float}
 use Rattle.shaping.specs.Rate.{at48}
+use Rattle.protocol.specs.Refusals.{PaperRefusal, bare}
 use Rattle.modulator.specs.declared.SoftModulator.{SoftModulator}
 use Rattle.modulator.specs.declared.ModulatorFrame.{ModulatorFrame}
 use Rattle.modulator.specs.declared.ModulatorFrame.the-variants.{Symbols as GivenSymbols, EndOfTransmission}
@@ -61,13 +62,13 @@ turn-answer s bytes = turned-answer s bytes ∙ moved-answer s bytes
 -- ---- by the sender's record
 -- a fit sender takes the frame, and any other refuses it with 1
 abbrev Takeable : TurnFrame → Type 0
-Takeable f = (m : SoftModulator) → answerTo m f ≡ cond (isGiven f && not (recordFit 10 m)) (refusal 1) done
+Takeable f = (m : SoftModulator) → answerTo m f ≡ cond (isGiven f && not (recordFit 10 m)) (refusal (bare 1)) done
 
 takeable : (frame : ModulatorFrame) (symbols : List Float) → ((m : SoftModulator) → settled at48 m (frameOutcome 10 frame symbols (controlOf m)) .answer ≡ done) → Takeable (given frame symbols)
 unfolding answerTo isGiven provided
 takeable frame symbols fine m = by-test (recordFit 10 m)
   where
-    by-test : (fit : Bool) → cond (not fit) (left (refusal 1) m []) (settled at48 m (frameOutcome 10 frame symbols (controlOf m))) .answer ≡ cond (not fit) (refusal 1) done
+    by-test : (fit : Bool) → cond (not fit) (left (refusal (bare 1)) m []) (settled at48 m (frameOutcome 10 frame symbols (controlOf m))) .answer ≡ cond (not fit) (refusal (bare 1)) done
     by-test true = fine m
     by-test false = refl
 
@@ -95,7 +96,7 @@ turn-takeable s [] = end-takeable
 turn-takeable s (b ∷ bytes) = line-takeable (held s (b ∷ bytes))
 
 -- A turn is refused exactly if it gives the sender a frame and the sender's record is unfit, and then with 1.
-pub refused-exactly : (s : Sending) (bytes : List ℕ) → turned s bytes .answer ≡ cond (isGiven (turnFrame s bytes) && not (recordFit 10 (s .modulator))) (refusal 1) done
+pub refused-exactly : (s : Sending) (bytes : List ℕ) → turned s bytes .answer ≡ cond (isGiven (turnFrame s bytes) && not (recordFit 10 (s .modulator))) (refusal (bare 1)) done
 refused-exactly s bytes = turn-answer s bytes ∙ turn-takeable s bytes (s .modulator)
 
 -- ---- the second call of a part
@@ -103,7 +104,7 @@ admitted-fit : (m : SoftModulator) (frame : ModulatorFrame) (symbols : List Floa
 unfolding provided
 admitted-fit m frame symbols fine = by-test (recordFit 10 m) fine
   where
-    by-test : (fit : Bool) → cond (not fit) (left (refusal 1) m []) (settled at48 m (frameOutcome 10 frame symbols (controlOf m))) .answer ≡ done → fit ≡ true
+    by-test : (fit : Bool) → cond (not fit) (left (refusal (bare 1)) m []) (settled at48 m (frameOutcome 10 frame symbols (controlOf m))) .answer ≡ done → fit ≡ true
     by-test true e = refl
     by-test false e = cc
 
@@ -117,5 +118,5 @@ read-follows m frame symbols byte fine room =
 
 -- ---- what it leaves
 -- Whenever a turn is refused, it leaves the sending that it was given, takes no byte, and nothing is to be written.
-pub refused-turn : (s : Sending) (bytes : List ℕ) (number : ℕ) → turned s bytes .answer ≡ refusal number → turned s bytes ≡ quiet (refusal number) s false
+pub refused-turn : (s : Sending) (bytes : List ℕ) (number : PaperRefusal) → turned s bytes .answer ≡ refusal number → turned s bytes ≡ quiet (refusal number) s false
 refused-turn s bytes number because = turned-refused s bytes number (sym (turned-answer s bytes) ∙ because)

@@ -6,6 +6,7 @@ use Prim.Native.Nat.{ℕ, _<_, min}
 use native.Mathlib.Nat.{not-suc-le-zero}
 use native.Mathlib.Omega.{arith}
 use lib.ListN.{length, take, length-take}
+use Rattle.protocol.specs.Refusals.{PaperRefusal}
 use Rattle.modulator.specs.Paper.{refusal, done, providedPaper}
 use Rattle.sending.specs.declared.Sending.{Sending}
 use Rattle.sending.specs.declared.AfterPart.{AfterPart}
@@ -51,7 +52,7 @@ module _ (s : Sending) (bytes : List ℕ) where
   unfolding turned orAsItWas
   turned-done l e fine = rw (e, fine)
 
-  pub turned-refused : (number : ℕ) → moved s bytes .answer ≡ refusal number → turned s bytes ≡ quiet (refusal number) s false
+  pub turned-refused : (number : PaperRefusal) → moved s bytes .answer ≡ refusal number → turned s bytes ≡ quiet (refusal number) s false
   unfolding turned orAsItWas
   turned-refused number because = rw because
 
@@ -99,5 +100,5 @@ module _ (s : Sending) (bytes : List ℕ) (n : ℕ) (places : length bytes ≡ 9
         ends = moves .ends;
       })
 
-  pub turn-refused : (number : ℕ) → providedPaper (p .answer) ≡ refusal number → (r : AfterPart) → Says (quiet (providedPaper (p .answer)) s false) r → turn-says s bytes n r
+  pub turn-refused : (number : PaperRefusal) → providedPaper (p .answer) ≡ refusal number → (r : AfterPart) → Says (quiet (providedPaper (p .answer)) s false) r → turn-says s bytes n r
   turn-refused number because r said = rw (turned-refused s (take n bytes) number (sym (moves .answers) ∙ because), ← because) said

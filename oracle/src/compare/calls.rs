@@ -62,14 +62,15 @@ impl Pair {
         self.ask_port(program, call, &mut room);
         let expected = refusals::of_sender(&before, call);
         if let Call::Window(..) = call {
-        } else if self.port.numbers[SENDER_REFUSAL] != expected {
+        } else if self.refusal() != expected {
+            let told = format!("{:?}", self.refusal());
             return Err(say(
-                "refusal by document 01",
-                expected,
-                self.port.numbers[SENDER_REFUSAL],
+                "refusal by the documents",
+                format!("{expected:?}"),
+                told,
             ));
-        } else if expected != 0 {
-            return self.refused(&before, &room, expected, tally);
+        } else if expected.0 != 0 {
+            return self.refused(&before, &room, expected.0, tally);
         }
         caught(|| self.ask_old(call, &room))??;
         let mut what = senders_differ(&flat::sender(&self.old), &self.port);
@@ -77,6 +78,14 @@ impl Pair {
             what = what.or_else(|| unamended::difference(&before, *counts, &self.port, tally));
         }
         what.map_or(Ok(true), Err)
+    }
+
+    /// The port's refusal: its number, and the place beside it or 0.
+    fn refusal(&self) -> (u64, u64) {
+        match self.port.numbers[SENDER_REFUSAL] {
+            0 => (0, 0),
+            number => (number, self.port.numbers[AMOUNT]),
+        }
     }
 
     fn ask_port(&mut self, program: &mut Program, call: &Call, room: &mut [i16]) {

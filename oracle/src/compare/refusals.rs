@@ -1,5 +1,5 @@
-//! Which refusal document 01 gives for a call: 'Refusal numbers' and the two unfit lists, the smallest number
-//! first; 0 for none. Request a of document 02 raises the limit of a reported end. The old modem has none of them.
+//! Which refusal documents 01 and 02 give for a call: 'Refusal numbers', the two unfit lists with request a's limit of
+//! a reported end, and request c, the smallest number first; 0 for none. The old modem has none of them.
 
 use super::calls::{Call, Frame};
 use super::flat::*;
@@ -80,19 +80,38 @@ fn sender_fit(record: &Sender) -> bool {
         && (n[END_HELD] == 0 || n[END] <= 2 * LARGEST_COUNT + 4_000 + 122_400)
 }
 
-pub fn of_sender(record: &Sender, call: &Call) -> u64 {
+/// Request c: "not a number, infinite, above 1, below -1"; "an infinity is always 72".
+fn of_symbol(symbol: f32) -> Option<u64> {
+    if symbol.is_nan() {
+        Some(71)
+    } else if symbol.is_infinite() {
+        Some(72)
+    } else if symbol > 1.0 {
+        Some(73)
+    } else if symbol < -1.0 {
+        Some(74)
+    } else {
+        None
+    }
+}
+
+/// "The earliest place decides." Places are counted from 0.
+fn of_symbols(symbols: &[f32]) -> Option<(u64, u64)> {
+    (0..)
+        .zip(symbols)
+        .find_map(|(place, &symbol)| Some((of_symbol(symbol)?, place)))
+}
+
+/// The number, and the place beside it or 0.
+pub fn of_sender(record: &Sender, call: &Call) -> (u64, u64) {
     if !sender_fit(record) {
-        return 1;
+        return (1, 0);
     }
     match call {
-        Call::Provide(Frame::Symbols, symbols) if symbols.len() != 192 => 6,
-        Call::Provide(Frame::Symbols, symbols)
-            if !symbols.iter().all(|&symbol| within(symbol, 1.0)) =>
-        {
-            7
-        }
-        Call::Update(counts) if counts.iter().any(|&count| count > LARGEST_COUNT) => 8,
-        Call::Update([fill, capacity, _]) if capacity < fill => 9,
-        _ => 0,
+        Call::Provide(Frame::Symbols, symbols) if symbols.len() != 192 => (6, 0),
+        Call::Provide(Frame::Symbols, symbols) => of_symbols(symbols).unwrap_or((0, 0)),
+        Call::Update(counts) if counts.iter().any(|&count| count > LARGEST_COUNT) => (8, 0),
+        Call::Update([fill, capacity, _]) if capacity < fill => (9, 0),
+        _ => (0, 0),
     }
 }

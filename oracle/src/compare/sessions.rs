@@ -134,8 +134,9 @@ fn refused_call(random: &mut Random) -> Call {
         }
         1 => {
             let mut symbols = symbols(random);
-            let bad = *random.pick(&[1.000_000_1, -1.000_000_1, f32::INFINITY, f32::NAN]);
-            symbols[random.below(192)] = bad;
+            for _ in 0..1 + random.below(3) {
+                symbols[random.below(192)] = wrong_symbol(random);
+            }
             Call::Provide(Frame::Symbols, symbols)
         }
         2 => {
@@ -148,6 +149,18 @@ fn refused_call(random: &mut Random) -> Call {
             let fill = 1 + random.below(5000) as u64;
             Call::Update([fill, fill - 1, 0])
         }
+    }
+}
+
+fn wrong_symbol(random: &mut Random) -> f32 {
+    match random.below(8) {
+        0 => f32::INFINITY,
+        1 => f32::NEG_INFINITY,
+        2 => 1.000_000_1,
+        3 => -1.000_000_1,
+        4 => f32::MAX,
+        5 => f32::MIN,
+        _ => nan(random),
     }
 }
 

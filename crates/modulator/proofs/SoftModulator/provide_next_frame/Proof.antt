@@ -50,23 +50,30 @@ returns-2 c =
     let e = frame-count at48 (a .self) (a .frame) (a .symbols .now) (fit f) (t .enum-told2 .given .1) (c .if2 .taken) in
     record { answers = rw e; leaves = rw e }
 
-all-within-requires : tie.Need-all-within-requires
-all-within-requires c κs = search needs
-
-returns-3 : tie.Need-returns-3
-returns-3 c =
-    let t = c .before .before .before in
-    let f = t .before .before in
-    let a = f .before .before .before .args in
-    let outside = sym (c .before .all-within .ensures) ∙ not-true _ (c .if3 .taken) in
-    let e = frame-outside at48 (a .self) (a .frame) (a .symbols .now) (fit f) (t .enum-told2 .given .1) (c .before .before .if2 .left) outside in
-    record { answers = rw e; leaves = rw e }
-
-given-requires : tie.Need-given-requires
-given-requires c κs = (cursor (c .before .before .before .before .before), c .before .before .if2 .left)
+first-offender-requires : tie.Need-first-offender-requires
+first-offender-requires c κs = search needs
 
 enum-told-3 : tie.Need-enum-told-3
 enum-told-3 c = search needs
+
+returns-3 : tie.Need-returns-3
+returns-3 c =
+    let o = c .before .before in
+    let t = o .before .before in
+    let f = t .before .before in
+    let a = f .before .before .before .args in
+    let wrong = c .enum-told3 .given .1 in
+    let e = frame-outside at48 (a .self) (a .frame) (a .symbols .now) (fit f) (t .enum-told2 .given .1) (o .before .if2 .left) (c .enum-told3 .given .0 .0) (sym (o .first-offender .ensures) ∙ wrong) in
+    record { answers = rw (e, wrong); leaves = rw e }
+
+enum-told-4 : tie.Need-enum-told-4
+enum-told-4 c = search needs
+
+given-requires : tie.Need-given-requires
+given-requires c κs = let o = c .before .before in (cursor (o .before .before .before .before), o .before .if2 .left)
+
+enum-told-5 : tie.Need-enum-told-5
+enum-told-5 c = search needs
 
 end-of-transmission-requires : tie.Need-end-of-transmission-requires
 end-of-transmission-requires c κs = cursor (c .before .before)
@@ -89,11 +96,12 @@ returns-5 c =
 
 returns-6 : tie.Need-returns-6
 returns-6 c =
-    let t = c .before .before .before .before in
+    let o = c .before .before .before in
+    let t = o .before .before in
     let f = t .before .before in
     let a = f .before .before .before .args in
-    let within = sym (c .before .before .all-within .ensures) ∙ not-false _ (c .before .if3 .left) in
-    let e = frame-given at48 (a .self) (a .frame) (a .symbols .now) (fit f) (t .enum-told2 .given .1) (c .before .before .before .if2 .left) within in
+    let right = sym (o .first-offender .ensures) ∙ c .before .enum-told4 .given .1 in
+    let e = frame-given at48 (a .self) (a .frame) (a .symbols .now) (fit f) (t .enum-told2 .given .1) (o .before .if2 .left) right in
     record { answers = rw e; leaves = rw (e, c .given .ensures) }
 
 returns-7 : tie.Need-returns-7
@@ -101,7 +109,7 @@ returns-7 c =
     let t = c .before in
     let f = t .before .before in
     let a = f .before .before .before .args in
-    let e = frame-ending at48 (a .self) (a .frame) (a .symbols .now) (fit f) (t .enum-told3 .given .1) in
+    let e = frame-ending at48 (a .self) (a .frame) (a .symbols .now) (fit f) (t .enum-told5 .given .1) in
     record { answers = rw e; leaves = rw (e, c .end-of-transmission .ensures) }
 
 pub provide-next-frame-spec : {M : Type 1} → statement M
@@ -116,10 +124,12 @@ provide-next-frame-spec =
     preamble-requires
     enum-told-2
     returns-2
-    all-within-requires
-    returns-3
-    given-requires
+    first-offender-requires
     enum-told-3
+    returns-3
+    enum-told-4
+    given-requires
+    enum-told-5
     end-of-transmission-requires
     returns-4
     returns-5
