@@ -1,4 +1,4 @@
-// Replays the list `programs`: does with its texts and recordings what send and receive do between their reads and their writes, and writes each line again with what came of it.
+// Replays the lists `programs` and `offsets`: does with their texts and recordings what send and receive do between their reads and their writes, and writes each line again with what came of it.
 mod pieces;
 mod received;
 mod sent;
@@ -20,6 +20,7 @@ fn append(recording: &mut [u8], recorded: usize, digits: &[u8]) -> usize {
 }
 
 // What comes back is how many bytes of the recording count after the line.
+// `was` tells what the Rust found with nothing amended: it is only written again.
 fn answer_line(line: &[u8], recording: &mut [u8], recorded: usize) -> usize {
     io::write_all(1, line);
     let name = cases_text::word(line, 0);
@@ -31,6 +32,11 @@ fn answer_line(line: &[u8], recording: &mut [u8], recorded: usize) -> usize {
         silence(recording, decimal(line, 1))
     } else if check::same(name, b"append") {
         append(recording, recorded, cases_text::word(line, 1))
+    } else if check::same(name, b"offset") {
+        pieces::offset(recording, recorded, decimal(line, 1));
+        recorded
+    } else if check::same(name, b"was") {
+        recorded
     } else {
         let size = decimal(line, 1);
         let room = decimal(line, 2);

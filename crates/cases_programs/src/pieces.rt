@@ -72,3 +72,21 @@ pub(crate) fn put(recording: &mut [u8], at: usize, bytes: &[u8], count: usize) -
     }
     end
 }
+
+// A sample goes up, in two's complement.
+fn raised(low: u8, high: u8, by: usize) -> [u8; 2] {
+    let sum = low as usize + 256 * (high as usize) + by % 65536;
+    [(sum % 256) as u8, (sum / 256 % 256) as u8]
+}
+
+pub(crate) fn offset(recording: &mut [u8], recorded: usize, by: usize) {
+    let samples = least(recorded, recording.len()) / 2;
+    let mut i: usize = 0;
+    while i < samples {
+        let at = 2 * i;
+        let next = at + 1;
+        let bytes = raised(recording[at], recording[next], by);
+        put(recording, at, &bytes, 2);
+        i += 1;
+    }
+}

@@ -1,11 +1,11 @@
 -- Instances that meet the hypotheses of the laws: each burst's signs times 32, of which P3 has the LSF's. Assumes nothing.
 use mathlib.Core.Path.{_≡_}
-use mathlib.Core.Bool.{not}
-use Prim.Native.Nat.{ℕ, suc, _<_}
+use mathlib.Core.Bool.{Bool, not}
+use Prim.Native.Nat.{ℕ, suc, _≤_, _<_}
 use native.Mathlib.Omega.{arith}
-use lib.IntN.{pos}
+use lib.IntN.{ℤ, pos, natAbs, _+ℤ_, _*ℤ_}
 use lib.ListN.{getD}
-use lib.Dec.{T, not-T, lit<}
+use lib.Dec.{T, leb, leb→le, not-T, lit<}
 use lib.Ieee.{Float, binary32, ofBits, ofInt, add, sub, mul, div, lt, le, eq, neg}
 use Rattle.numbers.specs.Below.{anyBelow, allBelow}
 use Rattle.numbers.specs.Choice.{larger, smaller, sizeOf}
@@ -16,12 +16,15 @@ use Rattle.protocol.specs.declared.SyncBurst.{SyncBurst}
 use Rattle.protocol.specs.declared.SyncBurst.the-variants.{Frame}
 use Rattle.protocol.specs.Bursts.{signsOf}
 use Rattle.decode.specs.Correlator.{zero32, zeroUnsigned, highest, lowest, gainOf, shiftOf, symbolOf, distanceOf, summed, diffOf, correlation, matches, inRange}
+use Rattle.decode.specs.Offset.{wholes, offsetBy, OffsetFree}
+use Rattle.decode.proofs.Scale.{million}
 use Rattle.decode.proofs.Side.{side-of-plus, side-of-minus}
 use Rattle.decode.proofs.Opened.{unsignedAt, Opened, opened}
 use Rattle.decode.proofs.Table.{rank-below, for-each}
 use Rattle.decode.proofs.OneMatch.{one-match}
 use Rattle.decode.proofs.Apart.{not-again, never-apart}
 use Rattle.decode.proofs.Diff.{closed}
+use Rattle.decode.proofs.OffsetFree.{offset-free}
 use Rattle.decode.proofs.MatchFacts.{MatchFacts, match-facts}
 
 -- 32.0 and -32.0
@@ -72,3 +75,20 @@ sent-never-apart j k = not-T (matches (Frame k) (λ i. sent (Frame j) (suc i))) 
 
 sent-facts : (b : SyncBurst) → MatchFacts (correlation b (sent b)) (lowest (unsignedAt (sent b)) 7) (highest (unsignedAt (sent b)) 7)
 sent-facts b = match-facts (sent b) (eight b) b (sent-matches b)
+
+-- whole values, and the largest offset that a card's samples leave room for
+wave : SyncBurst → ℕ → ℤ
+wave b i = getD (signsOf b) i (pos 0) *ℤ pos 32
+
+abbrev small : (SyncBurst → ℕ → ℤ) → SyncBurst → Bool
+small z b = allBelow 8 (λ i. leb (natAbs (z b i)) million)
+
+wave-small : (b : SyncBurst) (i : ℕ) → i < 8 → natAbs (wave b i) ≤ million
+wave-small b i l = leb→le _ _ (all-below 8 (λ i. leb (natAbs (wave b i)) million) (for-each 6 (small wave) (unfold allBelow wave signsOf in tt) b (rank-below b)) i l)
+
+wave-still : (b : SyncBurst) (i : ℕ) → i < 8 → natAbs (wave b i +ℤ pos 32767) ≤ million
+wave-still b i l =
+    leb→le _ _ (all-below 8 (λ i. leb (natAbs (wave b i +ℤ pos 32767)) million) (for-each 6 (small λ b i. wave b i +ℤ pos 32767) (unfold allBelow wave signsOf in tt) b (rank-below b)) i l)
+
+wave-offset : (b c : SyncBurst) → OffsetFree c (wholes (wave b)) (offsetBy (pos 32767) (wave b)) (pos 32767)
+wave-offset b = offset-free (wave b) (pos 32767) (wave-small b) (wave-still b)

@@ -36,5 +36,9 @@ pub mod Apart
 pub mod Diff
 -- a match's gain and shift
 pub mod MatchFacts
+-- floats that are halves of whole numbers
+pub mod Halves
+-- an offset changes the shift alone
+pub mod OffsetFree
 -- instances that meet the laws' hypotheses
 pub mod Instances

@@ -5,8 +5,6 @@ use Prim.Native.Nat.{ℕ, _≤_, _<_}
 use native.Mathlib.Omega.{arith}
 use lib.Dec.{T}
 use lib.Ieee.{Float, binary32, ofBits, lt, le}
-use Rattle.numbers.proofs.Order.{lt→le}
-use Rattle.numbers.proofs.Bounds.{within-between}
 use Rattle.protocol.specs.declared.SyncBurst.{SyncBurst}
 use Rattle.decode.specs.declared.Correlation.{Correlation}
 use Rattle.decode.specs.Correlator.{zero32, leastGain, threshold, highest, lowest, correlation, matches, inRange}
@@ -14,7 +12,7 @@ use Rattle.decode.proofs.Direction.{Beyond, beyond-toward}
 use Rattle.decode.proofs.Side.{side-of}
 use Rattle.decode.proofs.Signs.{sign-held}
 use Rattle.decode.proofs.Opened.{unsignedAt, gainAt, shiftAt, Opened, opened}
-use Rattle.decode.proofs.RangeFacts.{within-range, range-le, value-unsigned, extreme, extreme-unsigned, toward-extreme, gain-within, gain-le, scale}
+use Rattle.decode.proofs.RangeFacts.{within-range, range-le, value-unsigned, extreme, extreme-unsigned, toward-extreme, gain-within, gain-le, shift-within, scale}
 use Rattle.decode.proofs.Diff.{diff-least, diff-below}
 
 pub record MatchFacts (c : Correlation) (low high : Float) : Type 0 where
@@ -39,14 +37,6 @@ module _ (v : ℕ → Float) (range : (i : ℕ) → i < 8 → T (inRange (v i)))
       (side-of (gainAt v) (shiftAt v) S s (unsignedAt v i) K (rw (r .2) at (o .near i (r .1))))
       (toward-extreme s (unsignedAt v) _ 7 (value-unsigned v range) i l)
 
-  shift-fits : T (inRange (shiftAt v))
-  shift-fits =
-      let F = scale v range (o .strong) .shift-finite in
-      let hi = extreme-unsigned v range false in
-      let lo = extreme-unsigned v range true in
-      within-range (shiftAt v)
-      (within-between (extreme true (unsignedAt v) 7) (shiftAt v) (extreme false (unsignedAt v) 7) _ lo hi (lt→le _ _ (lo .0) F (shift-inside true)) (lt→le _ _ F (hi .0) (shift-inside false)))
-
 pub match-facts : (v : ℕ → Float) → ((i : ℕ) → i < 8 → T (inRange (v i))) → (b : SyncBurst) → T (matches b v) → MatchFacts (correlation b v) (lowest (unsignedAt v) 7) (highest (unsignedAt v) 7)
 unfolding correlation
 match-facts v range b m =
@@ -58,5 +48,5 @@ match-facts v range b m =
       gain-most = range-le (gainAt v) (gain-within v range);
       shift-above = shift-inside v range b o true;
       shift-below = shift-inside v range b o false;
-      shift-range = shift-fits v range b o;
+      shift-range = within-range (shiftAt v) (shift-within v range);
     }

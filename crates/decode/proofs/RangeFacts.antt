@@ -1,4 +1,4 @@
--- Eight values within ±1,000,000: with their zeros unsigned they, their highest and their lowest are too, the gain is, and the shift is finite. Assumes nothing.
+-- Eight values within ±1,000,000: with their zeros unsigned they, their highest and their lowest are too, and so are gain and shift. Assumes nothing.
 use mathlib.Core.Path.{_≡_, refl}
 use mathlib.Core.Logic.{inl, inr}
 use mathlib.Core.Bool.{Bool, true, false, not}
@@ -6,7 +6,7 @@ use Prim.Native.Nat.{ℕ, zero, suc, _≤_, _<_}
 use native.Mathlib.Nat.{eq-or-lt-of-le, le-of-suc-le-suc, le-refl, zero-lt-suc}
 use native.Mathlib.Omega.{arith}
 use lib.Dec.{T, lit≤}
-use lib.Ieee.{Float, binary32, ofBits, sub, lt, le}
+use lib.Ieee.{Float, binary32, ofBits, add, sub, lt, le}
 use lib.Ieee.Exact.{HasValue}
 use lib.Ieee.Fits.{and-i, and-l, and-r}
 use lib.Ieee.Scale.{finite}
@@ -56,16 +56,16 @@ abbrev pub extreme : Bool → (ℕ → Float) → ℕ → Float
 extreme false u n = highest u n
 extreme true u n = lowest u n
 
-abbrev further : Bool → Float → Float → Float
+abbrev pub further : Bool → Float → Float → Float
 further false a b = larger a b
 further true a b = smaller a b
 
-extreme-suc : (s : Bool) (u : ℕ → Float) (n : ℕ) → extreme s u (suc n) ≡ further s (extreme s u n) (u (suc n))
+pub extreme-suc : (s : Bool) (u : ℕ → Float) (n : ℕ) → extreme s u (suc n) ≡ further s (extreme s u n) (u (suc n))
 unfolding highest lowest
 extreme-suc false u n = refl
 extreme-suc true u n = refl
 
-extreme-zero : (s : Bool) (u : ℕ → Float) → extreme s u zero ≡ u zero
+pub extreme-zero : (s : Bool) (u : ℕ → Float) → extreme s u zero ≡ u zero
 unfolding highest lowest
 extreme-zero false u = refl
 extreme-zero true u = refl
@@ -114,9 +114,12 @@ module _ (v : ℕ → Float) (range : (i : ℕ) → i < 8 → T (inRange (v i)))
       let lo = extreme true (unsignedAt v) 7 in
       div-within binary32 (sub binary32 hi lo) (ofBits binary32 0x4000_0000) million 2 (lit≤ tt) (zero-lt-suc 1) (sub-within binary32 hi lo million million (lit≤ tt) (extreme-unsigned false) (extreme-unsigned true)) tt (lit≤ tt)
 
-  shift-sum-finite : T (finite (shiftAt v))
-  unfolding shiftOf
-  shift-sum-finite = add-within binary32 (extreme false (unsignedAt v) 7) (extreme true (unsignedAt v) 7) million million (lit≤ tt) (extreme-unsigned false) (extreme-unsigned true) .0
+  pub shift-within : Within (shiftAt v) million
+  unfolding shiftOf ofBits
+  shift-within =
+      let hi = extreme false (unsignedAt v) 7 in
+      let lo = extreme true (unsignedAt v) 7 in
+      div-within binary32 (add binary32 hi lo) (ofBits binary32 0x4000_0000) million 2 (lit≤ tt) (zero-lt-suc 1) (add-within binary32 hi lo million million (lit≤ tt) (extreme-unsigned false) (extreme-unsigned true)) tt (lit≤ tt)
 
   module _ (strong : T (not (lt (gainAt v) leastGain))) where
     pub gain-le : T (le leastGain (gainAt v))
@@ -131,4 +134,4 @@ module _ (v : ℕ → Float) (range : (i : ℕ) → i < 8 → T (inRange (v i)))
     }
 
     pub scale : Scale (gainAt v) (shiftAt v)
-    scale = record { gain-finite = gain-within .0; gain-above = sized-above sized; shift-finite = shift-sum-finite }
+    scale = record { gain-finite = gain-within .0; gain-above = sized-above sized; shift-finite = shift-within .0 }

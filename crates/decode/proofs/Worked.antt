@@ -1,4 +1,4 @@
--- Document 01, 'Sums worked by hand', P3 to P11: each is computed from the definitions. Assumes nothing.
+-- Document 01, 'Sums worked by hand', P3 to P11, with P6 to P8 as document 02 d has them: each is computed from the definitions. Assumes nothing.
 use mathlib.Core.Path.{_≡_, refl}
 use mathlib.Core.Bool.{Bool, true, false}
 use mathlib.Core.List.{[], _∷_}
@@ -14,7 +14,7 @@ use Rattle.protocol.specs.declared.SyncBurst.the-variants.{Frame}
 use Rattle.protocol.specs.Bursts.{signsOf, spelled, wordOf, signOf}
 use Rattle.decode.specs.declared.Correlation.{Correlation}
 use Rattle.decode.specs.Slicer.{sliced, outer, outerBelow}
-use Rattle.decode.specs.Correlator.{farthest, zeroUnsigned, highest, lowest, gainOf, shiftOf, symbolOf, distanceOf, distances, summed, diffOf, correlation, matches}
+use Rattle.decode.specs.Correlator.{zeroUnsigned, highest, lowest, gainOf, shiftOf, symbolOf, distanceOf, summed, diffOf, correlation, matches}
 
 -- a whole number as f32
 abbrev whole : ℕ → Float
@@ -48,21 +48,19 @@ pub p5 : found (ofBits binary32 0x4178_0000) (whole 0) ≡ false
 unfolding found
 p5 = refl
 
--- "P6 times 20 plus 5: match, gain 20, shift 10, diff 2.0."
-pub p6 : (found (whole 20) (whole 5) ≡ true) × (answer (whole 20) (whole 5) ≡ record { diff = whole 2; gain = whole 20; shift = whole 10 })
+-- document 02 d: "P6 becomes gain 20, shift 5, diff 0"
+pub p6 : (found (whole 20) (whole 5) ≡ true) × (answer (whole 20) (whole 5) ≡ record { diff = whole 0; gain = whole 20; shift = whole 5 })
 unfolding found
 p6 = (refl, refl)
 
--- "P7 plus 6: match (the 0.3 limit is met exactly)": by the first symbol, at gain 20 and shift 12
-pub p7 : (found (whole 20) (whole 6) ≡ true) × (answer (whole 20) (whole 6) .gain ≡ whole 20) × (answer (whole 20) (whole 6) .shift ≡ whole 12)
-    × (distances (signsOf (Frame Lsf)) (whole 20) (whole 12) (signal (whole 20) (whole 6)) 0 ≡ farthest)
+-- ".. P7 and P8 become matches with diff 0": plus 6, and plus 7
+pub p7 : (found (whole 20) (whole 6) ≡ true) × (answer (whole 20) (whole 6) ≡ record { diff = whole 0; gain = whole 20; shift = whole 6 })
 unfolding found
-p7 = (refl, refl, refl, refl)
+p7 = (refl, refl)
 
--- "P8 plus 7: none."
-pub p8 : found (whole 20) (whole 7) ≡ false
+pub p8 : (found (whole 20) (whole 7) ≡ true) × (answer (whole 20) (whole 7) ≡ record { diff = whole 0; gain = whole 20; shift = whole 7 })
 unfolding found
-p8 = refl
+p8 = (refl, refl)
 
 -- "P9 slicer: 0.0 gives 10."
 pub p9 : sliced (whole 0) ≡ 1 ∷ 0 ∷ []

@@ -51,9 +51,9 @@ lowest v (suc n) = smaller (lowest v n) (v (suc n))
 unfoldable pub gainOf : Float → Float → Float
 gainOf max min = div binary32 (sub binary32 max min) (ofBits binary32 0x4000_0000)
 
--- "Shift is max + min."
+-- Document 02 d: "Shift becomes (max + min) / 2 in the correlator, and the windows use it too."
 unfoldable pub shiftOf : Float → Float → Float
-shiftOf max min = add binary32 max min
+shiftOf max min = div binary32 (add binary32 max min) (ofBits binary32 0x4000_0000)
 
 -- "Each symbol's distance is the size of (value - shift) / gain - target."
 unfoldable pub symbolOf : Float → Float → Float → Float

@@ -2,3 +2,4 @@
 pub mod Slicer
 pub mod Correlator
 pub mod Parts
+pub mod Offset

@@ -114,7 +114,7 @@ pub fn spread_of(values: [f32; 8]) -> Spread
     let e = extremes(values);
     Spread {
         gain: (e.high - e.low) / 2.0,
-        shift: e.high + e.low,
+        shift: (e.high + e.low) / 2.0,
     }
 }
 

@@ -24,33 +24,32 @@ use Rattle.demodulator_examples.proofs.Sketch.{Sketch}
 -- the first 70; two more follow
 unfoldable pub front : List ℤ
 front =
-    pos 5539 ∷ negsuc 11180 ∷ pos 5970 ∷ pos 885 ∷ negsuc 1033 ∷ negsuc 957 ∷ pos 33 ∷ pos 1095 ∷ pos 1695 ∷ pos 1628 ∷ pos 961 ∷ negsuc 9631 ∷ pos 715 ∷ pos 1427
-    ∷ pos 1779 ∷ pos 1783 ∷ pos 1493 ∷ pos 998 ∷ pos 402 ∷ negsuc 185 ∷ negsuc 670 ∷ negsuc 7925 ∷ negsuc 212 ∷ pos 1086 ∷ pos 1975 ∷ pos 2312 ∷ pos 2083 ∷ pos 1393
-    ∷ pos 435 ∷ negsuc 560 ∷ negsuc 1372 ∷ negsuc 3900 ∷ negsuc 197 ∷ pos 30 ∷ pos 249 ∷ pos 421 ∷ pos 510 ∷ pos 498 ∷ pos 378 ∷ pos 166 ∷ negsuc 105 ∷ pos 1276
-    ∷ negsuc 1095 ∷ negsuc 1490 ∷ negsuc 1617 ∷ negsuc 1467 ∷ negsuc 1081 ∷ negsuc 544 ∷ pos 39 ∷ pos 561 ∷ pos 932 ∷ pos 2794 ∷ pos 508 ∷ pos 76 ∷ negsuc 314 ∷ negsuc 594
-    ∷ negsuc 724 ∷ negsuc 696 ∷ negsuc 533 ∷ negsuc 282 ∷ negsuc 2 ∷ pos 1217 ∷ pos 170 ∷ pos 115 ∷ pos 43 ∷ negsuc 29 ∷ negsuc 87 ∷ negsuc 121 ∷ negsuc 127 ∷ negsuc 106 ∷ []
+    pos 5214 ∷ negsuc 9568 ∷ pos 3867 ∷ pos 970 ∷ negsuc 341 ∷ negsuc 487 ∷ pos 37 ∷ pos 763 ∷ pos 1319 ∷ pos 1485 ∷ pos 1202 ∷ negsuc 8629 ∷ negsuc 18 ∷ pos 1097 ∷ pos 1779 ∷ pos 1958 ∷ pos 1672
+    ∷ pos 1041 ∷ pos 243 ∷ negsuc 534 ∷ negsuc 1127 ∷ negsuc 6484 ∷ negsuc 101 ∷ pos 883 ∷ pos 1591 ∷ pos 1903 ∷ pos 1788 ∷ pos 1305 ∷ pos 584 ∷ negsuc 208 ∷ negsuc 902 ∷ negsuc 3232 ∷ negsuc 769
+    ∷ negsuc 441 ∷ negsuc 56 ∷ pos 304 ∷ pos 566 ∷ pos 675 ∷ pos 609 ∷ pos 381 ∷ pos 36 ∷ pos 861 ∷ negsuc 1180 ∷ negsuc 1564 ∷ negsuc 1671 ∷ negsuc 1495 ∷ negsuc 1081 ∷ negsuc 518 ∷ pos 84 ∷ pos 616
+    ∷ pos 986 ∷ pos 2828 ∷ pos 516 ∷ pos 73 ∷ negsuc 325 ∷ negsuc 610 ∷ negsuc 741 ∷ negsuc 711 ∷ negsuc 543 ∷ negsuc 286 ∷ pos 0 ∷ pos 1247 ∷ pos 179 ∷ pos 119 ∷ pos 43 ∷ negsuc 32 ∷ negsuc 93
+    ∷ negsuc 128 ∷ negsuc 134 ∷ negsuc 112 ∷ []
 
 -- F(0) to F(73)
 unfoldable pub table : List Float
 table = map (ofBits binary32) (
-    0x0000_0000 ∷ 0xc18d_9967 ∷ 0x419b_fe3a ∷ 0x403b_e058 ∷ 0xbf18_81a4 ∷ 0x3fd6_78b0 ∷ 0x406e_6c40 ∷ 0x4006_ced3 ∷ 0xc065_bbda ∷ 0xc132_ce64 ∷ 0xc188_66bd ∷ 0xc18d_98ff
-    ∷ 0x419b_ff6c ∷ 0x41c5_197b ∷ 0x41b4_3d00 ∷ 0x415e_b523 ∷ 0x3f89_8f6c ∷ 0xc14b_3031 ∷ 0xc1be_84d1 ∷ 0xc1e9_cdba ∷ 0xc1d9_717c ∷ 0xc18d_a08a ∷ 0x419b_f9fb ∷ 0x41ff_ea3b
-    ∷ 0x4207_0056 ∷ 0x41c3_7216 ∷ 0x40d8_20b3 ∷ 0xc162_319e ∷ 0xc1ff_699c ∷ 0xc222_b3cb ∷ 0xc211_3a25 ∷ 0xc18d_91bb ∷ 0x419c_11cd ∷ 0x424b_d2ac ∷ 0x42a2_b9db ∷ 0x42d3_3395
-    ∷ 0x42ee_ba89 ∷ 0x42f0_163c ∷ 0x42d6_8c47 ∷ 0x42a6_3079 ∷ 0x424e_7427 ∷ 0x4192_1179 ∷ 0xc184_a6ec ∷ 0xc20d_e2f8 ∷ 0xc222_ff3f ∷ 0xc203_9af8 ∷ 0xc175_374c ∷ 0x40cc_4b66
-    ∷ 0x41cd_5ae5 ∷ 0x4211_9c24 ∷ 0x4209_0214 ∷ 0x418d_49cd ∷ 0xc189_3b3a ∷ 0xc252_6d45 ∷ 0xc2af_db51 ∷ 0xc2e9_ca63 ∷ 0xc306_4090 ∷ 0xc308_ae30 ∷ 0xc2f6_c47a ∷ 0xc2c0_5b9d
-    ∷ 0xc26c_4ee2 ∷ 0xc18b_bf82 ∷ 0x419e_a6dd ∷ 0x425c_535c ∷ 0x42a3_7240 ∷ 0x42c3_6011 ∷ 0x42cd_6645 ∷ 0x42c3_f2ea ∷ 0x42ab_2a3b ∷ 0x4287_2d69 ∷ 0x4234_b3d5 ∷ 0x418f_c709
-    ∷ 0xc187_6223 ∷ 0xc277_7f0f ∷ [])
+    0x0000_0000 ∷ 0xc185_4a7a ∷ 0x4174_cdde ∷ 0x40b2_04b4 ∷ 0x4012_0fbf ∷ 0x400e_0b67 ∷ 0x400a_feee ∷ 0x3bcc_c4e0 ∷ 0xc097_da2a ∷ 0xc12d_6b22 ∷ 0xc17d_590c ∷ 0xc187_fd8e ∷ 0x4188_09fd
+    ∷ 0x41c4_c883 ∷ 0x41c0_50e4 ∷ 0x417c_db6d ∷ 0x4019_3ef8 ∷ 0xc145_7102 ∷ 0xc1c1_98b5 ∷ 0xc1ed_d3c3 ∷ 0xc1d8_dc14 ∷ 0xc185_58cf ∷ 0x4174_b408 ∷ 0x41d7_a367 ∷ 0x41ef_51a9 ∷ 0x41bb_787d
+    ∷ 0x4115_9234 ∷ 0xc105_11fb ∷ 0xc1c2_3d60 ∷ 0xc205_0ba0 ∷ 0xc1fa_33de ∷ 0xc185_7222 ∷ 0x4174_3d29 ∷ 0x4236_f050 ∷ 0x4297_bd92 ∷ 0x42c8_9a4f ∷ 0x42e4_f87a ∷ 0x42e7_4a13 ∷ 0x42ce_c0c2
+    ∷ 0x429f_90ad ∷ 0x4244_6709 ∷ 0x4187_0f21 ∷ 0xc170_0778 ∷ 0xc200_b2ee ∷ 0xc211_4e36 ∷ 0xc1e0_c4e2 ∷ 0xc12e_5166 ∷ 0x411d_4343 ∷ 0x41de_513e ∷ 0x4214_e3ad ∷ 0x4208_b08b ∷ 0x418b_2e66
+    ∷ 0xc185_6e69 ∷ 0xc249_f6d4 ∷ 0xc2a7_1db2 ∷ 0xc2dc_287b ∷ 0xc2fa_a44c ∷ 0xc2fc_ff24 ∷ 0xc2e2_81d9 ∷ 0xc2af_50fe ∷ 0xc256_e48d ∷ 0xc184_89a1 ∷ 0x4177_3dc0 ∷ 0x4235_cf5d ∷ 0x4287_30ca
+    ∷ 0x42a1_00ae ∷ 0x42a8_c364 ∷ 0x42a1_480b ∷ 0x428e_57ae ∷ 0x4266_038e ∷ 0x421f_f4d6 ∷ 0x4189_e8b1 ∷ 0xc16b_ae67 ∷ 0xc26c_61f2 ∷ [])
 
-pub tabled : firsts (filtered taps 10 (front ++ (negsuc 66 ∷ pos 195 ∷ pos 0 ∷ []))) 74 ≡ table
+pub tabled : firsts (filtered taps 10 (front ++ (negsuc 69 ∷ pos 207 ∷ pos 0 ∷ []))) 74 ≡ table
 unfolding front table firsts filtered sampleNo dot sumTo taps ofBits ofInt add mul
 tabled = refl
 
-passes : T (tested front (negsuc 66) (pos 195) table Stream (sameKind Lsf))
+passes : T (tested front (negsuc 69) (pos 207) table Stream (sameKind Lsf))
 unfolding tested front allSixteen allBelow matched table ofBits matches correlation diffOf summed sumTo distanceOf symbolOf shiftOf gainOf highest lowest zeroUnsigned larger smaller sizeOf add sub mul div lt eq neg ofInt signsOf anyBelow
 passes = tt
 
-pub facts : Fits front (negsuc 66) (pos 195) table Stream (sameKind Lsf)
-facts = fits front (negsuc 66) (pos 195) table Stream (sameKind Lsf) passes
+pub facts : Fits front (negsuc 69) (pos 207) table Stream (sameKind Lsf)
+facts = fits front (negsuc 69) (pos 207) table Stream (sameKind Lsf) passes
 
 pub over : T (silent table 73)
 unfolding matched table ofBits matches correlation diffOf summed sumTo distanceOf symbolOf shiftOf gainOf highest lowest zeroUnsigned larger smaller sizeOf add sub mul div lt eq neg ofInt signsOf anyBelow
@@ -64,8 +63,8 @@ diffs = refl
 abbrev pub earlierLarger : Sketch
 earlierLarger = record {
   front = front;
-  x = negsuc 66;
-  y = pos 195;
+  x = negsuc 69;
+  y = pos 207;
   table = table;
   kind = Stream;
   hit = sameKind Lsf;

@@ -23,28 +23,27 @@ use Rattle.demodulator_examples.proofs.Fits.{Fits, tested, fits}
 -- the first 70; two more follow
 unfoldable pub front : List ℤ
 front =
-    negsuc 6758 ∷ pos 12488 ∷ negsuc 4148 ∷ negsuc 1010 ∷ negsuc 616 ∷ negsuc 1075 ∷ negsuc 1207 ∷ negsuc 549 ∷ pos 782 ∷ pos 2319 ∷ pos 3487 ∷ negsuc 939 ∷ negsuc 2238 ∷ negsuc 1006
-    ∷ negsuc 164 ∷ pos 141 ∷ negsuc 45 ∷ negsuc 541 ∷ negsuc 1097 ∷ negsuc 1471 ∷ negsuc 1497 ∷ pos 9359 ∷ pos 1330 ∷ negsuc 632 ∷ negsuc 2050 ∷ negsuc 2691 ∷ negsuc 2520 ∷ negsuc 1682
-    ∷ negsuc 451 ∷ pos 840 ∷ pos 1884 ∷ pos 4724 ∷ negsuc 93 ∷ negsuc 255 ∷ negsuc 390 ∷ negsuc 470 ∷ negsuc 467 ∷ negsuc 360 ∷ negsuc 144 ∷ pos 164 ∷ pos 529 ∷ negsuc 1940
-    ∷ pos 2055 ∷ pos 2584 ∷ pos 2678 ∷ pos 2337 ∷ pos 1639 ∷ pos 726 ∷ negsuc 228 ∷ negsuc 1056 ∷ negsuc 1618 ∷ negsuc 4672 ∷ negsuc 824 ∷ negsuc 62 ∷ pos 611 ∷ pos 1082
-    ∷ pos 1284 ∷ pos 1209 ∷ pos 904 ∷ pos 454 ∷ negsuc 36 ∷ negsuc 2133 ∷ negsuc 314 ∷ negsuc 208 ∷ negsuc 73 ∷ pos 61 ∷ pos 168 ∷ pos 230 ∷ pos 238 ∷ pos 198 ∷ []
+    negsuc 4787 ∷ pos 9604 ∷ negsuc 4577 ∷ negsuc 319 ∷ pos 269 ∷ negsuc 503 ∷ negsuc 1109 ∷ negsuc 841 ∷ pos 312 ∷ pos 1906 ∷ pos 3305 ∷ negsuc 495 ∷ negsuc 2685 ∷ negsuc 1086 ∷ pos 64 ∷ pos 549
+    ∷ pos 384 ∷ negsuc 231 ∷ negsuc 1001 ∷ negsuc 1615 ∷ negsuc 1839 ∷ pos 7941 ∷ pos 1236 ∷ negsuc 517 ∷ negsuc 1747 ∷ negsuc 2259 ∷ negsuc 2040 ∷ negsuc 1244 ∷ negsuc 135 ∷ pos 984 ∷ pos 1837
+    ∷ pos 3429 ∷ negsuc 663 ∷ negsuc 556 ∷ negsuc 400 ∷ negsuc 230 ∷ negsuc 67 ∷ pos 81 ∷ pos 219 ∷ pos 355 ∷ pos 492 ∷ negsuc 2621 ∷ pos 1581 ∷ pos 2097 ∷ pos 2250 ∷ pos 2028 ∷ pos 1487 ∷ pos 740
+    ∷ negsuc 69 ∷ negsuc 794 ∷ negsuc 1309 ∷ negsuc 4102 ∷ negsuc 711 ∷ negsuc 68 ∷ pos 504 ∷ pos 907 ∷ pos 1083 ∷ pos 1026 ∷ pos 773 ∷ pos 394 ∷ negsuc 21 ∷ negsuc 1803 ∷ negsuc 259 ∷ negsuc 173
+    ∷ negsuc 62 ∷ pos 48 ∷ pos 137 ∷ pos 188 ∷ pos 196 ∷ pos 164 ∷ []
 
 abbrev pub x : ℤ
-x = pos 122
+x = pos 102
 
 abbrev pub y : ℤ
-y = negsuc 367
+y = negsuc 300
 
 -- F(0) to F(72)
 unfoldable pub table : List Float
 table = map (ofBits binary32) (
-    0x0000_0000 ∷ 0x41ac_c991 ∷ 0xc1a0_ceb9 ∷ 0xc123_77d4 ∷ 0xc0ce_0e38 ∷ 0xbff5_5e9a ∷ 0x40a3_08c9 ∷ 0x4144_b660 ∷ 0x4178_c288 ∷ 0x4136_99a1 ∷ 0xbf59_5460 ∷ 0xc193_2afa
-    ∷ 0xc1a0_c99d ∷ 0xc154_bd01 ∷ 0xc0d1_84a2 ∷ 0xbe8f_0a80 ∷ 0x40b6_db12 ∷ 0x413b_437a ∷ 0x418b_f47b ∷ 0x41b1_3ed5 ∷ 0x41c0_e4c8 ∷ 0x41ac_da7b ∷ 0xc1a0_bc3b ∷ 0xc213_2e24
-    ∷ 0xc221_9118 ∷ 0xc1f1_d750 ∷ 0xc119_520a ∷ 0x4174_049e ∷ 0x4212_4cef ∷ 0x423d_103a ∷ 0x422a_722a ∷ 0x41ac_7da2 ∷ 0xc1a1_15cc ∷ 0xc253_0ee7 ∷ 0xc2a8_1579 ∷ 0xc2d9_67b9
-    ∷ 0xc2f4_c675 ∷ 0xc2f5_0ee8 ∷ 0xc2d9_da45 ∷ 0xc2a7_b2c1 ∷ 0xc24e_a7b9 ∷ 0xc190_111d ∷ 0x41a2_d946 ∷ 0x4213_e21c ∷ 0x421a_3489 ∷ 0x41d5_72d6 ∷ 0x40bf_596b ∷ 0xc187_eb0a
-    ∷ 0xc20d_187e ∷ 0xc22c_8dfe ∷ 0xc215_a200 ∷ 0xc191_e1ce ∷ 0x419f_c5c2 ∷ 0x4246_0c4e ∷ 0x4291_d220 ∷ 0x42aa_ccc3 ∷ 0x42a9_5ab5 ∷ 0x428e_c985 ∷ 0x4243_d14c ∷ 0x41b5_5b7f
-    ∷ 0xbfc6_1674 ∷ 0xc195_1526 ∷ 0xc1a2_b634 ∷ 0xc199_08a3 ∷ 0xc147_ab21 ∷ 0xc08a_a6c7 ∷ 0x3f73_54ff ∷ 0x3dcf_d4b8 ∷ 0xc0f1_c4ce ∷ 0xc197_28c1 ∷ 0xc1d3_b651 ∷ 0xc196_6044
-    ∷ 0x419c_6bc2 ∷ [])
+    0x0000_0000 ∷ 0x4174_cd20 ∷ 0xc185_4858 ∷ 0xc087_0cb2 ∷ 0xc01f_b7e2 ∷ 0xbfee_a76e ∷ 0x3fd9_d5e8 ∷ 0x40e9_2be5 ∷ 0x4131_e119 ∷ 0x4113_d4b4 ∷ 0xbe09_9920 ∷ 0xc174_ce70 ∷ 0xc188_0138
+    ∷ 0xc100_be9f ∷ 0xbf93_d22a ∷ 0x4047_bc18 ∷ 0x40b1_a906 ∷ 0x40ef_5a33 ∷ 0x411f_8ee7 ∷ 0x4153_0ed3 ∷ 0x4181_37e1 ∷ 0x4188_0e12 ∷ 0xc185_3b36 ∷ 0xc1eb_c9bc ∷ 0xc1f9_d569 ∷ 0xc1ae_4c02
+    ∷ 0xc088_5cff ∷ 0x417d_f26c ∷ 0x4201_0446 ∷ 0x421d_4216 ∷ 0x4206_e2ad ∷ 0x4174_d848 ∷ 0xc185_3972 ∷ 0xc21e_8ad1 ∷ 0xc277_2638 ∷ 0xc29f_5532 ∷ 0xc2b4_7bcb ∷ 0xc2b7_0150 ∷ 0xc2a5_d7f2
+    ∷ 0xc283_4caa ∷ 0xc229_9cc9 ∷ 0xc188_0c0f ∷ 0x4185_5fc3 ∷ 0x41f3_cd52 ∷ 0x4200_60ca ∷ 0x41b5_3ef6 ∷ 0x40ba_4806 ∷ 0xc151_3f4d ∷ 0xc1e2_738b ∷ 0xc20c_3a2a ∷ 0xc1f4_be95 ∷ 0xc16e_b7c0
+    ∷ 0x418b_0176 ∷ 0x4227_7ffd ∷ 0x4274_dce7 ∷ 0x428e_ed07 ∷ 0x428d_78a0 ∷ 0x426e_678e ∷ 0x4223_9336 ∷ 0x4198_27f3 ∷ 0xbf8f_b564 ∷ 0xc175_a917 ∷ 0xc185_eb91 ∷ 0xc17e_43b2 ∷ 0xc129_81de
+    ∷ 0xc082_75a7 ∷ 0x3de3_1cfa ∷ 0xbf2d_9314 ∷ 0xc0de_79d9 ∷ 0xc180_f495 ∷ 0xc1b0_6343 ∷ 0xc175_8aaa ∷ 0x4184_f03d ∷ [])
 
 pub tabled : firsts (filtered taps 10 (front ++ (x ∷ y ∷ []))) 73 ≡ table
 unfolding front table firsts filtered sampleNo dot sumTo taps ofBits ofInt add mul

@@ -24,33 +24,32 @@ use Rattle.demodulator_examples.proofs.Sketch.{Sketch}
 -- the first 70; two more follow
 unfoldable pub front : List ℤ
 front =
-    negsuc 6101 ∷ pos 11135 ∷ negsuc 4222 ∷ negsuc 1312 ∷ pos 190 ∷ pos 525 ∷ pos 84 ∷ negsuc 689 ∷ negsuc 1393 ∷ negsuc 1740 ∷ negsuc 1600 ∷ pos 9413 ∷ pos 468 ∷ negsuc 1012
-    ∷ negsuc 1985 ∷ negsuc 2325 ∷ negsuc 2054 ∷ negsuc 1314 ∷ negsuc 327 ∷ pos 658 ∷ pos 1423 ∷ pos 7538 ∷ pos 21 ∷ negsuc 1050 ∷ negsuc 1821 ∷ negsuc 2160 ∷ negsuc 2035 ∷ negsuc 1505
-    ∷ negsuc 708 ∷ pos 173 ∷ pos 955 ∷ pos 3905 ∷ pos 973 ∷ pos 522 ∷ pos 13 ∷ negsuc 445 ∷ negsuc 762 ∷ negsuc 879 ∷ negsuc 776 ∷ negsuc 479 ∷ negsuc 49 ∷ negsuc 461
-    ∷ pos 1243 ∷ pos 1608 ∷ pos 1690 ∷ pos 1489 ∷ pos 1055 ∷ pos 479 ∷ negsuc 127 ∷ negsuc 653 ∷ negsuc 1011 ∷ negsuc 2779 ∷ negsuc 513 ∷ negsuc 69 ∷ pos 329 ∷ pos 614
-    ∷ pos 745 ∷ pos 713 ∷ pos 544 ∷ pos 286 ∷ negsuc 1 ∷ negsuc 1250 ∷ negsuc 180 ∷ negsuc 119 ∷ negsuc 42 ∷ pos 34 ∷ pos 95 ∷ pos 131 ∷ pos 136 ∷ pos 114 ∷ []
+    negsuc 4787 ∷ pos 9604 ∷ negsuc 5137 ∷ negsuc 749 ∷ pos 936 ∷ pos 882 ∷ negsuc 0 ∷ negsuc 977 ∷ negsuc 1569 ∷ negsuc 1570 ∷ negsuc 1016 ∷ pos 8844 ∷ negsuc 546 ∷ negsuc 1264 ∷ negsuc 1631
+    ∷ negsuc 1650 ∷ negsuc 1372 ∷ negsuc 889 ∷ negsuc 310 ∷ pos 250 ∷ pos 698 ∷ pos 6779 ∷ pos 174 ∷ negsuc 929 ∷ negsuc 1690 ∷ negsuc 1986 ∷ negsuc 1800 ∷ negsuc 1218 ∷ negsuc 403 ∷ pos 449
+    ∷ pos 1153 ∷ pos 3198 ∷ pos 304 ∷ pos 109 ∷ negsuc 101 ∷ negsuc 288 ∷ negsuc 411 ∷ negsuc 440 ∷ negsuc 363 ∷ negsuc 186 ∷ pos 63 ∷ negsuc 1344 ∷ pos 1090 ∷ pos 1491 ∷ pos 1625 ∷ pos 1479
+    ∷ pos 1096 ∷ pos 557 ∷ negsuc 30 ∷ negsuc 558 ∷ negsuc 935 ∷ negsuc 2829 ∷ negsuc 509 ∷ negsuc 75 ∷ pos 316 ∷ pos 598 ∷ pos 728 ∷ pos 700 ∷ pos 537 ∷ pos 284 ∷ pos 3 ∷ negsuc 1223 ∷ negsuc 171
+    ∷ negsuc 115 ∷ negsuc 42 ∷ pos 31 ∷ pos 89 ∷ pos 124 ∷ pos 129 ∷ pos 109 ∷ []
 
 -- F(0) to F(73)
 unfoldable pub table : List Float
 table = map (ofBits binary32) (
-    0x0000_0000 ∷ 0x419b_fde6 ∷ 0xc18d_9eb5 ∷ 0xc0e9_4e44 ∷ 0xc037_6854 ∷ 0xbffc_0cdc ∷ 0xbfd1_dd21 ∷ 0x3ee3_92ad ∷ 0x40a4_9868 ∷ 0x4138_e4a4 ∷ 0x418a_a886 ∷ 0x419c_0cbc
-    ∷ 0xc18d_9182 ∷ 0xc1dd_ead4 ∷ 0xc1e0_d58a ∷ 0xc198_9503 ∷ 0xc060_a582 ∷ 0x415f_771a ∷ 0x41e1_d11e ∷ 0x420b_f5de ∷ 0x41ff_c0ea ∷ 0x419c_219a ∷ 0xc18d_6a68 ∷ 0xc1f7_efae
-    ∷ 0xc209_e9ff ∷ 0xc1d9_ff49 ∷ 0xc135_3a9a ∷ 0x410c_9ad4 ∷ 0x41d8_f78c ∷ 0x4216_9081 ∷ 0x420e_f3f9 ∷ 0x419b_5f6f ∷ 0xc18e_190e ∷ 0xc253_f402 ∷ 0xc2af_1095 ∷ 0xc2e6_5b4b
-    ∷ 0xc302_c549 ∷ 0xc303_433c ∷ 0xc2e8_b9ec ∷ 0xc2b1_4ab7 ∷ 0xc254_49ad ∷ 0xc180_2f5f ∷ 0x4196_7515 ∷ 0x421b_a623 ∷ 0x4233_10c0 ∷ 0x4213_b290 ∷ 0x4197_84e7 ∷ 0xc059_484a
-    ∷ 0xc1ba_815a ∷ 0xc20a_1b46 ∷ 0xc202_781e ∷ 0xc180_26d4 ∷ 0x4196_2d2a ∷ 0x4259_de4c ∷ 0x42b4_3ac1 ∷ 0x42ee_c772 ∷ 0x4308_f199 ∷ 0x430b_679c ∷ 0x42fb_f4cc ∷ 0x42c5_0def
-    ∷ 0x4274_969f ∷ 0x419a_9fd1 ∷ 0xc18f_b26f ∷ 0xc254_7246 ∷ 0xc29f_0ec9 ∷ 0xc2be_6bcf ∷ 0xc2c7_f563 ∷ 0xc2be_525e ∷ 0xc2a5_d073 ∷ 0xc282_93ac ∷ 0xc22d_9b1a ∷ 0xc185_5631
-    ∷ 0x4191_71a2 ∷ 0x427f_1ecc ∷ [])
+    0x0000_0000 ∷ 0x4174_cd20 ∷ 0xc185_4858 ∷ 0xc01b_9280 ∷ 0x3f04_f26c ∷ 0xbfd3_1a3e ∷ 0xc069_736e ∷ 0xc014_da6d ∷ 0x4033_fc1d ∷ 0x411e_a069 ∷ 0x417b_e42f ∷ 0x4188_061e ∷ 0xc187_f8bd
+    ∷ 0xc1b0_bc45 ∷ 0xc1a4_01eb ∷ 0xc14e_1dfa ∷ 0xbfab_2528 ∷ 0x4131_259e ∷ 0x41a8_5b21 ∷ 0x41ce_8e4f ∷ 0x41be_edf1 ∷ 0x4174_b8e8 ∷ 0xc185_4c0b ∷ 0xc1db_866f ∷ 0xc1e8_1642 ∷ 0xc1a8_432a
+    ∷ 0xc0ba_036a ∷ 0x4143_b54e ∷ 0x41dd_2158 ∷ 0x420d_0256 ∷ 0x41fb_deab ∷ 0x4174_9d30 ∷ 0xc185_6263 ∷ 0xc233_48f8 ∷ 0xc290_81b0 ∷ 0xc2bc_8507 ∷ 0xc2d5_b20c ∷ 0xc2d7_1d67 ∷ 0xc2c0_055d
+    ∷ 0xc294_1905 ∷ 0xc235_cffd ∷ 0xc173_d8b8 ∷ 0x4185_8466 ∷ 0x4204_203c ∷ 0x4212_6b5d ∷ 0x41e0_5f30 ∷ 0x412b_9604 ∷ 0xc11f_e944 ∷ 0xc1df_3cff ∷ 0xc215_4385 ∷ 0xc209_4545 ∷ 0xc18d_6de0
+    ∷ 0x4182_8867 ∷ 0x4247_b42c ∷ 0x42a5_8094 ∷ 0x42da_116f ∷ 0x42f8_29d3 ∷ 0x42fa_4a1a ∷ 0x42df_c17b ∷ 0x42ac_aef2 ∷ 0x4252_1d73 ∷ 0x4178_48de ∷ 0xc183_4ba6 ∷ 0xc239_1cbd ∷ 0xc288_8c52
+    ∷ 0xc2a2_0352 ∷ 0xc2a9_529c ∷ 0xc2a1_3858 ∷ 0xc28d_7c38 ∷ 0xc262_6e80 ∷ 0xc21a_8ca8 ∷ 0xc179_1658 ∷ 0x4183_05e7 ∷ 0x4270_f115 ∷ [])
 
-pub tabled : firsts (filtered taps 10 (front ++ (pos 71 ∷ negsuc 209 ∷ pos 0 ∷ []))) 74 ≡ table
+pub tabled : firsts (filtered taps 10 (front ++ (pos 68 ∷ negsuc 197 ∷ pos 0 ∷ []))) 74 ≡ table
 unfolding front table firsts filtered sampleNo dot sumTo taps ofBits ofInt add mul
 tabled = refl
 
-passes : T (tested front (pos 71) (negsuc 209) table Lsf (sameKind Stream))
+passes : T (tested front (pos 68) (negsuc 197) table Lsf (sameKind Stream))
 unfolding tested front allSixteen allBelow matched table ofBits matches correlation diffOf summed sumTo distanceOf symbolOf shiftOf gainOf highest lowest zeroUnsigned larger smaller sizeOf add sub mul div lt eq neg ofInt signsOf anyBelow
 passes = tt
 
-pub facts : Fits front (pos 71) (negsuc 209) table Lsf (sameKind Stream)
-facts = fits front (pos 71) (negsuc 209) table Lsf (sameKind Stream) passes
+pub facts : Fits front (pos 68) (negsuc 197) table Lsf (sameKind Stream)
+facts = fits front (pos 68) (negsuc 197) table Lsf (sameKind Stream) passes
 
 pub over : T (silent table 73)
 unfolding matched table ofBits matches correlation diffOf summed sumTo distanceOf symbolOf shiftOf gainOf highest lowest zeroUnsigned larger smaller sizeOf add sub mul div lt eq neg ofInt signsOf anyBelow
@@ -64,8 +63,8 @@ diffs = refl
 abbrev pub laterSmaller : Sketch
 laterSmaller = record {
   front = front;
-  x = pos 71;
-  y = negsuc 209;
+  x = pos 68;
+  y = negsuc 197;
   table = table;
   kind = Lsf;
   hit = sameKind Stream;

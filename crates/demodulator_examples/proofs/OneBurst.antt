@@ -22,22 +22,20 @@ use Rattle.demodulator_examples.proofs.Sketch.{Sketch}
 -- the first 70; two more follow
 unfoldable pub front : List ℤ
 front =
-    pos 5633 ∷ negsuc 4719 ∷ negsuc 1990 ∷ negsuc 422 ∷ pos 334 ∷ pos 576 ∷ pos 532 ∷ pos 366 ∷ pos 179 ∷ pos 27 ∷ negsuc 64 ∷ negsuc 2621 ∷ negsuc 1708 ∷ negsuc 496
-    ∷ pos 737 ∷ pos 1738 ∷ pos 2321 ∷ pos 2400 ∷ pos 1994 ∷ pos 1213 ∷ pos 234 ∷ negsuc 1894 ∷ negsuc 2286 ∷ negsuc 2242 ∷ negsuc 1815 ∷ negsuc 1125 ∷ negsuc 329 ∷ pos 413
-    ∷ pos 969 ∷ pos 1257 ∷ pos 1254 ∷ negsuc 20 ∷ negsuc 97 ∷ negsuc 138 ∷ negsuc 140 ∷ negsuc 107 ∷ negsuc 50 ∷ pos 14 ∷ pos 72 ∷ pos 110 ∷ pos 123 ∷ negsuc 3
-    ∷ pos 0 ∷ pos 4 ∷ pos 6 ∷ pos 5 ∷ pos 4 ∷ pos 1 ∷ negsuc 1 ∷ negsuc 4 ∷ negsuc 5 ∷ pos 1 ∷ pos 0 ∷ negsuc 0 ∷ negsuc 1 ∷ negsuc 1
-    ∷ negsuc 1 ∷ negsuc 0 ∷ pos 0 ∷ pos 0 ∷ pos 1 ∷ pos 1 ∷ pos 1 ∷ pos 1 ∷ pos 1 ∷ pos 1 ∷ pos 0 ∷ pos 0 ∷ pos 0 ∷ negsuc 0 ∷ []
+    pos 5320 ∷ negsuc 4456 ∷ negsuc 1880 ∷ negsuc 398 ∷ pos 315 ∷ pos 544 ∷ pos 503 ∷ pos 346 ∷ pos 169 ∷ pos 25 ∷ negsuc 60 ∷ negsuc 2475 ∷ negsuc 1613 ∷ negsuc 468 ∷ pos 696 ∷ pos 1641 ∷ pos 2192
+    ∷ pos 2267 ∷ pos 1883 ∷ pos 1146 ∷ pos 221 ∷ negsuc 1789 ∷ negsuc 2159 ∷ negsuc 2117 ∷ negsuc 1714 ∷ negsuc 1062 ∷ negsuc 311 ∷ pos 390 ∷ pos 915 ∷ pos 1187 ∷ pos 1184 ∷ negsuc 18 ∷ negsuc 92
+    ∷ negsuc 131 ∷ negsuc 132 ∷ negsuc 101 ∷ negsuc 47 ∷ pos 13 ∷ pos 68 ∷ pos 104 ∷ pos 116 ∷ negsuc 3 ∷ pos 0 ∷ pos 4 ∷ pos 5 ∷ pos 5 ∷ pos 3 ∷ pos 1 ∷ negsuc 1 ∷ negsuc 3 ∷ negsuc 5 ∷ pos 1 ∷ pos 0
+    ∷ negsuc 0 ∷ negsuc 1 ∷ negsuc 1 ∷ negsuc 1 ∷ negsuc 0 ∷ pos 0 ∷ pos 0 ∷ pos 1 ∷ pos 1 ∷ pos 1 ∷ pos 1 ∷ pos 1 ∷ pos 1 ∷ pos 0 ∷ pos 0 ∷ pos 0 ∷ negsuc 0 ∷ []
 
 -- F(0) to F(73)
 unfoldable pub table : List Float
 table = map (ofBits binary32) (
-    0x0000_0000 ∷ 0xc190_0094 ∷ 0xbfb6_1308 ∷ 0x4114_2ded ∷ 0x4165_6d32 ∷ 0x4166_e221 ∷ 0x4128_050b ∷ 0x4076_fd98 ∷ 0xc07b_6617 ∷ 0xc132_b399 ∷ 0xc182_293f ∷ 0xc190_00fb
-    ∷ 0xc0f4_c78a ∷ 0x4043_f09a ∷ 0x412c_1e59 ∷ 0x4153_8a91 ∷ 0x411f_397e ∷ 0x400e_945c ∷ 0xc0ea_2f94 ∷ 0xc178_1640 ∷ 0xc19c_8208 ∷ 0xc190_1575 ∷ 0xc0ef_82e2 ∷ 0x4094_1d81
-    ∷ 0x415d_b8c0 ∷ 0x4182_95be ∷ 0x4121_99d4 ∷ 0xc072_ab68 ∷ 0xc1a8_92be ∷ 0xc20a_d834 ∷ 0xc211_2ffc ∷ 0xc190_010a ∷ 0x41e3_8947 ∷ 0x42c5_2563 ∷ 0x4339_82fb ∷ 0x438a_6bb4
-    ∷ 0x43b1_edff ∷ 0x43c9_efb0 ∷ 0x43c9_a1ff ∷ 0x43aa_6ec0 ∷ 0x4353_0fed ∷ 0x4190_9f37 ∷ 0xc35e_b884 ∷ 0xc3f3_64b3 ∷ 0xc439_6378 ∷ 0xc46d_ae99 ∷ 0xc486_e879 ∷ 0xc489_577e
-    ∷ 0xc478_0c56 ∷ 0xc43d_7568 ∷ 0xc3cd_58ab ∷ 0x418f_c28f ∷ 0x43f1_d60f ∷ 0x4469_79f0 ∷ 0x44a4_547b ∷ 0x44c5_2fe2 ∷ 0x44d2_cdac ∷ 0x44ca_df31 ∷ 0x44ad_a812 ∷ 0x447c_0ca3
-    ∷ 0x4402_3eb5 ∷ 0xc191_00b2 ∷ 0xc409_29b5 ∷ 0xc47c_eeb3 ∷ 0xc4a9_b332 ∷ 0xc4c1_fa13 ∷ 0xc4c5_6883 ∷ 0xc4b4_b008 ∷ 0xc492_e700 ∷ 0xc44a_0db2 ∷ 0xc3c4_b947 ∷ 0x418e_be16
-    ∷ 0x43bd_7d77 ∷ 0x4423_6a4d ∷ [])
+    0x0000_0000 ∷ 0xc188_002e ∷ 0xbfac_41a8 ∷ 0x410b_f196 ∷ 0x4158_a8ed ∷ 0x415a_11a6 ∷ 0x411e_b5d8 ∷ 0x4069_4a57 ∷ 0xc06d_7594 ∷ 0xc128_c5b8 ∷ 0xc175_d378 ∷ 0xc187_fe87 ∷ 0xc0e7_2dba
+    ∷ 0x4039_09d0 ∷ 0x4122_8848 ∷ 0x4147_c5b8 ∷ 0x4116_65a2 ∷ 0x4006_cec6 ∷ 0xc0dd_1b56 ∷ 0xc16a_3fa5 ∷ 0xc193_cae1 ∷ 0xc188_0f38 ∷ 0xc0e2_1c74 ∷ 0x408b_f55c ∷ 0x4151_6568 ∷ 0x4176_9d86
+    ∷ 0x4118_8557 ∷ 0xc065_a803 ∷ 0xc19f_46fb ∷ 0xc203_2af9 ∷ 0xc209_288c ∷ 0xc188_1153 ∷ 0x41d6_d19d ∷ 0x42ba_2eaf ∷ 0x432f_3521 ∷ 0x4382_bc4e ∷ 0x43a8_0e34 ∷ 0x43be_bc7d ∷ 0x43be_75f0
+    ∷ 0x43a1_01d0 ∷ 0x4347_7409 ∷ 0x4189_cdfd ∷ 0xc352_285a ∷ 0xc3e5_c217 ∷ 0xc42f_0635 ∷ 0xc460_679b ∷ 0xc47e_bf99 ∷ 0xc481_abc2 ∷ 0xc46a_2f9b ∷ 0xc432_da88 ∷ 0xc3c1_ca29 ∷ 0x4189_f3d8
+    ∷ 0x43e4_85b7 ∷ 0x445c_8f08 ∷ 0x449b_3954 ∷ 0x44ba_40c1 ∷ 0x44c7_1c72 ∷ 0x44bf_9e89 ∷ 0x44a4_06d8 ∷ 0x446e_152d ∷ 0x43f6_176a ∷ 0xc187_c7b4 ∷ 0xc401_81fb ∷ 0xc46e_d965 ∷ 0xc4a0_4260
+    ∷ 0xc4b7_30fe ∷ 0xc4ba_6fe2 ∷ 0xc4aa_a69f ∷ 0xc48a_bf97 ∷ 0xc43e_daca ∷ 0xc3b9_de5a ∷ 0x4185_5626 ∷ 0x43b2_db18 ∷ 0x441a_4715 ∷ [])
 
 pub tabled : firsts (filtered taps 10 (front ++ (negsuc 0 ∷ pos 0 ∷ pos 0 ∷ []))) 74 ≡ table
 unfolding front table firsts filtered sampleNo dot sumTo taps ofBits ofInt add mul

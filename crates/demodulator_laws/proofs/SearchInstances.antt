@@ -41,11 +41,15 @@ high = ofInt binary32 (pos 25)
 low : Float
 low = ofInt binary32 (negsuc 14)
 
+-- P6's values, but for the first, which makes a diff
+near : Float
+near = ofInt binary32 (pos 24)
+
 abbrev sixth : List Float
-sixth = high ∷ high ∷ high ∷ high ∷ low ∷ low ∷ high ∷ low ∷ []
+sixth = near ∷ high ∷ high ∷ high ∷ low ∷ low ∷ high ∷ low ∷ []
 
 sixth-range : (i : ℕ) → i < 8 → T (inRange (valuesOf sixth i))
-sixth-range = all-below 8 (λ i. inRange (valuesOf sixth i)) (unfold allBelow inRange high low le lt eq ofInt ofBits in tt)
+sixth-range = all-below 8 (λ i. inRange (valuesOf sixth i)) (unfold allBelow inRange near high low le lt eq ofInt ofBits in tt)
 
 abbrev oldest : Control
 oldest = record { candidate = heldAt Lsf 254; wait = Free; dcd = Off; owed = false; sample = 2 ^ 63 }
@@ -96,7 +100,7 @@ search-fits-meets = search-fits 10 (lit≤ tt) (valuesOf sixth) sixth-range olde
 
 -- "A made-up age of 254 may come back as 255."
 comes-back : ageOf (searched 10 (valuesOf sixth) oldest .candidate) ≡ 255
-unfolding searched passed tried missed heldAfter carried matches correlation diffOf summed sumTo anyBelow distanceOf symbolOf shiftOf gainOf highest lowest zeroUnsigned larger smaller sizeOf signsOf spelled wordOf signOf high low add sub div lt eq ofInt ofBits
+unfolding searched passed tried missed heldAfter carried matches correlation diffOf summed sumTo anyBelow distanceOf symbolOf shiftOf gainOf highest lowest zeroUnsigned larger smaller sizeOf signsOf spelled wordOf signOf near high low add sub div lt eq ofInt ofBits
 comes-back = refl
 
 -- ---- nothing to do: no candidate, and silence

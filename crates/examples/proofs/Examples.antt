@@ -1,4 +1,4 @@
--- Document 01, 'Sums worked by hand': "Those marked P are proved of the definitions, gathered under a single statement". The definitions are those that contracts and run theorems cite:
+-- Document 01, 'Sums worked by hand', as document 02 d amends them: "Those marked P are proved of the definitions, gathered under a single statement". The definitions are those that contracts and run theorems cite:
 -- F and the sender's samples of the rules over whole runs, the correlator's answer, the slicer and the padding. Assumes nothing.
 use mathlib.Core.Path.{_≡_}
 use mathlib.Core.Bool.{true, false}
@@ -11,13 +11,9 @@ use Rattle.numbers.specs.Sum.{nought}
 use Rattle.numbers.specs.Firsts.{firsts}
 use Rattle.shaping.specs.Taps.{taps}
 use Rattle.shaping.specs.Rate.{at48}
-use Rattle.protocol.specs.declared.Kind.the-variants.{Lsf}
-use Rattle.protocol.specs.declared.SyncBurst.the-variants.{Frame}
-use Rattle.protocol.specs.Bursts.{signsOf}
 use Rattle.decode.specs.Slicer.{outer, outerBelow, sliced}
-use Rattle.decode.specs.Correlator.{farthest, distances}
 use Rattle.decode.proofs.Worked as Decode
-use Rattle.decode.proofs.Worked.{signal, answer, found}
+use Rattle.decode.proofs.Worked.{answer, found}
 use Rattle.demodulator_run.specs.Filter.{filtered}
 use Rattle.demodulator_run.proofs.Worked as Receiver
 use Rattle.modulator.specs.Frame.{preamble, paddingOf}
@@ -39,12 +35,10 @@ pub record Examples : Type 0 where
   -- times 16: match; times 15.5: none
   pub p4 : found (whole 16) (whole 0) ≡ true
   pub p5 : found (ofBits binary32 0x4178_0000) (whole 0) ≡ false
-  -- times 20 plus 5: match, gain 20, shift 10, diff 2.0
-  pub p6 : (found (whole 20) (whole 5) ≡ true) × (answer (whole 20) (whole 5) ≡ record { diff = whole 2; gain = whole 20; shift = whole 10 })
-  -- plus 6: match (the 0.3 limit is met exactly); plus 7: none
-  pub p7 : (found (whole 20) (whole 6) ≡ true) × (answer (whole 20) (whole 6) .gain ≡ whole 20) × (answer (whole 20) (whole 6) .shift ≡ whole 12)
-      × (distances (signsOf (Frame Lsf)) (whole 20) (whole 12) (signal (whole 20) (whole 6)) 0 ≡ farthest)
-  pub p8 : found (whole 20) (whole 7) ≡ false
+  -- times 20 plus 5: match, gain 20, shift 5, diff 0; so plus 6 and plus 7 (document 02 d)
+  pub p6 : (found (whole 20) (whole 5) ≡ true) × (answer (whole 20) (whole 5) ≡ record { diff = whole 0; gain = whole 20; shift = whole 5 })
+  pub p7 : (found (whole 20) (whole 6) ≡ true) × (answer (whole 20) (whole 6) ≡ record { diff = whole 0; gain = whole 20; shift = whole 6 })
+  pub p8 : (found (whole 20) (whole 7) ≡ true) × (answer (whole 20) (whole 7) ≡ record { diff = whole 0; gain = whole 20; shift = whole 7 })
   -- slicer: 0.0 gives 10; 0.667 gives 00; -0.667 gives 11
   pub p9 : sliced (whole 0) ≡ 1 ∷ 0 ∷ []
   pub p10 : sliced outer ≡ 0 ∷ 0 ∷ []

@@ -110,7 +110,7 @@ fn noisy(random: &mut Random) -> Vec<i16> {
 
 fn offset(random: &mut Random) -> Vec<i16> {
     let mut samples = sent(random);
-    let offset = f64::from(random.around(3000));
+    let offset = f64::from(random.around(16_000));
     let by = 0.02 + random.below(1000) as f64 / 1000.0;
     scaled(&mut samples, by, offset);
     samples
@@ -225,7 +225,7 @@ fn extremes(random: &mut Random) -> Vec<i16> {
     out
 }
 
-/// Up to three bursts, a sample or two apart, with gains and offsets that let the second replace or age the first.
+/// Up to three bursts, a sample or two apart, with gains and diffs that let the second replace or age the first.
 fn corners(random: &mut Random) -> Vec<i16> {
     let mut out = vec![];
     for _ in 0..8 {
@@ -233,14 +233,14 @@ fn corners(random: &mut Random) -> Vec<i16> {
         let apart = *random.pick(&[1, 1, 1, 2]);
         let mut wishes = vec![];
         for i in 0..1 + random.below(3) {
-            let offset = gain * f64::from(random.around(12)) / 100.0;
+            let slack = gain * random.below(25) as f64 / 100.0;
             let bursts = if random.below(6) > 0 {
                 &KINDS[..]
             } else {
                 &BURSTS
             };
             let burst = *random.pick(bursts);
-            wishes.extend(matching(burst, 160 + i * apart, gain, offset));
+            wishes.extend(matching(burst, 160 + i * apart, gain, slack));
         }
         // Several wishes can ask for samples that i16 does not hold: then this corner is left out.
         if let Some(samples) = samples(&wishes) {

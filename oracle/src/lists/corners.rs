@@ -42,10 +42,10 @@ fn pairs() -> impl Iterator<Item = (SyncBurst, SyncBurst)> {
 /// earlier-listed second has replaced it by then.
 fn pair(held: SyncBurst, second: SyncBurst, larger: bool) -> Script {
     let gain = 40.0;
-    let (first_offset, second_offset) = if larger { (0.8, 4.0) } else { (4.0, 0.8) };
+    let (first, then) = if larger { (1.0, 5.0) } else { (5.0, 1.0) };
     let samples = shaped(&[
-        matching(held, FIRST, gain, first_offset),
-        matching(second, FIRST + 1, gain, second_offset),
+        matching(held, FIRST, gain, first),
+        matching(second, FIRST + 1, gain, then),
     ]);
 
     let (kept, age, diff) = if larger {
@@ -69,7 +69,7 @@ fn tie() -> Script {
     let mut random = Random::new(10);
     let gain = 2_000.0;
     let places = [(FIRST - 1, 0.06), (FIRST, 0.05), (FIRST + 1, 0.05)];
-    let plain = shaped(&places.map(|(at, offset)| matching(Stream, at, gain, gain * offset)));
+    let plain = shaped(&places.map(|(at, slack)| matching(Stream, at, gain, gain * slack)));
     let samples = (0..100_000)
         .map(|_| heard(&mut random, &plain, 1, 0, 1))
         .find(|samples| is_tie(last_step(samples), |held, taken| held.gain != taken.gain))
@@ -80,11 +80,11 @@ fn tie() -> Script {
 /// One kind on a sample and another on the next, with the very same diff: the second is taken, earlier- or
 /// later-listed. The stream ends with the wait.
 fn tied_pair(held: SyncBurst, second: SyncBurst) -> Script {
-    let tied = |offset: f64| {
+    let tied = |slack: f64| {
         // Two gains, else the ends move both diffs by the same steps, which need not meet.
         let wishes = [
             matching(held, FIRST, 150.0, 7.5),
-            matching(second, FIRST + 1, 160.0, offset),
+            matching(second, FIRST + 1, 160.0, slack),
         ];
         ends_moved(
             &shaped(&wishes),
@@ -102,7 +102,7 @@ fn tied_pair(held: SyncBurst, second: SyncBurst) -> Script {
     };
     let samples = (70..90)
         .find_map(|tenths| tied(f64::from(tenths) / 10.0))
-        .expect("some offset gives the tie");
+        .expect("some slack gives the tie");
     let name = format!("{}-{}-tie", name(held), name(second));
     script(&name, "", with_rest(samples))
 }
@@ -140,9 +140,9 @@ fn ages() -> Script {
 /// A burst that matches on so many samples, each time with a larger diff, and then no more.
 fn aged(kind: SyncBurst, age: usize) -> Vec<i16> {
     let gain = 40.0;
-    let offset = |i: usize| gain * (0.03 + 0.02 * i as f64);
+    let slack = |i: usize| gain * (0.03 + 0.02 * i as f64);
     let mut wishes: Vec<Wish> = (0..age)
-        .flat_map(|i| matching(kind, FIRST + i, gain, offset(i)))
+        .flat_map(|i| matching(kind, FIRST + i, gain, slack(i)))
         .collect();
     wishes.push(Wish {
         at: FIRST + age,

@@ -36,7 +36,8 @@ fn cases() -> Vec<Case> {
     [
         by_hand(),
         smallest_gain(),
-        offsets(),
+        limits(),
+        moved(),
         zeros(),
         crossed(),
         random_values(),
@@ -84,16 +85,16 @@ fn smallest_gain() -> Vec<Case> {
     cases
 }
 
-/// Each burst with the offset at which some distance reaches 0.3, on both sides, for several gains; and
-/// P7 with one value moved by a step.
-fn offsets() -> Vec<Case> {
+/// Each burst with its oldest or its newest value where the distance reaches 0.3, for several gains; and P7 with
+/// one value moved by a step.
+fn limits() -> Vec<Case> {
     let mut cases = Vec::new();
     for burst in BURSTS {
         for gain in [16.0, 20.0, 32.5, 1000.0, 35_461.0, 141_803.0, 700_000.0] {
-            for side in [1.0, -1.0] {
-                let last = last_offset(burst, gain, side);
+            for at in [0, 7] {
+                let last = last_size(burst, gain, at);
                 for by in [-1, 0, 1] {
-                    cases.push((burst, scaled(burst, gain, step(last, by))));
+                    cases.push((burst, drawn_in(burst, gain, at, step(last, by))));
                 }
             }
         }
@@ -108,18 +109,38 @@ fn offsets() -> Vec<Case> {
     cases
 }
 
-/// The offset that still matches while the next step does not, found by halving.
-fn last_offset(burst: SyncBurst, gain: f32, side: f32) -> f32 {
-    let (mut inside, mut outside) = (0, gain.to_bits());
-    while outside - inside > 1 {
-        let middle = inside + (outside - inside) / 2;
-        if matches(burst, scaled(burst, gain, side * f32::from_bits(middle))) {
+/// A burst with one value of another size; each has a further value of that sign.
+fn drawn_in(burst: SyncBurst, gain: f32, at: usize, size: f32) -> Values {
+    let mut values = scaled(burst, gain, 0.0);
+    values[at] = size.copysign(values[at]);
+    values
+}
+
+/// The size that still matches while the next step below it does not, found by halving.
+fn last_size(burst: SyncBurst, gain: f32, at: usize) -> f32 {
+    let (mut outside, mut inside) = (0, gain.to_bits());
+    while inside - outside > 1 {
+        let middle = outside + (inside - outside) / 2;
+        if matches(burst, drawn_in(burst, gain, at, f32::from_bits(middle))) {
             inside = middle;
         } else {
             outside = middle;
         }
     }
-    side * f32::from_bits(inside)
+    f32::from_bits(inside)
+}
+
+/// Request d: each burst moved by an offset, which changes neither match nor gain nor diff where all are whole.
+fn moved() -> Vec<Case> {
+    let mut cases = Vec::new();
+    for burst in BURSTS {
+        for offset in [500.0, -5_000.0, 15_000.0, 141_803.0, -999_970.0] {
+            for gain in [16.0, 20.0, 20.5] {
+                cases.push((burst, scaled(burst, gain, offset)));
+            }
+        }
+    }
+    cases
 }
 
 /// Eight zeros of one sign, and zeros of both signs beside another value. Not eight of both signs: Rust leaves

@@ -3,11 +3,13 @@
 mod bursts;
 mod corners;
 mod correlations;
+mod examples;
 mod filters;
 mod frames;
 mod judge;
 mod numbers;
 mod offers;
+mod offsets;
 mod programs;
 mod sender;
 mod slices;
@@ -19,7 +21,7 @@ pub struct List {
     pub write: fn() -> String,
 }
 
-pub const ALL: [List; 11] = [
+pub const ALL: [List; 13] = [
     List {
         name: "taps",
         write: taps::write,
@@ -63,5 +65,13 @@ pub const ALL: [List; 11] = [
     List {
         name: "programs",
         write: programs::write,
+    },
+    List {
+        name: "offsets",
+        write: offsets::write,
+    },
+    List {
+        name: "examples",
+        write: examples::write,
     },
 ];

@@ -102,14 +102,14 @@ fn payload(random: &mut Random, word: &str) -> String {
 }
 
 #[derive(Default)]
-struct Session {
-    lines: String,
+pub struct Session {
+    pub lines: String,
     recording: Vec<u8>,
 }
 
 impl Session {
     /// The recording becomes what is sent for the text.
-    fn send(&mut self, name: &str, text: &str) {
+    pub fn send(&mut self, name: &str, text: &str) {
         let sent = sent(text.as_bytes());
         self.recording = bytes(&sent.samples);
         let bad = sent
@@ -133,12 +133,22 @@ impl Session {
         self.say(&format!("append {}", hexadecimal(bytes)));
     }
 
+    /// Every sample is moved by the offset.
+    pub fn offset(&mut self, by: i16) {
+        for sample in self.recording.chunks_exact_mut(2) {
+            let moved = i16::from_le_bytes([sample[0], sample[1]]) + by;
+            sample.copy_from_slice(&moved.to_le_bytes());
+        }
+        self.say(&format!("offset {by}"));
+    }
+
     /// Neither the size of the reads nor the room changes what is received.
-    fn receive(&mut self, size: usize, room: usize) {
+    pub fn receive(&mut self, size: usize, room: usize) -> Vec<String> {
         let lines = received(&self.recording);
         self.say(&format!("receive {size} {room}"));
         self.lines.push_str(&lines.concat());
         self.say(&format!("found {}", lines.len()));
+        lines
     }
 
     fn say(&mut self, line: &str) {

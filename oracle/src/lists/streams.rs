@@ -3,6 +3,7 @@
 use crate::decode::{signs, slice, SyncBurst};
 use crate::harness::{lay_replies, take_offer};
 use crate::lists::corners::corners;
+use crate::lists::judge::timers;
 use crate::modem::{Demodulator, SoftDemodulator};
 use crate::random::Random;
 use crate::signal::{frame, frame_with_tail, heard, house_frame, transmission};
@@ -18,7 +19,7 @@ pub struct Script {
 pub fn streams() -> Vec<Script> {
     let mut streams = vec![voice(), kinds(), tails(), faint()];
     streams.extend(corners());
-    streams.extend([whole(), zeros(), loud()]);
+    streams.extend([whole(), zeros(), loud(), falling()]);
     streams
 }
 
@@ -115,4 +116,13 @@ fn loud() -> Script {
     let mut samples: Vec<i16> = signs(Packet).into_iter().flat_map(held).collect();
     samples.extend([0; 50]);
     script("loud", "", samples)
+}
+
+/// The smallest offset whose end passes for an end burst (request d), and one less, whose end does not.
+fn falling() -> Script {
+    let from = |offset: i16| [[offset; 180].to_vec(), vec![0; 400]].concat();
+    assert!(timers(&from(2_804), "").is_empty());
+    let samples = from(2_805);
+    assert_eq!(timers(&samples, "").len(), 2);
+    script("falling", "", samples)
 }

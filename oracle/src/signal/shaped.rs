@@ -17,14 +17,19 @@ pub struct Wish {
     pub value: f64,
 }
 
-/// The wishes under which `burst` matches at sample `at` with this gain and an offset.
-pub(crate) fn matching(burst: SyncBurst, at: usize, gain: f64, offset: f64) -> [Wish; 8] {
-    let mut place = at - 80;
+/// The wishes under which `burst` matches at sample `at` with this gain. The second value of each sign, neither the
+/// oldest nor the newest, is the extreme; the others lie nearer to the shift by `slack`, which makes the diff.
+pub(crate) fn matching(burst: SyncBurst, at: usize, gain: f64, slack: f64) -> [Wish; 8] {
+    let mut seen = [0; 2];
+    let mut place = 0;
     signs(burst).map(|sign| {
-        place += 10;
+        place += 1;
+        let same = &mut seen[usize::from(sign > 0.0)];
+        *same += 1;
+        let size = if *same == 2 { gain } else { gain - slack };
         Wish {
-            at: place,
-            value: f64::from(sign) * gain + offset,
+            at: at + 10 * place - 80,
+            value: f64::from(sign) * size,
         }
     })
 }
@@ -33,17 +38,18 @@ pub(crate) fn matching(burst: SyncBurst, at: usize, gain: f64, offset: f64) -> [
 /// where a sample would have to lie outside i16.
 pub fn samples(wishes: &[Wish]) -> Option<Vec<i16>> {
     let length = wishes.iter().map(|wish| wish.at).max()?;
-    let lag = |a: Wish, b: Wish| overlap(a.at.abs_diff(b.at));
-    let gram: Vec<Vec<f64>> = wishes
+    let rows: Vec<Vec<f64>> = wishes.iter().map(|wish| heard(wish.at, length)).collect();
+    let product = |a: &[f64], b: &[f64]| a.iter().zip(b).map(|(a, b)| a * b).sum();
+    let gram: Vec<Vec<f64>> = rows
         .iter()
-        .map(|&a| wishes.iter().map(|&b| lag(a, b)).collect())
+        .map(|a| rows.iter().map(|b| product(a, b)).collect())
         .collect();
     let weights = solved(gram, wishes.iter().map(|wish| wish.value).collect());
 
     let mut exact = vec![0.0; length];
-    for (wish, weight) in wishes.iter().zip(weights) {
-        for (i, &tap) in RRC_48K.iter().enumerate() {
-            exact[wish.at - 81 + i] += weight * f64::from(tap);
+    for (row, weight) in rows.iter().zip(weights) {
+        for (sample, tap) in exact.iter_mut().zip(row) {
+            *sample += weight * tap;
         }
     }
     let fits = |&value: &f64| f64::abs(value) <= 32_000.0;
@@ -67,14 +73,14 @@ pub fn eight(samples: &[i16], at: usize) -> Values {
     })
 }
 
-/// The taps times the taps moved by `lag`.
-fn overlap(lag: usize) -> f64 {
-    RRC_48K
-        .iter()
-        .skip(lag)
-        .zip(&RRC_48K)
-        .map(|(&a, &b)| f64::from(a) * f64::from(b))
-        .sum()
+/// By which tap each of the first samples is heard in the value at sample `at`; those before the first are 0.
+fn heard(at: usize, length: usize) -> Vec<f64> {
+    (1..=length)
+        .map(|number| {
+            let tap = (number + 80).checked_sub(at).and_then(|i| RRC_48K.get(i));
+            tap.map_or(0.0, |&tap| f64::from(tap))
+        })
+        .collect()
 }
 
 /// Solves `rows` times x equals `right`, by elimination with the largest pivot.
