@@ -103,6 +103,12 @@ pub(crate) fn parse_packet(frame: &[f32]) -> Option<PacketFrame> {
     offered(SyncBurst::Packet, frame).then(a_packet)
 }
 
+/// Called by the line that request b amends: what such a frame carries is the link test's.
+#[cfg_attr(feature = "unamended", allow(dead_code))]
+pub(crate) fn parse_bert(frame: &[f32]) -> bool {
+    offered(SyncBurst::Bert, frame)
+}
+
 pub(crate) fn encode_lsf(_: &LsfFrame) -> [f32; 192] {
     SYMBOLS.get()
 }

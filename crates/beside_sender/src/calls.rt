@@ -2,6 +2,7 @@
 use crate::layout;
 use crate::layout::Words;
 use crate::room;
+use given_symbols::Traffic;
 use modulator::DelaySteps;
 use modulator::ModulatorAction;
 use modulator::ModulatorFrame;
@@ -22,14 +23,18 @@ const READ: u64 = 2;
 
 const UPDATE: u64 = 3;
 
-// A frame by its number: 0 for none, 1 for a preamble, 2 for given symbols, 3 for the end.
+// A frame by its number: 0 for none, 1 for a preamble, 2 for given symbols, 3 for the end, 4 and 5 for the BERT preamble and frame.
 fn frame_of(number: u64, steps: u64) -> ModulatorFrame {
     if number == 0 {
         ModulatorFrame::Nothing
     } else if number == 1 {
-        ModulatorFrame::Preamble(DelaySteps((steps % 256) as u8))
+        ModulatorFrame::Preamble(Traffic::Ordinary, DelaySteps((steps % 256) as u8))
     } else if number == 2 {
-        ModulatorFrame::Symbols
+        ModulatorFrame::Symbols(Traffic::Ordinary)
+    } else if number == 4 {
+        ModulatorFrame::Preamble(Traffic::Bert, DelaySteps((steps % 256) as u8))
+    } else if number == 5 {
+        ModulatorFrame::Symbols(Traffic::Bert)
     } else {
         ModulatorFrame::EndOfTransmission
     }

@@ -189,13 +189,3 @@ pub(crate) fn put_changes(before: Seen, now: Seen) {
     put_candidate(before.count, still_held(before), found);
     put_wait(before, now);
 }
-
-// A frame that came due without an offer.
-pub(crate) fn put_due(before: Seen) {
-    if before.left == 1 {
-        let held = before.held;
-        put_event(before.count, b"due");
-        put_kind(held.kind);
-        cases_text::end_line();
-    }
-}

@@ -106,11 +106,7 @@ pub(crate) fn fed(session: Session, sample: i16) -> Session {
     let answer = heard.answer;
     let after = heard.demodulator;
     match answer {
-        Heard::Quiet => {
-            let before = session.seen;
-            changes::put_due(before);
-            finished(session, after)
-        }
+        Heard::Quiet => finished(session, after),
         Heard::Offered(offer) => offered(session, after, offer, room),
         Heard::Refused(why) => {
             put_refusal(why.number());

@@ -1,5 +1,6 @@
-// What the correlator refuses, what it still takes, the zeros whose sign Rust leaves open, and what a program says when it stops early. The expected text is written by hand, from the
-// paper's table of refusals and the texts of `house`.
+// What the correlator refuses, what it still takes, the payloads that the bit count refuses, the zeros whose sign Rust leaves open, and what a program says when it stops early. The expected
+// text is written by hand, from the documents' refusals and the texts of `house`.
+use bit_errors::BitErrors;
 use decode::Correlated;
 use decode::Correlation;
 use house::Trouble;
@@ -102,6 +103,45 @@ fn put_inside() {
     put_places(b"-0", -0.0);
 }
 
+// Document 02, b): "6 also for a payload that is not 184 symbols"; "whatever the symbols' values".
+fn put_payloads(sent: &[f32], received: &[f32]) {
+    io::write_all(1, b"payloads of");
+    cases_text::put_count(sent.len() as u64);
+    io::write_all(1, b" and");
+    cases_text::put_count(received.len() as u64);
+    io::write_all(1, b" symbols:");
+    let answer = bit_errors::bit_errors(sent, received);
+    match answer {
+        BitErrors::Refused(why) => {
+            io::write_all(1, b" a payload that is not 184 symbols:");
+            cases_text::put_count(why.number() as u64);
+        }
+        BitErrors::Counted(n) => {
+            io::write_all(1, b" differing bits");
+            cases_text::put_count(n as u64);
+        }
+    }
+    cases_text::end_line();
+}
+
+// A payload of not-a-numbers, whose bits are 11, beside one of zeros, whose bits are 10.
+fn put_bit_errors() {
+    let nan: f32 = 0.0 / 0.0;
+    let one = [nan; 1];
+    let short = [nan; 183];
+    let sent = [nan; 184];
+    let received = [0.0f32; 184];
+    let long = [0.0f32; 185];
+    put_payloads(&one, &received);
+    put_payloads(&short, &received);
+    put_payloads(&sent, &one);
+    put_payloads(&sent, &long);
+    put_payloads(&long, &received);
+    put_payloads(&short, &short);
+    put_payloads(&long, &long);
+    put_payloads(&sent, &received);
+}
+
 fn put_zeros() {
     put_zero(b"max of 0 and -0:", numbers::max(0.0, -0.0));
     put_zero(b"max of -0 and 0:", numbers::max(-0.0, 0.0));
@@ -125,6 +165,7 @@ fn put_troubles() {
 fn main() {
     put_outside();
     put_inside();
+    put_bit_errors();
     put_zeros();
     put_troubles();
 }

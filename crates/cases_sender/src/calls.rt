@@ -1,5 +1,6 @@
 // The calls of a session, each with the operands of its line.
 use crate::answers;
+use given_symbols::Traffic;
 use modulator::DelaySteps;
 use modulator::ModulatorFrame;
 use modulator::Provided;
@@ -46,9 +47,13 @@ pub(crate) fn provided(m: SoftModulator, frame: ModulatorFrame, line: &[u8]) -> 
     left.modulator
 }
 
-pub(crate) fn preamble(m: SoftModulator, line: &[u8]) -> SoftModulator {
+pub(crate) fn preamble(m: SoftModulator, traffic: Traffic, line: &[u8]) -> SoftModulator {
     let steps = count(line, 1) % 256;
-    provided(m, ModulatorFrame::Preamble(DelaySteps(steps as u8)), line)
+    provided(
+        m,
+        ModulatorFrame::Preamble(traffic, DelaySteps(steps as u8)),
+        line,
+    )
 }
 
 // As much of the room as is asked for.

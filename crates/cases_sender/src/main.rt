@@ -2,6 +2,7 @@
 mod answers;
 mod calls;
 
+use given_symbols::Traffic;
 use modulator::ModulatorFrame;
 use modulator::SoftModulator;
 ghost use mathlib.Core.Path.{_≡_};
@@ -12,9 +13,13 @@ fn answer(m: SoftModulator, line: &[u8]) -> SoftModulator {
     if check::same(name, b"none") {
         calls::provided(m, ModulatorFrame::Nothing, line)
     } else if check::same(name, b"preamble") {
-        calls::preamble(m, line)
+        calls::preamble(m, Traffic::Ordinary, line)
+    } else if check::same(name, b"bert-preamble") {
+        calls::preamble(m, Traffic::Bert, line)
     } else if check::same(name, b"symbols") {
-        calls::provided(m, ModulatorFrame::Symbols, line)
+        calls::provided(m, ModulatorFrame::Symbols(Traffic::Ordinary), line)
+    } else if check::same(name, b"bert") {
+        calls::provided(m, ModulatorFrame::Symbols(Traffic::Bert), line)
     } else if check::same(name, b"end") {
         calls::provided(m, ModulatorFrame::EndOfTransmission, line)
     } else if check::same(name, b"read") {

@@ -3,6 +3,7 @@ use crate::answer;
 use crate::answer::Answer;
 use crate::made;
 use crate::same::same;
+use given_symbols::Traffic;
 use modulator::DelaySteps;
 use modulator::ModulatorFrame;
 use modulator::SampleCount;
@@ -22,15 +23,31 @@ fn at_most(n: usize, most: usize) -> usize
     if n <= most { n } else { most }
 }
 
-// One value in all places but two, or one.
+// The burst of a BERT frame, DF55.
+const HEAD: [f32; 8] = [-1.0, 1.0, -1.0, -1.0, 1.0, 1.0, 1.0, 1.0];
+
+// The burst, if the line names it, and one value in all other places.
+fn headed(parts: &[u8], others: f32) -> [f32; 193] {
+    let head = HEAD;
+    let mut symbols = [others; 193];
+    if cases_text::names(parts, b"df55") {
+        for i in 0..8 {
+            symbols[i] = head[i];
+        }
+    }
+    symbols
+}
+
+// The same but for two places, or one.
 fn symbols(parts: &[u8]) -> [f32; 193] {
     let others = cases_text::float_behind(parts, b"others", 0.5);
-    let mut symbols = [others; 193];
+    let mut symbols = headed(parts, others);
     let at = made::count(parts, made::PLACE) % 193;
-    symbols[at] = cases_text::float_behind(parts, b"symbol", others);
+    let one = symbols[at];
+    symbols[at] = cases_text::float_behind(parts, b"symbol", one);
     let second = made::count(parts, made::SECOND_PLACE) % 193;
-    let own = symbols[second];
-    symbols[second] = cases_text::float_behind(parts, b"second", own);
+    let other = symbols[second];
+    symbols[second] = cases_text::float_behind(parts, b"second", other);
     symbols
 }
 
@@ -101,17 +118,19 @@ fn ran(m: SoftModulator) -> Left {
     }
 }
 
-// The calls by their places in this list, the two looks at a record and the turn after them; 0 for any other word.
+// The calls by their places in this list, the looks at a record and the turn among them; 0 for any other word.
 pub(crate) fn number(name: &[u8]) -> usize {
-    let list = b"none preamble symbols end read update action shown first turn";
+    let list = b"none preamble symbols end read update action shown first turn bert-preamble bert";
     cases_text::place_behind(list, name)
 }
 
 fn frame(call: usize) -> ModulatorFrame {
     match call {
         1 => ModulatorFrame::Nothing,
-        2 => ModulatorFrame::Preamble(DelaySteps(1)),
-        3 => ModulatorFrame::Symbols,
+        2 => ModulatorFrame::Preamble(Traffic::Ordinary, DelaySteps(1)),
+        3 => ModulatorFrame::Symbols(Traffic::Ordinary),
+        11 => ModulatorFrame::Preamble(Traffic::Bert, DelaySteps(1)),
+        12 => ModulatorFrame::Symbols(Traffic::Bert),
         _ => ModulatorFrame::EndOfTransmission,
     }
 }

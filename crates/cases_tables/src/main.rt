@@ -43,6 +43,7 @@ fn main() {
     put_burst(b"stream", SyncBurst::Frame(Kind::Stream));
     put_burst(b"packet", SyncBurst::Frame(Kind::Packet));
     put_frame(b"preamble", encode::generate_preamble());
+    put_frame(b"bert-preamble", encode::generate_bert_preamble());
     put_frame(b"end", encode::generate_end_of_transmission());
     let mut text = io::large_buffer();
     let length = io::read_full(0, &mut text);

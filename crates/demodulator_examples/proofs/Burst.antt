@@ -1,7 +1,6 @@
 -- A burst that ends at sample 71, the first at which one can: the candidate is taken there, fails at 72, and its frame falls due. Over every such list of samples. Assumes nothing.
 use mathlib.Core.Path.{_≡_, refl, sym, ap, _∙_, subst}
 use mathlib.Core.Bool.{Bool, true, false}
-use mathlib.Core.Logic.{inl}
 use mathlib.Core.List.{List, [], _∷_, _++_, append-assoc}
 use Prim.Native.Nat.{ℕ, _+_, _-_, _^_, _≤_, _<_}
 use native.Mathlib.Omega.{arith}
@@ -120,7 +119,7 @@ module _ (front : List ℤ) (x y : ℤ) (more : List ℤ) (seventy : length fron
     takes =
         let (t, e) = after-70 in
         marked-after all small few (First 71 k) front x (y ∷ more) refl (standing front Nothing Free t 70) e refl (lit< tt)
-        (counted (controlled Nothing Free t false 70), inl (refl, refl), (refl, refl, holds (first k ∙ ap₁ k)))
+        (counted (controlled Nothing Free t false 70), (refl, refl), (refl, refl, holds (first k ∙ ap₁ k)))
       where
         ap₁ : (j : Kind) → sameKind j j ≡ true
         ap₁ j = is-true (sameKind j j) (same-self j)

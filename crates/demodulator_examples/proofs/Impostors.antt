@@ -55,10 +55,10 @@ not-refusing = fed-number oneBurst
 
 -- ---- 2: it finds nothing. The list's sample 1,911 is answered with a frame, by the rules and by the record.
 pub finds : OfferedAt taps 10 1911 (shownAt (shaped oneBurst) Stream 71) (calls oneBurst)
-finds = due-offered-48 (calls oneBurst) (small oneBurst) 1911 (shownAt (shaped oneBurst) Stream 71) refl one-burst-due
+finds = due-offered-48 (calls oneBurst) (small oneBurst) 1911 (shownAt (shaped oneBurst) Stream 71) one-burst-due
 
 pub finds-another : OfferedAt taps 10 1910 (shownAt (shaped earlierLarger) Stream 71) (calls earlierLarger)
-finds-another = due-offered-48 (calls earlierLarger) (small earlierLarger) 1910 (shownAt (shaped earlierLarger) Stream 71) refl corner-due
+finds-another = due-offered-48 (calls earlierLarger) (small earlierLarger) 1910 (shownAt (shaped earlierLarger) Stream 71) corner-due
 
 -- ---- 3: it always offers one window. The two offers' windows differ in their first symbol.
 module _ {cs : List Single} {d : ℕ} {w : Shown} (O : OfferedAt taps 10 d w cs) where
@@ -145,6 +145,6 @@ windows-differ e =
     true≢false (sym low ∙ ap (λ (l : List Float). lt (getD l 0 nought) half) e ∙ high)
 
 -- ---- 4: it works to its first frame and idles. The same burst given twice is offered twice: at 1,911, and at 3,883.
-pub works-on : OfferedAt taps 10 1911 (shownAt (earOf taps 10 (both oneBurst refl (oneBurst .facts .second))) Stream 71) (fed (both oneBurst refl (oneBurst .facts .second)))
-    × ((w : Shown) × (w .kind ≡ Stream) × OfferedAt taps 10 3883 w (fed (both oneBurst refl (oneBurst .facts .second))))
-works-on = (first-frame oneBurst refl (oneBurst .facts .second), second-frame oneBurst refl (oneBurst .facts .second))
+pub works-on : OfferedAt taps 10 1911 (shownAt (earOf taps 10 (both oneBurst (oneBurst .facts .second))) Stream 71) (fed (both oneBurst (oneBurst .facts .second)))
+    × ((w : Shown) × (w .kind ≡ Stream) × OfferedAt taps 10 3883 w (fed (both oneBurst (oneBurst .facts .second))))
+works-on = (first-frame oneBurst (oneBurst .facts .second), second-frame oneBurst (oneBurst .facts .second))

@@ -103,7 +103,7 @@ pub switched : Switched (logAll taps 10 calls) 72 Packet Stream
 switched =
     let (t, e) = held in (
       marked-after samples sixteen few (Anew 72 Packet Stream) before y [] part (holding t) e refl (lit< tt)
-          (counted (holding t .control), inl (refl, refl), (refl, holds (at-72 Stream), (takenAt ear Packet 71, (refl, refl), below))),
+          (counted (holding t .control), (refl, refl), (refl, holds (at-72 Stream), (takenAt ear Packet 71, (refl, refl), below))),
       λ q. let r = ap rank q in omega arith,
     )
 

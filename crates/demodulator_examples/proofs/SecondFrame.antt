@@ -1,7 +1,7 @@
 -- The same burst once more, after the first frame was offered and accepted: a second frame is offered. Assumes nothing.
 use mathlib.Core.Path.{_≡_, refl, sym, ap, _∙_, subst}
 use mathlib.Core.Logic.{inl, inr}
-use mathlib.Core.Bool.{Bool, true, false}
+use mathlib.Core.Bool.{Bool, false}
 use mathlib.Core.List.{List, [], _∷_, _++_, append-assoc}
 use Prim.Native.Nat.{ℕ, _+_, _-_, _*_, _^_, _≤_, _<_}
 use native.Mathlib.Nat.{le-refl}
@@ -23,7 +23,7 @@ use Rattle.search.specs.declared.Timer.the-variants.{Until}
 use Rattle.search.specs.declared.Shown.{Shown}
 use Rattle.search.specs.TakenBurst.{TakenBurst, heldAs}
 use Rattle.search.specs.Search.{sameKind}
-use Rattle.search.specs.Turn.{counted, offered}
+use Rattle.search.specs.Turn.{counted}
 use Rattle.demodulator_run.specs.Rules.{History, start, historyAll, singleRules}
 use Rattle.demodulator_run.specs.Marks.{First, logAll, FellDue}
 use Rattle.demodulator_run.specs.Demands.{Ear, earOf, at, In, shownAt, Cause, Matches, takenAt}
@@ -42,7 +42,7 @@ use Rattle.demodulator_examples.proofs.Burst.{one-more, ear-all, fed-al
 use Rattle.demodulator_examples.proofs.Sketch.{Sketch, samples, sixteen, number, part, long}
 use Rattle.demodulator_examples.proofs.Again.{twice, begun, hits-again}
 
-module _ (S : Sketch) (gives : offered (S .kind) ≡ true) (fades : Hits (listed (S .table) 72) none) where
+module _ (S : Sketch) (fades : Hits (listed (S .table) 72) none) where
   -- all the samples
   abbrev pub both : List ℤ
   both = S .front ++ (S .x ∷ S .y ∷ (pause 1900 ++ samples S))
@@ -103,7 +103,7 @@ module _ (S : Sketch) (gives : offered (S .kind) ≡ true) (fades : Hits (listed
   after-offer : (t : Timer) × (historyAll taps 10 (fed offered1911) ≡ standing offered1911 Nothing Free t 1911)
   after-offer =
       let (t, e) = waits in
-      (_, one-more upToDue (pos 0) ∙ ap (λ (h : History). next h (pos 0)) e ∙ next-due upToDue (pos 0) 1910 (lit< tt) held71 t gives)
+      (_, one-more upToDue (pos 0) ∙ ap (λ (h : History). next h (pos 0)) e ∙ next-due upToDue (pos 0) 1910 (lit< tt) held71 t)
 
   length-offered : length offered1911 ≡ 1911
   length-offered =
@@ -156,7 +156,7 @@ module _ (S : Sketch) (gives : offered (S .kind) ≡ true) (fades : Hits (listed
       let (t, e) = rests in
       marked-after both both-sixteen few (First 2043 (S .kind)) upTo2042 (S .x) (S .y ∷ pause 1900) (rest-split ∙ sym (append-assoc offered1911 between (S .x ∷ S .y ∷ pause 1900)))
       (standing upTo2042 Nothing Free t 2042) e refl (lit< tt)
-      (counted (controlled Nothing Free t false 2042), inl (refl, refl), (refl, refl, holds (at-2043 (S .kind) ∙ is-true (sameKind (S .kind) (S .kind)) (same-self (S .kind)))))
+      (counted (controlled Nothing Free t false 2042), (refl, refl), (refl, refl, holds (at-2043 (S .kind) ∙ is-true (sameKind (S .kind) (S .kind)) (same-self (S .kind)))))
 
   both-fed : fedAll taps 10 (fed both) ≡ 3944
   both-fed = fed-all both both-sixteen few ∙ both-number
@@ -164,7 +164,7 @@ module _ (S : Sketch) (gives : offered (S .kind) ≡ true) (fades : Hits (listed
   -- both frames are offered
   pub first-frame : OfferedAt taps 10 1911 (shownAt hear (S .kind) 71) (fed both)
   first-frame =
-      due-offered-48 (fed both) both-sampled 1911 (shownAt hear (S .kind) 71) gives
+      due-offered-48 (fed both) both-sampled 1911 (shownAt hear (S .kind) 71)
       (falls-due (S .front) (S .x) (S .y) (pause 1900 ++ samples S) (S .facts .seventy) both-sixteen few none-before (S .kind) at-71 none at-72 (heldAs held71) 1839
       (λ t. (Until (72 + 384 * 10), ap (λ (s : Step). s .control) (pass-lost 10 (λ i. at hear i 72) t false 72 held71)))
       (pause 1838) (pos 0) (pause 61 ++ samples S) goes (let n = pause-length 1838 in omega arith) (lit≤ tt) held71 refl)
@@ -200,4 +200,4 @@ module _ (S : Sketch) (gives : offered (S .kind) ≡ true) (fades : Hits (listed
       × ((j : ℕ) → 2043 ≤ j → j < C .s → (k : Kind) × Matches e k j)) (sym (ear-all both both-sixteen few))
       (due-cause-48 (fed both) both-sampled 2043 (S .kind, takes-again) (let n = both-fed in omega arith)) in
       let k : w .kind ≡ S .kind = shows d w C late lasts in
-      (w, k, subst (λ (n : ℕ). OfferedAt taps 10 n w (fed both)) (due-then d w C late lasts) (due-offered-48 (fed both) both-sampled d w (ap offered k ∙ gives) i))
+      (w, k, subst (λ (n : ℕ). OfferedAt taps 10 n w (fed both)) (due-then d w C late lasts) (due-offered-48 (fed both) both-sampled d w i))

@@ -47,4 +47,4 @@ one-due = demand-three at48 facts48 seen seen-given .due-one 71 taken-at-71 enou
 pub offered-at-1911 : List·Memᴰ (record { kind = Stream; sample = 1911 }) (offersIn (answers (receiver at48) fresh seen))
 offered-at-1911 =
     demand-three at48 facts48 seen seen-given .offers (record { kind = Stream; sample = 1911 }) .1
-    (refl, subst (λ (l : List Single). DueSeen at48 l Stream 1911) (sym same) (due-exactly at48 facts48 (calls oneBurst) (sampled oneBurst) 1911 Stream .1 (_, refl, one-burst-due)))
+    (subst (λ (l : List Single). DueSeen at48 l Stream 1911) (sym same) (due-exactly at48 facts48 (calls oneBurst) (sampled oneBurst) 1911 Stream .1 (_, refl, one-burst-due)))

@@ -1,6 +1,6 @@
 -- What the rules make of a fed sample: where no kind matches nothing is held, one that matches is taken, a wait runs down. Assumes nothing.
 use mathlib.Core.Path.{_≡_, refl, sym, ap, _∙_, fun-ext}
-use mathlib.Core.Bool.{Bool, true, false}
+use mathlib.Core.Bool.{Bool, false}
 use mathlib.Core.List.{List, [], _∷_, _++_, append-nil, append-assoc}
 use Prim.Native.Nat.{ℕ, _+_, _-_, _^_, _≤_, _<_}
 use native.Mathlib.Omega.{arith}
@@ -22,7 +22,7 @@ use Rattle.search.specs.declared.Timer.{Timer}
 use Rattle.search.specs.declared.Control.{Control}
 use Rattle.search.specs.TakenBurst.{TakenBurst, heldAs}
 use Rattle.search.specs.Search.{withTimer, sameKind, searched}
-use Rattle.search.specs.Turn.{counted, cleared, offered, owing, dueTurn, waitedTurn, sampled}
+use Rattle.search.specs.Turn.{counted, cleared, owing, dueTurn, waitedTurn, sampled}
 use Rattle.demodulator_run.specs.Rules.{History, singleRules}
 use Rattle.demodulator_run.specs.Demands.{earOf, takenAt}
 use Rattle.demodulator_run.specs.Exact.{lastSample}
@@ -101,10 +101,10 @@ module _ (xs : List ℤ) (x : ℤ) (n : ℕ) (few : n < 2 ^ 63) where
   next-waits held t left l = rw (is-true (ltb 1 left) (lt→ltb 1 left l)) at (next-is (standing xs held (waiting left) t n) x refl few)
 
   -- a frame is due, is offered, and is accepted
-  pub next-due : (held : TakenBurst) (t : Timer) → offered (held .kind) ≡ true
+  pub next-due : (held : TakenBurst) (t : Timer)
       → next (standing xs (heldAs held) lastSample t n) x ≡ standing (xs ++ (x ∷ [])) Nothing Free (cleared (n + 1) t) (n + 1)
   unfolding sampled waitedTurn dueTurn
-  next-due held t o = rw o at (next-is (standing xs (heldAs held) lastSample t n) x refl few)
+  next-due held t = next-is (standing xs (heldAs held) lastSample t n) x refl few
 
 -- ---- many
 pub quiet-run : (all zs xs more : List ℤ) (t : Timer) (n : ℕ) → length xs ≡ n → all ≡ xs ++ (zs ++ more) → n + length zs ≤ 2 ^ 63

@@ -19,7 +19,7 @@ use Rattle.search.specs.declared.Timer.the-variants.{Off, Until}
 use Rattle.search.specs.declared.Control.{Control}
 use Rattle.search.specs.declared.Reply.the-variants.{Accepted, Rejected}
 use Rattle.search.specs.Search.{searched}
-use Rattle.search.specs.Turn.{quiet, counted, waitingOn, freed, owing, dueTurn, sampled, replied}
+use Rattle.search.specs.Turn.{quiet, offer, counted, waitingOn, freed, owing, dueTurn, sampled, replied}
 use Rattle.search.specs.Fit.{candidateFit, waitFit, controlFit}
 use Rattle.search.proofs.TurnFits.{counted-fit, freed-fit}
 use Rattle.demodulator.specs.declared.SoftDemodulator.{SoftDemodulator}
@@ -65,8 +65,8 @@ sampled-free-meets = sampled-free 10 silent freshControl refl
 sampled-rest-meets : sampled 10 silent (waiting 2) ≡ quiet (waitingOn 1 (counted (waiting 2)))
 sampled-rest-meets = sampled-rest 10 silent (waiting 2) (record { left = 2 }) refl (lit≤ tt)
 
--- a BERT frame is not offered
-sampled-due-meets : sampled 10 silent (waiting 1) ≡ quiet (searched 10 silent (freed (counted (waiting 1))))
+-- a due BERT frame is offered
+sampled-due-meets : sampled 10 silent (waiting 1) ≡ offer (record { kind = Bert; gain = ofBits binary32 0x4180_0000; shift = ofBits binary32 0 }) (owing true (freed (counted (waiting 1))))
 unfolding dueTurn
 sampled-due-meets = sampled-due 10 silent (waiting 1) (record { left = 1 }) refl (lit≤ tt)
 

@@ -13,15 +13,12 @@ use Rattle.search.specs.declared.Candidate.the-variants.{Nothing}
 use Rattle.search.specs.declared.Wait.{Wait}
 use Rattle.search.specs.declared.Wait.the-variants.{Free, Due}
 use Rattle.search.specs.declared.Control.{Control}
-use Rattle.search.specs.declared.Turn.{Turn}
-use Rattle.search.specs.declared.Turn.the-variants.{Offer, Look}
 use Rattle.search.specs.declared.Reply.{Reply}
 use Rattle.search.specs.declared.Reply.the-variants.{Accepted, Rejected}
-use Rattle.search.specs.TakenBurst.{TakenBurst, heldIn, shownOf}
+use Rattle.search.specs.TakenBurst.{TakenBurst, heldIn}
 use Rattle.search.specs.Search.{ageOf, searched}
-use Rattle.search.specs.Turn.{Outcome, quiet, offer, offered, counted, freed, owing, dueTurn, comesTo, sampled, replied}
+use Rattle.search.specs.Turn.{Outcome, quiet, offer, counted, freed, owing, dueTurn, comesTo, sampled, replied}
 use Rattle.search.specs.Fit.{controlFit}
-use Rattle.search.proofs.AgeInPass.{by-test}
 use Rattle.search.proofs.TurnFits.{counted-fit, freed-fit}
 use Rattle.demodulator_laws.proofs.SampleByWait.{sampled-free, sampled-rest, sampled-due}
 use Rattle.demodulator_laws.proofs.WaitFits.{waiting-fit, settled-fit}
@@ -43,10 +40,7 @@ module _ (p : ℕ) (symbol : 2 ≤ p) (v : ℕ → Float) (range : (i : ℕ) →
   due-fits : (held : Option TakenBurst) (c : Control) → T (controlFit p c) → c .owed ≡ false → T (controlFit p (controlOf (comesTo p v (dueTurn held (freed c)))))
   unfolding dueTurn
   due-fits none c fit free = unaged (freed c) refl (freed-fit p c fit (c .owed)) free
-  due-fits (some t) c fit free =
-      by-test (λ (o : Turn). T (controlFit p (controlOf (comesTo p v o)))) (offered (t .kind)) (Offer (shownOf t) (owing true (freed c))) (Look (freed c))
-      (λ e. freed-fit p c fit true)
-      (λ e. unaged (freed c) refl (freed-fit p c fit (c .owed)) free)
+  due-fits (some t) c fit free = freed-fit p c fit true
 
   module _ (c : Control) (fit : T (controlFit p c)) where
     module _ (l : c .sample < 2 ^ 63) (free : c .owed ≡ false) where

@@ -14,7 +14,6 @@ use Rattle.search.specs.declared.Wait.the-variants.{Due}
 use Rattle.search.specs.declared.Shown.{Shown}
 use Rattle.search.specs.declared.Control.{Control}
 use Rattle.search.specs.TakenBurst.{TakenBurst, shownOf}
-use Rattle.search.specs.Turn.{offered}
 use Rattle.search.specs.Fit.{held}
 use Rattle.demodulator.specs.declared.SoftDemodulator.{SoftDemodulator}
 use Rattle.demodulator.specs.declared.Offer.{Offer}
@@ -27,7 +26,7 @@ use Rattle.demodulator_run.specs.Marks.{First, FellDue, isRefusal, logAl
 use Rattle.demodulator_run.specs.Demands.{In, Started, AgeAtMost}
 use Rattle.demodulator_run.specs.Exact.{HeldOf}
 use Rattle.demodulator_run.specs.Calls.{Call, receiver, Given, singlesFrom}
-use Rattle.demodulator_run.specs.CallerSees.{Moment, controlAt, leftAt, Admitted, NoneHeld, TakenSeen, DueSeen, DemandThree}
+use Rattle.demodulator_run.specs.CallerSees.{Moment, controlAt, leftAt, Admitted, TakenSeen, DueSeen, DemandThree}
 use Rattle.demodulator_run.proofs.DemandAt.{size-at, alone-at, again-at, due-span-at, due-once-at, age-limit-at, log-exact-at}
 use Rattle.demodulator_run.proofs.Step.{call-agrees}
 use Rattle.demodulator_run.proofs.SinglesRun.{singles-run, singles-fit, next-single}
@@ -67,7 +66,7 @@ module _ (R : Rate) (F : Facts R) where
         subst (Started (logAll (R .taps) (R .p) ss)) (sym (ap (λ (d : Control). d .sample) (left-same t)) ∙ s .number)
         (taken-started (R .taps) (R .p) (size-at R F) ss (alone-at R F ss sampled) (again-at R F ss sampled) (t .before) (t .after) (t .call) (t .split) (admitted t (s .admitted))
         (subst (λ (d : Control). (w : Waiting) → d .wait ≡ Due w → held (d .candidate) ≡ true) c (waits t))
-        (subst (NoneHeld (t .call)) c (s .none))
+        (sym (ap (λ (d : Control). d .candidate) c) ∙ s .none)
         (sym (ap (λ (d : Control). held (d .candidate)) (left-same t)) ∙ s .holds))
 
     seen : (n : ℕ) → Started (logAll (R .taps) (R .p) ss) n → TakenSeen R ss n
@@ -77,11 +76,11 @@ module _ (R : Rate) (F : Facts R) where
         let c = control-same t in
         let r = m .rules in
         let s = started-taken (R .taps) (R .p) (size-at R F) ss (alone-at R F ss sampled) (again-at R F ss sampled) (m .before) (m .after) (m .call) (m .split) (m .admitted)
-        (subst (λ (d : Control). (w : Waiting) → d .wait ≡ Due w → held (d .candidate) ≡ true) c (waits t)) n (r .0) (r .1) (r .2 .0) (r .2 .1) k (r .2 .2) in
+        n (r .0) (r .1) (r .2 .0) (r .2 .1) k (r .2 .2) in
         record {
           moment = t;
           admitted = ap (λ (o : Said). isRefusal (o .answer)) (said-same t) ∙ m .admitted;
-          none = subst (NoneHeld (m .call)) (sym c) (s .0);
+          none = ap (λ (d : Control). d .candidate) c ∙ s .0;
           holds = ap (λ (d : Control). held (d .candidate)) (left-same t) ∙ s .1;
           number = ap (λ (d : Control). d .sample) (left-same t) ∙ s .2;
         }
@@ -124,7 +123,7 @@ module _ (R : Rate) (F : Facts R) where
         }
 
     -- ---- what is offered
-    seen-due : (o : Offer) → List·Memᴰ o (offersSaid (answers (singleReceiver R) fresh ss)) → (offered (o .kind) ≡ true) × DueSeen R ss (o .kind) (o .sample)
+    seen-due : (o : Offer) → List·Memᴰ o (offersSaid (answers (singleReceiver R) fresh ss)) → DueSeen R ss (o .kind) (o .sample)
     unfolding left
     seen-due o i =
         let (b, c, a, e, f) = offers-seen R ss fresh o i in
@@ -132,15 +131,15 @@ module _ (R : Rate) (F : Facts R) where
         let told = subst (λ (s : Single). left R (recordAfter R b) s .answer ≡ frame o) q f in
         let w = offer-out R (recordAfter R b) x room o told in
         let t : Moment ss = record { before = b; call = c; after = a; split = e } in
-        (w .is-offered, record { moment = t; admitted = ap isRefusal f; value = x; room = room; is-sample = q; last = w .last; awaited = w .awaited; number = w .number })
+        record { moment = t; admitted = ap isRefusal f; value = x; room = room; is-sample = q; last = w .last; awaited = w .awaited; number = w .number }
 
-    due-seen : (o : Offer) → (offered (o .kind) ≡ true) × DueSeen R ss (o .kind) (o .sample) → List·Memᴰ o (offersSaid (answers (singleReceiver R) fresh ss))
+    due-seen : (o : Offer) → DueSeen R ss (o .kind) (o .sample) → List·Memᴰ o (offersSaid (answers (singleReceiver R) fresh ss))
     unfolding left
-    due-seen o (w, s) =
+    due-seen o s =
         let t = s .moment in
         let m = recordAfter R (t .before) in
         let admitted = subst (λ (c : Single). isRefusal (left R m c .answer) ≡ false) (s .is-sample) (s .admitted) in
-        let told = offer-in R m (s .value) (s .room) o (record { last = s .last; awaited = s .awaited; is-offered = w; number = s .number }) admitted in
+        let told = offer-in R m (s .value) (s .room) o (record { last = s .last; awaited = s .awaited; number = s .number }) admitted in
         subst (λ (l : List Single). List·Memᴰ o (offersSaid (answers (singleReceiver R) fresh l))) (sym (t .split))
         (seen-offers R (t .before) (t .call) (t .after) fresh o (subst (λ (c : Single). left R m c .answer ≡ frame o) (sym (s .is-sample)) told))
 
@@ -165,6 +164,6 @@ module _ (R : Rate) (F : Facts R) where
             let (d, due, lo, hi) = due-span-at R F ss s n (started ss s n t) (subst (λ (k : ℕ). n + (188 * R .p - 1) ≤ k) (r .count) fed′) in
             (d, (due .0 .kind, due-out ss s d (due .0 .kind) (due .0, refl, due .1)), lo, hi, λ e f l u. due-once-at R F ss s n e d (let g = due-in ss s e (f .0) (f .1) in (g .0, g .2)) due l u lo hi);
         offers = λ o.
-            subst (λ (l : List Offer). List·Memᴰ o l ↔ ((offered (o .kind) ≡ true) × DueSeen R ss (o .kind) (o .sample))) (singles-offers R cs fresh) (seen-due ss s o, due-seen ss s o);
+            subst (λ (l : List Offer). List·Memᴰ o l ↔ DueSeen R ss (o .kind) (o .sample)) (singles-offers R cs fresh) (seen-due ss s o, due-seen ss s o);
         ages = subst (λ (m : SoftDemodulator). AgeAtMost (R .p + 1) (m .control .candidate)) same (subst (λ (c : Control). AgeAtMost (R .p + 1) (c .candidate)) (sym (r .control)) (age-limit-at R F ss s));
       }

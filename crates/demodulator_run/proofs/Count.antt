@@ -14,12 +14,12 @@ use Rattle.search.specs.declared.Wait.{Wait}
 use Rattle.search.specs.declared.Wait.the-variants.{Free, Due}
 use Rattle.search.specs.declared.Control.{Control}
 use Rattle.search.specs.declared.Turn.{Turn}
-use Rattle.search.specs.declared.Turn.the-variants.{Rest, Offer, Look}
+use Rattle.search.specs.declared.Turn.the-variants.{Rest}
 use Rattle.search.specs.declared.Reply.{Reply}
 use Rattle.search.specs.declared.Reply.the-variants.{Accepted, Rejected}
-use Rattle.search.specs.TakenBurst.{TakenBurst, heldIn, shownOf}
+use Rattle.search.specs.TakenBurst.{TakenBurst, heldIn}
 use Rattle.search.specs.Search.{carried, sameKind, missed, tried, passed, searched}
-use Rattle.search.specs.Turn.{offered, counted, freed, owing, dueTurn, waitedTurn, comesTo, sampled, replied}
+use Rattle.search.specs.Turn.{counted, freed, owing, dueTurn, waitedTurn, comesTo, sampled, replied}
 use Rattle.demodulator_laws.proofs.SampleFits.{controlOf}
 
 module _ {n : ℕ} where
@@ -52,7 +52,7 @@ module _ (p : ℕ) (v : ℕ → Float) where
   due-count : (o : Option TakenBurst) (c : Control) → controlOf (comesTo p v (dueTurn o c)) .sample ≡ c .sample
   unfolding dueTurn
   due-count none c = searched-count c
-  due-count (some held) c = turn-count p v (offered (held .kind)) (Offer (shownOf held) (owing true c)) (Look c) refl (searched-count c)
+  due-count (some held) c = refl
 
   waited-count : (wait : Wait) (c : Control) → controlOf (comesTo p v (waitedTurn wait c)) .sample ≡ c .sample
   unfolding waitedTurn

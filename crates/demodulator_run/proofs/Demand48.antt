@@ -1,7 +1,6 @@
 -- Demand 3 at 48,000 samples in a second, for every list of calls whose samples are i16s. Assumes nothing.
 use mathlib.Core.Path.{_≡_}
 use mathlib.Core.Logic.{_⊎_, _↔_}
-use mathlib.Core.Bool.{true}
 use mathlib.Core.List.{List, _∷_, _++_}
 use Prim.Native.Nat.{ℕ, _+_, _-_, _*_, _≤_}
 use lib.IntN.{ℤ}
@@ -12,7 +11,6 @@ use Rattle.shaping.specs.Rate.{at48}
 use Rattle.shaping.proofs.RateFacts.{facts48}
 use Rattle.protocol.specs.declared.Kind.{Kind}
 use Rattle.search.specs.declared.Shown.{Shown}
-use Rattle.search.specs.Turn.{offered}
 use Rattle.demodulator_run.specs.Rules.{Single, start, single, historyAll}
 use Rattle.demodulator_run.specs.Marks.{Mark, logAll, FellDue}
 use Rattle.demodulator_run.specs.Demands.{Started, DueAt, AtMostOne, AgeAtMost, SwitchEarlier, SwitchHeld, DueCause, DueRule, In, Corner, DueBy, LiesAt}
@@ -56,7 +54,7 @@ module _ (cs : List Single) (small : Each Callable cs) where
   pub log-exact-48 : (y : Mark) → In y (logAll taps 10 cs) ↔ MarkedAt taps 10 (earAll taps 10 cs) y start cs
   log-exact-48 = log-exact-at at48 facts48 cs small
 
-  pub due-offered-48 : (d : ℕ) (x : Shown) → offered (x .kind) ≡ true → In (FellDue d x) (logAll taps 10 cs) → OfferedAt taps 10 d x cs
+  pub due-offered-48 : (d : ℕ) (x : Shown) → In (FellDue d x) (logAll taps 10 cs) → OfferedAt taps 10 d x cs
   due-offered-48 = due-offered-at at48 facts48 cs small
 
   pub symbol-zero-48 : (b : ℕ) (k : Kind) (s d : ℕ) (x : Shown) → DueBy (earAll taps 10 cs) 10 b k s d x → (xs : List ℤ) → length xs ≡ d

@@ -1,7 +1,6 @@
 -- Demand 3 at a rate, over every list of single calls. Assumes nothing.
 use mathlib.Core.Path.{_≡_}
 use mathlib.Core.Logic.{_⊎_, _↔_}
-use mathlib.Core.Bool.{true}
 use mathlib.Core.List.{List, _∷_, _++_}
 use Prim.Native.Nat.{ℕ, _+_, _-_, _*_, _≤_}
 use native.Mathlib.Omega.{arith}
@@ -12,7 +11,6 @@ use Rattle.shaping.specs.Rate.{Rate}
 use Rattle.shaping.proofs.RateFacts.{Facts}
 use Rattle.protocol.specs.declared.Kind.{Kind}
 use Rattle.search.specs.declared.Shown.{Shown}
-use Rattle.search.specs.Turn.{offered}
 use Rattle.demodulator_run.specs.Rules.{Single, start, single, historyAll}
 use Rattle.demodulator_run.specs.Marks.{Mark, logAll, FellDue}
 use Rattle.demodulator_run.specs.Demands.{SymbolSize, Alone, NotAgain, Apart, Started, DueAt, AtMostOne, AgeAtMost, SwitchEarlier, SwitchHeld, DueCause, DueRule, In, Corner, DueBy, LiesAt}
@@ -72,7 +70,7 @@ module _ (R : Rate) (F : Facts R) (cs : List Single) (small : Each Callable cs) 
   pub log-exact-at : (y : Mark) → In y (logAll (R .taps) (R .p) cs) ↔ MarkedAt (R .taps) (R .p) (earAll (R .taps) (R .p) cs) y start cs
   log-exact-at = log-exact (R .taps) (R .p) (size-at R F) cs alone-at again-at
 
-  pub due-offered-at : (d : ℕ) (x : Shown) → offered (x .kind) ≡ true → In (FellDue d x) (logAll (R .taps) (R .p) cs) → OfferedAt (R .taps) (R .p) d x cs
+  pub due-offered-at : (d : ℕ) (x : Shown) → In (FellDue d x) (logAll (R .taps) (R .p) cs) → OfferedAt (R .taps) (R .p) d x cs
   due-offered-at = due-offered (R .taps) (R .p) (size-at R F) cs alone-at again-at
 
   pub symbol-zero-at : (b : ℕ) (k : Kind) (s d : ℕ) (x : Shown) → DueBy (earAll (R .taps) (R .p) cs) (R .p) b k s d x → (xs : List ℤ) → length xs ≡ d

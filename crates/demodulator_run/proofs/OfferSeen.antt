@@ -1,5 +1,5 @@
--- A sample is answered with an offer exactly where one sample was left of the wait for a frame that is offered, from every record. Assumes nothing.
-use mathlib.Core.Path.{_≡_, refl, sym, ap, subst, _∙_}
+-- A sample is answered with an offer exactly where one sample was left of the wait for a frame, from every record. Assumes nothing.
+use mathlib.Core.Path.{_≡_, refl, sym, ap, _∙_}
 use mathlib.Core.Logic.{_⊎_, inl, inr}
 use mathlib.Core.Bool.{Bool, true, false, not, cond, true≢false}
 use mathlib.Core.List.{List, [], _∷_, _++_, List·Memᴰ, List·Memᴰ·not-nil, List·Memᴰ·append-cases, List·Memᴰ·eq-of-singleton, Memᴰ·append-left, Memᴰ·append-right, List·Memᴰ·head}
@@ -12,17 +12,16 @@ use lib.ListN.{length}
 use lib.Ieee.{Float}
 use Rattle.machine.specs.Runs.{run, answers}
 use Rattle.shaping.specs.Rate.{Rate}
-use Rattle.protocol.specs.declared.Kind.{Kind}
 use Rattle.protocol.specs.Refusals.{bare}
 use Rattle.search.specs.declared.Candidate.{Candidate}
 use Rattle.search.specs.declared.Wait.{Wait}
 use Rattle.search.specs.declared.Wait.the-variants.{Free, Due}
 use Rattle.search.specs.declared.Control.{Control}
-use Rattle.search.specs.declared.Turn.the-variants.{Rest, Offer as TurnOffer, Look}
+use Rattle.search.specs.declared.Turn.the-variants.{Rest}
 use Rattle.search.specs.declared.Reply.{Reply}
 use Rattle.search.specs.declared.Shown.{Shown}
 use Rattle.search.specs.TakenBurst.{TakenBurst, heldAs, heldIn, shownOf}
-use Rattle.search.specs.Turn.{Outcome, quiet, offer, offered, counted, waitingOn, freed, owing, dueTurn, waitedTurn, comesTo, sampled}
+use Rattle.search.specs.Turn.{Outcome, quiet, offer, counted, waitingOn, freed, owing, dueTurn, waitedTurn, comesTo, sampled}
 use Rattle.search.proofs.AgeInPass.{by-test}
 use Rattle.search.proofs.HeldOrNot.{HeldOrNot, not-held, is-held, held-or-not}
 use Rattle.demodulator.specs.declared.SoftDemodulator.{SoftDemodulator}
@@ -47,16 +46,12 @@ module _ (R : Rate) where
   module _ (p : ℕ) (v : ℕ → Float) (shown : Shown) (d : Control) where
     -- what was held is offered
     abbrev Offered : Candidate → Type 0
-    Offered candidate = (held : TakenBurst) × (candidate ≡ heldAs held) × (shownOf held ≡ shown) × (offered (held .kind) ≡ true)
+    Offered candidate = (held : TakenBurst) × (candidate ≡ heldAs held) × (shownOf held ≡ shown)
 
     due-offer : {candidate : Candidate} → HeldOrNot candidate → (c : Control) → comesTo p v (dueTurn (heldIn candidate) c) ≡ offer shown d → Offered candidate × (d ≡ owing true c)
     unfolding dueTurn
     due-offer not-held c e = no-offer shown _ d e
-    due-offer (is-held held) c e = go (offered (held .kind)) refl e
-      where
-        go : (b : Bool) → offered (held .kind) ≡ b → comesTo p v (cond b (TurnOffer (shownOf held) (owing true c)) (Look c)) ≡ offer shown d → Offered (heldAs held) × (d ≡ owing true c)
-        go true o e = ((held, refl, cc, o), cc)
-        go false o e = no-offer shown _ d e
+    due-offer (is-held held) c e = ((held, refl, cc), cc)
 
     waited-offer : (c : Control) (wait : Wait) → comesTo p v (waitedTurn wait (counted c)) ≡ offer shown d
         → (left : ℕ) × (wait ≡ Due (record { left = left })) × (left ≤ 1) × Offered (c .candidate) × (d .sample ≡ c .sample + 1)
@@ -76,7 +71,6 @@ module _ (R : Rate) where
     pub record Offers : Type 0 where
       pub last : m .control .wait ≡ lastSample
       pub awaited : (held : TakenBurst) × HeldOf (o .kind) held (m .control .candidate)
-      pub is-offered : offered (o .kind) ≡ true
       pub number : o .sample ≡ m .control .sample + 1
 
     abbrev Out : Left → Type 0
@@ -97,7 +91,6 @@ module _ (R : Rate) where
         record {
           last = f .1 ∙ ap (λ (n : ℕ). Due (record { left = n })) one;
           awaited = (f .3 .0, (f .3 .1, kinds));
-          is-offered = subst (λ (j : Kind). offered j ≡ true) kinds (f .3 .3);
           number = sym (ap (λ (q : Offer). q .sample) same) ∙ f .4;
         }
 
@@ -117,17 +110,17 @@ module _ (R : Rate) where
     not-in : (number : ℕ) → In (refused number m room)
     not-in number e = absurd (true≢false e)
 
-    sampled-in : (c : Control) → c .wait ≡ lastSample → (held : TakenBurst) → c .candidate ≡ heldAs held → offered (held .kind) ≡ true → (v : ℕ → Float)
+    sampled-in : (c : Control) → c .wait ≡ lastSample → (held : TakenBurst) → c .candidate ≡ heldAs held → (v : ℕ → Float)
         → sampled (R .p) v c ≡ offer (shownOf held) (owing true (freed (counted c)))
     unfolding sampled waitedTurn dueTurn
-    sampled-in c w held h q v = rw (w, h, q)
+    sampled-in c w held h v = rw (w, h)
 
     pub offer-in : Offers → isRefusal (demodulated R m x room .answer) ≡ false → demodulated R m x room .answer ≡ frame o
     unfolding demodulated admittedBy
     offer-in f =
         let held : TakenBurst = f .awaited .0 in
         let kinds : f .awaited .0 .kind ≡ o .kind = f .awaited .1 .1 in
-        let s = sampled-in (m .control) (f .last) (f .awaited .0) (f .awaited .1 .0) (ap offered kinds ∙ f .is-offered) (eight (R .p) (back (R .p) (stored R m x))) in
+        let s = sampled-in (m .control) (f .last) (f .awaited .0) (f .awaited .1 .0) (eight (R .p) (back (R .p) (stored R m x))) in
         by-test In (not (fitForSample (R .p) m)) _ _ (λ _. not-in 1)
         (λ _. by-test In (m .control .owed) _ _ (λ _. not-in 2)
         (λ _. by-test In (ltb (length room) 192) _ _ (λ _. not-in 4)

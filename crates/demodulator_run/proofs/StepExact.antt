@@ -2,7 +2,7 @@
 use mathlib.Core.Path.{_≡_, refl, sym, ap, _∙_, subst}
 use mathlib.Core.Logic.{_⊎_, inl, inr}
 use mathlib.Core.Bool.{Bool, true, false, cond, true≢false}
-use mathlib.Core.List.{List, [], _∷_, List·Memᴰ·head, List·Memᴰ·tail, List·Memᴰ·not-nil, List·Memᴰ·cases-cons}
+use mathlib.Core.List.{List, [], _∷_, List·Memᴰ·head, List·Memᴰ·not-nil, List·Memᴰ·eq-of-singleton}
 use mathlib.Core.Option.{some}
 use Prim.Native.Nat.{ℕ, _+_, _<_}
 use native.Mathlib.Omega.{arith}
@@ -10,8 +10,6 @@ use lib.Dec.{ltb}
 use borrow.Author.Tests.{ltb-true, ltb-false}
 use lib.IntN.{ℤ}
 use lib.Ieee.{Float}
-use Rattle.protocol.specs.declared.Kind.{Kind}
-use Rattle.protocol.specs.declared.Kind.the-variants.{Lsf, Bert, Stream, Packet}
 use Rattle.search.specs.declared.Candidate.{Candidate}
 use Rattle.search.specs.declared.Candidate.the-variants.{Nothing}
 use Rattle.search.specs.declared.Waiting.{Waiting}
@@ -22,7 +20,7 @@ use Rattle.search.specs.declared.Control.{Control}
 use Rattle.search.specs.declared.Reply.{Reply}
 use Rattle.search.specs.declared.Reply.the-variants.{Accepted, Rejected}
 use Rattle.search.specs.TakenBurst.{TakenBurst, heldAs, heldIn, shownOf}
-use Rattle.search.specs.Turn.{offered, cleared}
+use Rattle.search.specs.Turn.{cleared}
 use Rattle.search.proofs.HeldOrNot.{HeldOrNot, not-held, is-held, same-held}
 use Rattle.demodulator_run.specs.Rules.{Single, sample, reply, History}
 use Rattle.demodulator_run.specs.Marks.{Mark, First, Anew, Failed, FellDue, searchedMarks, dueMarks, waitedMarks, sampledMarks, repliedMarks}
@@ -85,12 +83,6 @@ due-one left e = ap leftOf e
     leftOf Free = 0
     leftOf (Due w) = w .left
 
-pub not-offered : (k : Kind) → offered k ≡ false → k ≡ Bert
-not-offered Lsf e = absurd (true≢false e)
-not-offered Bert e = refl
-not-offered Stream e = absurd (true≢false e)
-not-offered Packet e = absurd (true≢false e)
-
 module _ (ear : Ear) (p : ℕ) (alone : Alone ear) (xs : List ℤ) (t : Timer) (o : Bool) (n : ℕ) where
   abbrev heardWith : Candidate → Wait → History
   heardWith held wait = record { samples = xs; control = controlled held wait t o n }
@@ -103,40 +95,22 @@ module _ (ear : Ear) (p : ℕ) (alone : Alone ear) (xs : List ℤ) (t : Timer) (
     free-exact : {candidate : Candidate} → HeldOrNot candidate
         → Exactly (λ (y : Mark). ByRules ear y (heardWith candidate Free) (sample x room)) (searchedMarks p (ear (n + 1)) (controlled candidate Free later o (n + 1)))
     free-exact {candidate} held =
-        only-search ear (heardWith candidate Free) (sample x room) (controlled candidate Free later o (n + 1)) (inl (refl, refl))
-        (λ d s. elim s [ inl q ↦ q .1 | inr q ↦ absurd (free-due (q .0)) ]) (no-wait ear (heardWith candidate Free) (sample x room) free-due) _ (search-exact ear p alone (n + 1) held later o)
+        only-search ear (heardWith candidate Free) (sample x room) (controlled candidate Free later o (n + 1)) (refl, refl)
+        (λ d s. s .1) (no-wait ear (heardWith candidate Free) (sample x room) free-due) _ (search-exact ear p alone (n + 1) held later o)
 
     module _ (held : TakenBurst) where
-      abbrev k : Kind
-      k = held .kind
-
       longer-exact : (left : ℕ) → 1 < left → Exactly (λ (y : Mark). ByRules ear y (heardWith (heldAs held) (Due (record { left = left }))) (sample x room)) []
       longer-exact left more =
           nothing-exact ear (heardWith (heldAs held) (Due (record { left = left }))) (sample x room)
-          (λ c s. elim s [ inl q ↦ free-due (sym (q .0)) | inr q ↦ omega (arith, due-one left (q .0)) ])
+          (λ c s. free-due (sym (s .0)))
           (no-wait ear (heardWith (heldAs held) (Due (record { left = left }))) (sample x room) (λ e. omega (arith, due-one left e)))
 
       abbrev h : History
       h = heardWith (heldAs held) lastSample
 
-      abbrev rest : Bool → List Mark
-      rest b = cond b [] (searchedMarks p (ear (n + 1)) (controlled Nothing Free later o (n + 1)))
-
-      due-exact : (b : Bool) → offered k ≡ b → Exactly (λ (y : Mark). ByRules ear y h (sample x room)) (FellDue (n + 1) (shownOf held) ∷ rest b)
-      due-exact b e y = (λ i. elim (List·Memᴰ·cases-cons i) [ inl q ↦ subst (λ (z : Mark). ByRules ear z h (sample x room)) (sym q) (x, room, refl, refl, refl, (held, refl, refl)) | inr q ↦ forth b e q ], back y)
+      due-exact : Exactly (λ (y : Mark). ByRules ear y h (sample x room)) (FellDue (n + 1) (shownOf held) ∷ [])
+      due-exact y = (λ i. subst (λ (z : Mark). ByRules ear z h (sample x room)) (sym (List·Memᴰ·eq-of-singleton i)) (x, room, refl, refl, refl, (held, refl, refl)), back y)
         where
-          forth : (b : Bool) → offered k ≡ b → In y (rest b) → ByRules ear y h (sample x room)
-          forth true e i = absurd (List·Memᴰ·not-nil i)
-          forth false e i =
-              by-search ear h (sample x room) (controlled Nothing Free later o (n + 1)) (inr (refl, (held, (refl, not-offered k e)), refl)) y (search-exact ear p alone (n + 1) not-held later o y .0 i)
-
-          searched : (b : Bool) → offered k ≡ b → (y : Mark) → (c : Control) → Searches h (sample x room) c → BySearch ear c y → In y (rest b)
-          searched b e y c (inl q) s = absurd (free-due (sym (q .0)))
-          searched true e y c (inr q) s =
-              let g : k ≡ Bert = ap (λ (t : TakenBurst). t .kind) (same-held held (q .1 .0) (q .1 .1 .0)) ∙ q .1 .1 .1 in
-              absurd (true≢false (sym e ∙ ap offered g))
-          searched false e y c (inr q) s = search-exact ear p alone (n + 1) not-held later o y .1 (subst (λ (d : Control). BySearch ear d y) (q .2) s)
-
           here : (y : Mark) → DueHere ear h (sample x room) y → y ≡ FellDue (n + 1) (shownOf held)
           here (First m j) d = absurd d
           here (Anew m i j) d = absurd d
@@ -146,8 +120,8 @@ module _ (ear : Ear) (p : ℕ) (alone : Alone ear) (xs : List ℤ) (t : Timer) (
               let f : shownOf held ≡ x = ap shownOf (same-held held (d .5 .0) (d .5 .1)) ∙ d .5 .2 in
               cc
 
-          back : (y : Mark) → ByRules ear y h (sample x room) → In y (FellDue (n + 1) (shownOf held) ∷ rest b)
-          back y s = elim (source ear h (sample x room) y s) [ inl q ↦ List·Memᴰ·tail (searched b e y (q .0) (q .1) (q .2)) | inr d ↦ List·Memᴰ·head (here y d) ]
+          back : (y : Mark) → ByRules ear y h (sample x room) → In y (FellDue (n + 1) (shownOf held) ∷ [])
+          back y s = elim (source ear h (sample x room) y s) [ inl q ↦ absurd (free-due (sym (q .1 .0))) | inr d ↦ List·Memᴰ·head (here y d) ]
 
       wait-exact : (left : ℕ) → 0 < left → (b : Bool) → ltb 1 left ≡ b
           → Exactly (λ (y : Mark). ByRules ear y (heardWith (heldAs held) (Due (record { left = left }))) (sample x room))
@@ -156,7 +130,7 @@ module _ (ear : Ear) (p : ℕ) (alone : Alone ear) (xs : List ℤ) (t : Timer) (
       wait-exact left more false e =
           let marks : List Mark = dueMarks p (ear (n + 1)) (some held) (controlled Nothing Free later o (n + 1)) in
           subst (λ (m : ℕ). Exactly (λ (y : Mark). ByRules ear y (heardWith (heldAs held) (Due (record { left = m }))) (sample x room)) marks) {x = 1} {y = left}
-          (let u = ltb-false 1 left e in omega arith) (unfold dueMarks in due-exact (offered k) refl)
+          (let u = ltb-false 1 left e in omega arith) (unfold dueMarks in due-exact)
 
     pub sample-exact : (l : List Mark) {candidate : Candidate} → HeldOrNot candidate → (wait : Wait) → Phase ear p l n (heldIn candidate) wait o
         → Exactly (λ (y : Mark). ByRules ear y (heardWith candidate wait) (sample x room)) (sampledMarks p (ear (n + 1)) (controlled candidate wait t o n))

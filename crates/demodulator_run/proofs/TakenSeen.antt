@@ -1,11 +1,11 @@
 -- A candidate that is held after a call and was not before it is marked as taken, by the rules. Assumes nothing.
 use mathlib.Core.Path.{_≡_, refl, sym, ap, subst, _∙_}
 use mathlib.Core.Logic.{_⊎_, inl, inr}
-use mathlib.Core.Bool.{Bool, true, false, not, cond, false≢true}
+use mathlib.Core.Bool.{true, false, not, false≢true}
 use mathlib.Core.List.{List, [], _∷_, _++_}
 use Prim.Native.Nat.{ℕ, _+_, _^_}
 use native.Mathlib.Omega.{arith}
-use lib.Dec.{T, eqb, ltb, lit≤}
+use lib.Dec.{T, eqb, ltb}
 use lib.IntN.{ℤ}
 use lib.ListN.{length, length-append}
 use lib.Ieee.{Float}
@@ -14,35 +14,30 @@ use Rattle.protocol.specs.declared.Kind.{Kind}
 use Rattle.protocol.specs.declared.Kind.the-variants.{Lsf, Bert, Stream, Packet}
 use Rattle.protocol.specs.declared.SyncBurst.the-variants.{Frame, Preamble, EndOfTransmission}
 use Rattle.decode.specs.Correlator.{matches}
-use Rattle.search.specs.declared.Candidate.{Candidate}
 use Rattle.search.specs.declared.Candidate.the-variants.{Nothing}
 use Rattle.search.specs.declared.Waiting.{Waiting}
 use Rattle.search.specs.declared.Wait.{Wait}
 use Rattle.search.specs.declared.Wait.the-variants.{Free, Due}
 use Rattle.search.specs.declared.Control.{Control}
-use Rattle.search.specs.declared.Turn.the-variants.{Offer, Look}
 use Rattle.search.specs.declared.Reply.{Reply}
 use Rattle.search.specs.declared.Reply.the-variants.{Accepted, Rejected}
-use Rattle.search.specs.TakenBurst.{TakenBurst, heldIn, shownOf}
+use Rattle.search.specs.TakenBurst.{heldIn}
 use Rattle.search.specs.Search.{carried, tried, passed, searched}
-use Rattle.search.specs.Turn.{Outcome, quiet, offer, offered, counted, freed, owing, dueTurn, comesTo, sampled, replied}
+use Rattle.search.specs.Turn.{Outcome, quiet, offer, counted, owing, sampled, replied}
 use Rattle.search.specs.Fit.{held}
 use Rattle.search.proofs.AgeInPass.{by-test, carried-candidate, missed-keeps}
 use Rattle.search.proofs.Silent.{passed-silent}
-use Rattle.search.proofs.HeldOrNot.{HeldOrNot, not-held, is-held, held-or-not}
 use Rattle.demodulator.specs.Spans.{eight}
 use Rattle.demodulator_laws.proofs.SampleFits.{controlOf}
-use Rattle.demodulator_laws.proofs.SampleByWait.{sampled-free, sampled-due}
+use Rattle.demodulator_laws.proofs.SampleByWait.{sampled-free}
 use Rattle.demodulator_run.specs.Filter.{ago}
 use Rattle.demodulator_run.specs.Rules.{Single, sample, reply, query, History, After, settled, admitted, given, answered, single, historyAll}
 use Rattle.demodulator_run.specs.Marks.{First, isRefusal, logAll}
 use Rattle.demodulator_run.specs.Demands.{SymbolSize, Ear, earOf, Matches, Alone, NotAgain, Started}
-use Rattle.demodulator_run.specs.Exact.{HeldOf, lastSample, Searches}
-use Rattle.demodulator_run.specs.CallerSees.{NoneHeld}
+use Rattle.demodulator_run.specs.Exact.{Searches}
 use Rattle.demodulator_run.proofs.KindOrder.{same-self, heard}
 use Rattle.demodulator_run.proofs.Count.{sampled-count, replied-count}
 use Rattle.demodulator_run.proofs.Run.{heard-now}
-use Rattle.demodulator_run.proofs.StepExact.{free-due, due-one, not-offered}
 use Rattle.demodulator_run.proofs.LogExact.{not-refused, admitted-given, admitted-answered, at-call, log-exact}
 
 -- ---- a search
@@ -71,49 +66,14 @@ module _ (p : ℕ) (v : ℕ → Float) (alone : (j k : Kind) → T (matches (Fra
   search-holds c Stream m = is-true _ (tried-holds Packet _ (inr (tried-holds Stream _ (inl m))))
   search-holds c Packet m = is-true _ (tried-holds Packet _ (inl m))
 
--- ---- a sample: the search runs, none is held before it, and one is after it
-module _ (p : ℕ) (v : ℕ → Float) (c : Control) (waits : (w : Waiting) → c .wait ≡ Due w → held (c .candidate) ≡ true) where
-  pub record Taking : Type 0 where
-    pub from : Control
-    pub searches : ((c .wait ≡ Free) × (from ≡ counted c)) ⊎ ((c .wait ≡ lastSample) × ((t : TakenBurst) × HeldOf Bert t (c .candidate)) × (from ≡ freed (counted c)))
-    pub none : from .candidate ≡ Nothing
-    pub takes : held (searched p v from .candidate) ≡ true
+-- ---- a sample: with no candidate held no wait is, and the search runs
+free-of : (c : Control) → ((w : Waiting) → c .wait ≡ Due w → held (c .candidate) ≡ true) → c .candidate ≡ Nothing → (wait : Wait) → c .wait ≡ wait → c .wait ≡ Free
+free-of c waits none Free e = e
+free-of c waits none (Due w) e = absurd (false≢true (sym (ap held none) ∙ waits w e))
 
-  taking-number : (t : Taking) → t .from .sample ≡ c .sample + 1
-  taking-number t = elim (t .searches) [ inl s ↦ ap (λ (d : Control). d .sample) (s .1) | inr s ↦ ap (λ (d : Control). d .sample) (s .2) ]
-
-  ends-taking : c .wait ≡ lastSample → {candidate : Candidate} → HeldOrNot candidate → c .candidate ≡ candidate → held (controlOf (comesTo p v (dueTurn (heldIn candidate) (freed (counted c)))) .candidate) ≡ true → Taking
-  unfolding dueTurn
-  ends-taking last not-held e h = absurd (false≢true (sym (ap held e) ∙ waits _ last))
-  ends-taking last (is-held t) e h = go (offered (t .kind)) refl h
-    where
-      go : (b : Bool) → offered (t .kind) ≡ b → held (controlOf (comesTo p v (cond b (Offer (shownOf t) (owing true (freed (counted c)))) (Look (freed (counted c))))) .candidate) ≡ true → Taking
-      go true o h = absurd (false≢true h)
-      go false o h = record {
-        from = freed (counted c);
-        searches = inr (last, (t, (e, not-offered (t .kind) o)), refl);
-        none = refl;
-        takes = h;
-      }
-
-  sample-taking : (wait : Wait) → c .wait ≡ wait → (c .candidate ≡ Nothing) ⊎ (c .wait ≡ lastSample) → held (controlOf (sampled p v c) .candidate) ≡ true → Taking
-  sample-taking Free e (inl free) h =
-      record { from = counted c; searches = inl (e, refl); none = free; takes = sym (ap (λ (o : Outcome). held (controlOf o .candidate)) (sampled-free p v c e)) ∙ h }
-  sample-taking Free e (inr last) h = absurd (free-due (sym e ∙ last))
-  sample-taking (Due u) e (inl free) h = absurd (false≢true (sym (ap held free) ∙ waits u e))
-  sample-taking (Due u) e (inr last) h =
-      let left = due-one (u .left) (sym e ∙ last) in
-      ends-taking last (held-or-not (c .candidate)) refl (sym (ap (λ (o : Outcome). held (controlOf o .candidate)) (sampled-due p v c u e (omega arith))) ∙ h)
-
-  taken-sample : (t : Taking) → ((c .candidate ≡ Nothing) ⊎ (c .wait ≡ lastSample)) × (held (controlOf (sampled p v c) .candidate) ≡ true)
-  unfolding dueTurn
-  taken-sample t = elim (t .searches) [
-    | inl s ↦ (inl (sym (ap (λ (d : Control). d .candidate) (s .1)) ∙ t .none), ap (λ (o : Outcome). held (controlOf o .candidate)) (sampled-free p v c (s .0)) ∙ subst (λ (d : Control). held (searched p v d .candidate) ≡ true) (s .1) (t .takes))
-    | inr s ↦
-        let h = s .1 .1 in
-        let gone : comesTo p v (dueTurn (heldIn (c .candidate)) (freed (counted c))) ≡ quiet (searched p v (freed (counted c))) = rw (h .0, h .1) in
-        (inr (s .0), ap (λ (o : Outcome). held (controlOf o .candidate)) (sampled-due p v c _ (s .0) (lit≤ tt) ∙ gone) ∙ subst (λ (d : Control). held (searched p v d .candidate) ≡ true) (s .2) (t .takes))
-  ]
+module _ (p : ℕ) (v : ℕ → Float) (c : Control) (free : c .wait ≡ Free) where
+  sample-holds : held (controlOf (sampled p v c) .candidate) ≡ held (searched p v (counted c) .candidate)
+  sample-holds = ap (λ (o : Outcome). held (controlOf o .candidate)) (sampled-free p v c free)
 
 -- ---- a call of a run
 module _ (table : List Float) (p : ℕ) (big : SymbolSize p) (ss : List Single) (alone : Alone (earOf table p (historyAll table p ss .samples))) (again : NotAgain (earOf table p (historyAll table p ss .samples)) p) where
@@ -178,15 +138,16 @@ module _ (table : List Float) (p : ℕ) (big : SymbolSize p) (ss : List Single) 
         (k, subst (λ (u : ℕ → Float). T (matches (Frame k) u)) (sym f) m)
 
     pub taken-started : (call : Single) → ss ≡ before ++ (call ∷ after) → isRefusal (single table p h call .said .answer) ≡ false → ((w : Waiting) → h .control .wait ≡ Due w → held (h .control .candidate) ≡ true)
-        → NoneHeld call (h .control) → held (single table p h call .history .control .candidate) ≡ true → Started (logAll table p ss) (single table p h call .history .control .sample)
+        → h .control .candidate ≡ Nothing → held (single table p h call .history .control .candidate) ≡ true → Started (logAll table p ss) (single table p h call .history .control .sample)
     unfolding single replied
     taken-started (sample x room) e admitted waits none holds =
         let v : ℕ → Float = eight p (ago table p (h .samples ++ (x ∷ []))) in
         let c = given-control x room admitted in
-        let t = sample-taking p v (h .control) waits (h .control .wait) refl none (sym (ap (λ (d : Control). held (d .candidate)) c) ∙ holds) in
+        let free = free-of (h .control) waits none (h .control .wait) refl in
         subst (Started (logAll table p ss)) (sym (ap (λ (d : Control). d .sample) c ∙ sampled-count p v (h .control)))
-        (started (sample x room) e admitted (h .control .sample + 1) (t .from) (t .searches) (sym (taking-number p v (h .control) waits t)) (t .none)
-        (matched (h .control .sample + 1) v (heard-sample x room after e admitted) (t .from) (t .none) (t .takes)))
+        (started (sample x room) e admitted (h .control .sample + 1) (counted (h .control)) (free, refl) refl none
+        (matched (h .control .sample + 1) v (heard-sample x room after e admitted) (counted (h .control)) none
+        (sym (sample-holds p v (h .control) free) ∙ sym (ap (λ (d : Control). held (d .candidate)) c) ∙ holds)))
     taken-started (reply Accepted) e admitted waits none holds =
         absurd (false≢true (sym (ap held none) ∙ sym (ap (λ (d : Control). held (d .candidate)) (answered-control Accepted admitted)) ∙ holds))
     taken-started (reply Rejected) e admitted waits none holds =
@@ -198,19 +159,22 @@ module _ (table : List Float) (p : ℕ) (big : SymbolSize p) (ss : List Single) 
     taken-started query e admitted waits none holds = absurd (false≢true (sym (ap held none) ∙ holds))
 
     -- and back
-    pub started-taken : (call : Single) → ss ≡ before ++ (call ∷ after) → isRefusal (single table p h call .said .answer) ≡ false → ((w : Waiting) → h .control .wait ≡ Due w → held (h .control .candidate) ≡ true)
+    pub started-taken : (call : Single) → ss ≡ before ++ (call ∷ after) → isRefusal (single table p h call .said .answer) ≡ false
         → (n : ℕ) (c : Control) → Searches h call c → n ≡ c .sample → c .candidate ≡ Nothing → (k : Kind) → Matches ear k n
-        → NoneHeld call (h .control) × (held (single table p h call .history .control .candidate) ≡ true) × (single table p h call .history .control .sample ≡ n)
+        → (h .control .candidate ≡ Nothing) × (held (single table p h call .history .control .candidate) ≡ true) × (single table p h call .history .control .sample ≡ n)
     unfolding single replied
-    started-taken (sample x room) e admitted waits n c s number free k m =
+    started-taken (sample x room) e admitted n c s number free k m =
         let v : ℕ → Float = eight p (ago table p (h .samples ++ (x ∷ []))) in
         let d = given-control x room admitted in
-        let counts : c .sample ≡ h .control .sample + 1 = elim s [ inl q ↦ ap (λ (b : Control). b .sample) (q .1) | inr q ↦ ap (λ (b : Control). b .sample) (q .2) ] in
+        let counts : c .sample ≡ h .control .sample + 1 = ap (λ (b : Control). b .sample) (s .1) in
         let f : ear n ≡ v = ap ear (number ∙ counts) ∙ heard-sample x room after e admitted in
-        let t = taken-sample p v (h .control) waits (record { from = c; searches = s; none = free; takes = search-holds p v (heard-alone n v f) c k (subst (λ (u : ℕ → Float). T (matches (Frame k) u)) f m) }) in
-        (t .0, ap (λ (b : Control). held (b .candidate)) d ∙ t .1, ap (λ (b : Control). b .sample) d ∙ sampled-count p v (h .control) ∙ sym (number ∙ counts))
-    started-taken (reply Accepted) e admitted waits n c s number free k m = absurd s
-    started-taken (reply Rejected) e admitted waits n c s number free k m =
+        let held-then = search-holds p v (heard-alone n v f) c k (subst (λ (u : ℕ → Float). T (matches (Frame k) u)) f m) in (
+          sym (ap (λ (b : Control). b .candidate) (s .1)) ∙ free,
+          ap (λ (b : Control). held (b .candidate)) d ∙ sample-holds p v (h .control) (s .0) ∙ subst (λ (b : Control). held (searched p v b .candidate) ≡ true) (s .1) held-then,
+          ap (λ (b : Control). b .sample) d ∙ sampled-count p v (h .control) ∙ sym (number ∙ counts),
+        )
+    started-taken (reply Accepted) e admitted n c s number free k m = absurd s
+    started-taken (reply Rejected) e admitted n c s number free k m =
         let v : ℕ → Float = eight p (ago table p (h .samples)) in
         let d = answered-control Rejected admitted in
         let counts : c .sample ≡ h .control .sample = ap (λ (b : Control). b .sample) s in
@@ -220,4 +184,4 @@ module _ (table : List Float) (p : ℕ) (big : SymbolSize p) (ss : List Single) 
           ap (λ (b : Control). held (b .candidate)) d ∙ subst (λ (b : Control). held (searched p v b .candidate) ≡ true) s held-then,
           ap (λ (b : Control). b .sample) d ∙ replied-count p v Rejected (h .control) ∙ sym (number ∙ counts),
         )
-    started-taken query e admitted waits n c s number free k m = absurd s
+    started-taken query e admitted n c s number free k m = absurd s

@@ -1,7 +1,7 @@
 -- A sample and a reply keep the invariant. Assumes nothing.
 use mathlib.Core.Path.{_≡_, refl, sym, subst}
 use mathlib.Core.Bool.{Bool, true, false, cond, true≢false}
-use mathlib.Core.List.{List, [], _∷_, _++_, append-nil, append-assoc}
+use mathlib.Core.List.{List, [], _++_, append-nil}
 use mathlib.Core.Option.{some}
 use Prim.Native.Nat.{ℕ, _+_, _-_, _<_}
 use native.Mathlib.Omega.{arith}
@@ -13,17 +13,16 @@ use Rattle.search.specs.declared.Wait.{Wait}
 use Rattle.search.specs.declared.Wait.the-variants.{Free, Due}
 use Rattle.search.specs.declared.Timer.{Timer}
 use Rattle.search.specs.declared.Control.{Control}
-use Rattle.search.specs.declared.Turn.the-variants.{Rest, Offer, Look}
+use Rattle.search.specs.declared.Turn.the-variants.{Rest}
 use Rattle.search.specs.declared.Reply.{Reply}
 use Rattle.search.specs.declared.Reply.the-variants.{Accepted, Rejected}
 use Rattle.search.specs.TakenBurst.{TakenBurst, heldAs, heldIn, shownOf}
-use Rattle.search.specs.Turn.{offered, cleared, owing, dueTurn, waitedTurn, comesTo, sampled, replied}
+use Rattle.search.specs.Turn.{cleared, dueTurn, waitedTurn, comesTo, sampled, replied}
 use Rattle.search.proofs.HeldOrNot.{HeldOrNot, not-held, is-held, held-or-not}
 use Rattle.demodulator_laws.proofs.SampleFits.{controlOf}
-use Rattle.demodulator_run.specs.Marks.{Mark, FellDue, dueMarks, waitedMarks, sampledMarks, repliedMarks, searchedMarks}
+use Rattle.demodulator_run.specs.Marks.{Mark, dueMarks, waitedMarks, sampledMarks, repliedMarks}
 use Rattle.demodulator_run.specs.Demands.{SymbolSize, Ear, Alone, NotAgain}
-use Rattle.demodulator_run.proofs.Pass.{Step, controlled, searchStep}
-use Rattle.demodulator_run.proofs.Log.{more}
+use Rattle.demodulator_run.proofs.Pass.{Step, controlled}
 use Rattle.demodulator_run.proofs.Account.{Episode}
 use Rattle.demodulator_run.proofs.Phase.{Idle, Awaiting, Phase, Kept, account-later, busy-later}
 use Rattle.demodulator_run.proofs.FallenDue.{fallen}
@@ -34,25 +33,14 @@ abbrev atRest : Timer → ℕ → Control
 atRest t n = controlled Nothing Free t false (n + 1)
 
 module _ (ear : Ear) (p : ℕ) (big : SymbolSize p) (alone : Alone ear) (again : NotAgain ear p) (l : List Mark) where
-  -- the frame falls due; an offer ends the sample, and else the search runs at once
+  -- the frame falls due, and is offered
   kept-due : (n : ℕ) (t : Timer) (held : TakenBurst) → Awaiting ear p l n 1 held
       → KeptBy ear p l (record {
         control = controlOf (comesTo p (ear (n + 1)) (dueTurn (some held) (atRest t n)));
         marks = dueMarks p (ear (n + 1)) (some held) (atRest t n);
       })
   unfolding dueTurn dueMarks
-  kept-due n t held W = go (offered (held .kind))
-    where
-      idle : Idle ear p (more l (FellDue (n + 1) (shownOf held))) (n + 1)
-      idle = fallen ear p l n held W
-
-      go : (o : Bool) → Kept ear p (l ++ (FellDue (n + 1) (shownOf held) ∷ cond o [] (searchedMarks p (ear (n + 1)) (atRest t n))))
-          (controlOf (comesTo p (ear (n + 1)) (cond o (Offer (shownOf held) (owing true (atRest t n))) (Look (atRest t n)))))
-      go true = idle
-      go false =
-          subst (λ (m : List Mark). Kept ear p m (searchStep p (ear (n + 1)) (atRest t n) .control))
-          (append-assoc l (FellDue (n + 1) (shownOf held) ∷ []) (searchedMarks p (ear (n + 1)) (atRest t n)))
-          (search-idle ear p alone (more l (FellDue (n + 1) (shownOf held))) (n + 1) t idle)
+  kept-due n t held W = fallen ear p l n held W
 
   -- one sample less to wait
   later : (n left : ℕ) (held : TakenBurst) → 1 < left → Awaiting ear p l n left held → Awaiting ear p l (n + 1) (left - 1) held

@@ -21,7 +21,7 @@ use Rattle.search.specs.declared.Wait.the-variants.{Free}
 use Rattle.search.specs.declared.Timer.{Timer}
 use Rattle.search.specs.declared.Shown.{Shown}
 use Rattle.search.specs.TakenBurst.{TakenBurst, heldAs, shownOf}
-use Rattle.search.specs.Turn.{Outcome, offer, offered, cleared, dueTurn, waitedTurn, sampled}
+use Rattle.search.specs.Turn.{Outcome, offer, cleared, dueTurn, waitedTurn, sampled}
 use Rattle.demodulator.specs.Spans.{eight, symbolAt}
 use Rattle.demodulator.specs.Calls.{frame, offerOf}
 use Rattle.demodulator_run.specs.Filter.{filtered, ago}
@@ -57,10 +57,10 @@ module _ (table : List Float) (ear : Ear) (p b : ℕ) (k : Kind) (s d : ℕ) (x 
   ]
 
 -- ---- the window is given to the caller
-module _ (p : ℕ) (v : ℕ → Float) (held : TakenBurst) (t : Timer) (o : Bool) (n : ℕ) (offers : offered (held .kind) ≡ true) where
+module _ (p : ℕ) (v : ℕ → Float) (held : TakenBurst) (t : Timer) (o : Bool) (n : ℕ) where
   now-due : sampled p v (controlled (heldAs held) lastSample t o n) ≡ offer (shownOf held) (controlled Nothing Free (cleared (n + 1) t) true (n + 1))
   unfolding sampled waitedTurn dueTurn
-  now-due = rw offers
+  now-due = refl
 
   outcome : (candidate : Candidate) (wait : Wait) → candidate ≡ heldAs held → wait ≡ lastSample
       → sampled p v (controlled candidate wait t o n) ≡ offer (shownOf held) (controlled Nothing Free (cleared (n + 1) t) true (n + 1))
@@ -75,25 +75,25 @@ module _ (table : List Float) (p : ℕ) (h : History) (value : ℤ) (room : List
     room = written (symbolAt p (shownOf held) (ago table p (h .samples ++ (value ∷ [])))) 192 room;
   }
 
-  given-window : h .control .candidate ≡ heldAs held → h .control .wait ≡ lastSample → offered (held .kind) ≡ true → isRefusal (given table p h value room .said .answer) ≡ false
+  given-window : h .control .candidate ≡ heldAs held → h .control .wait ≡ lastSample → isRefusal (given table p h value room .said .answer) ≡ false
       → Gives (given table p h value room)
   unfolding given settled
-  given-window e f offers =
+  given-window e f =
       not-refused table p h Gives (h .control .owed) 2 room _ λ a.
       not-refused table p h Gives (ltb (length room) 192) 4 room _ λ b.
       not-refused table p h Gives (eqb (h .control .sample) (2 ^ 63)) 5 room (admitted table p h value room) λ c g.
       subst (λ (r : Outcome). Gives (settled table p (h .samples ++ (value ∷ [])) room r))
-      (sym (outcome p (eight p (ago table p (h .samples ++ (value ∷ [])))) held (h .control .dcd) (h .control .owed) (h .control .sample) offers
+      (sym (outcome p (eight p (ago table p (h .samples ++ (value ∷ [])))) held (h .control .dcd) (h .control .owed) (h .control .sample)
       (h .control .candidate) (h .control .wait) e f)) refl
 
-  called-window : h .control .candidate ≡ heldAs held → h .control .wait ≡ lastSample → offered (held .kind) ≡ true
+  called-window : h .control .candidate ≡ heldAs held → h .control .wait ≡ lastSample
       → isRefusal (single table p h (sample value room) .said .answer) ≡ false → Gives (single table p h (sample value room))
   unfolding single
   called-window = given-window
 
 module _ (table : List Float) (p : ℕ) (big : SymbolSize p) (cs : List Single) (alone : Alone (earOf table p (historyAll table p cs .samples))) (again : NotAgain (earOf table p (historyAll table p cs .samples)) p) where
-  pub due-offered : (d : ℕ) (x : Shown) → offered (x .kind) ≡ true → In (FellDue d x) (logAll table p cs) → OfferedAt table p d x cs
-  due-offered d x offers i = go (log-exact table p big cs alone again (FellDue d x) .0 i)
+  pub due-offered : (d : ℕ) (x : Shown) → In (FellDue d x) (logAll table p cs) → OfferedAt table p d x cs
+  due-offered d x i = go (log-exact table p big cs alone again (FellDue d x) .0 i)
     where
       go : MarkedAt table p (earOf table p (historyAll table p cs .samples)) (FellDue d x) start cs → OfferedAt table p d x cs
       go M =
@@ -117,5 +117,5 @@ module _ (table : List Float) (p : ℕ) (big : SymbolSize p) (cs : List Single) 
             number = let c = O .counted in omega (arith, length-append (h .samples) (value ∷ []));
             said = subst (λ (n : ℕ). single table p h (sample value room) .said ≡ record { answer = frame (offerOf x n); room = written (symbolAt p x (ago table p (h .samples ++ (value ∷ [])))) 192 room }) (sym number)
                 (subst (λ (y : Shown). single table p h (sample value room) .said ≡ record { answer = frame (offerOf y (h .control .sample + 1)); room = written (symbolAt p y (ago table p (h .samples ++ (value ∷ [])))) 192 room }) same
-                (called-window table p h value room held (M .rules .5 .1) (M .rules .4) (ap (λ (y : Shown). offered (y .kind)) same ∙ offers) passes));
+                (called-window table p h value room held (M .rules .5 .1) (M .rules .4) passes));
           }

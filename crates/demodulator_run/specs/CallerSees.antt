@@ -1,6 +1,6 @@
 -- Demand 3 by what a caller sees: the record before and after each single call, by the contracts' own definitions, and the answers. Assumes nothing.
 use mathlib.Core.Path.{_≡_}
-use mathlib.Core.Logic.{_⊎_, _↔_}
+use mathlib.Core.Logic.{_↔_}
 use mathlib.Core.Bool.{true, false}
 use mathlib.Core.List.{List, [], _∷_, _++_, List·Memᴰ}
 use Prim.Native.Nat.{ℕ, _+_, _-_, _*_, _≤_}
@@ -12,12 +12,11 @@ use Rattle.protocol.specs.declared.Kind.{Kind}
 use Rattle.search.specs.declared.Candidate.the-variants.{Nothing}
 use Rattle.search.specs.declared.Control.{Control}
 use Rattle.search.specs.TakenBurst.{TakenBurst}
-use Rattle.search.specs.Turn.{offered}
 use Rattle.search.specs.Fit.{held}
 use Rattle.demodulator.specs.declared.Offer.{Offer}
 use Rattle.demodulator.specs.Record.{fresh}
 use Rattle.demodulator.specs.Calls.{Paper, refusal, nothing, frame, done, carrier, Left}
-use Rattle.demodulator_run.specs.Rules.{Single, sample, reply, query}
+use Rattle.demodulator_run.specs.Rules.{Single, sample}
 use Rattle.demodulator_run.specs.Marks.{isRefusal}
 use Rattle.demodulator_run.specs.Run.{left, recordAfter}
 use Rattle.demodulator_run.specs.Demands.{AgeAtMost}
@@ -41,17 +40,11 @@ leftAt R t = left R (recordAfter R (t .before)) (t .call)
 abbrev pub Admitted : Rate → {ss : List Single} → Moment ss → Type 0
 Admitted R t = isRefusal (leftAt R t .answer) ≡ false
 
--- none is held: where a wait ends, "the wait and the candidate are removed" before the search
-abbrev pub NoneHeld : Single → Control → Type 0
-NoneHeld (sample x room) c = (c .candidate ≡ Nothing) ⊎ (c .wait ≡ lastSample)
-NoneHeld (reply r) c = c .candidate ≡ Nothing
-NoneHeld query c = c .candidate ≡ Nothing
-
 -- "a candidate taken at sample n while none was held": one is held after the call
 pub record TakenSeen (R : Rate) (ss : List Single) (n : ℕ) : Type 0 where
   pub moment : Moment ss
   pub admitted : Admitted R moment
-  pub none : NoneHeld (moment .call) (controlAt R moment)
+  pub none : controlAt R moment .candidate ≡ Nothing
   pub holds : held (leftAt R moment .demodulator .control .candidate) ≡ true
   pub number : leftAt R moment .demodulator .control .sample ≡ n
 
@@ -87,6 +80,6 @@ pub record DemandThree (R : Rate) (cs : List Call) : Type 0 where
   pub due-one : (n : ℕ) → TakenSeen R (singlesFrom R fresh cs) n → n + (188 * R .p - 1) ≤ run (receiver R) fresh cs .control .sample
       → (d : ℕ) × SomeDue R (singlesFrom R fresh cs) d × (n + (184 * R .p - 1) ≤ d) × (d ≤ n + (188 * R .p - 1))
       × ((e : ℕ) → SomeDue R (singlesFrom R fresh cs) e → n + (184 * R .p - 1) ≤ e → e ≤ n + (188 * R .p - 1) → e ≡ d)
-  -- "A due LSF, Stream or Packet frame is offered", and nothing else is
-  pub offers : (o : Offer) → List·Memᴰ o (offersIn (answers (receiver R) fresh cs)) ↔ ((offered (o .kind) ≡ true) × DueSeen R (singlesFrom R fresh cs) (o .kind) (o .sample))
+  -- document 02 b): "a due sample is now always an offer", and no other is
+  pub offers : (o : Offer) → List·Memᴰ o (offersIn (answers (receiver R) fresh cs)) ↔ DueSeen R (singlesFrom R fresh cs) (o .kind) (o .sample)
   pub ages : AgeAtMost (R .p + 1) (run (receiver R) fresh cs .control .candidate)

@@ -1,4 +1,4 @@
--- Demand 3: what is asked of the frames that fall due, offered or not. Over what is heard at each sample, `ear k i` for the value i of the eight at sample k, and over a log of marks.
+-- Demand 3: what is asked of the frames that fall due. Over what is heard at each sample, `ear k i` for the value i of the eight at sample k, and over a log of marks.
 -- Assumes nothing.
 use mathlib.Core.Path.{_≡_}
 use mathlib.Core.Logic.{_⊎_, _↔_}

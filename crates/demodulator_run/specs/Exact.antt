@@ -1,6 +1,5 @@
 -- When a mark stands in the log, by the rules: at which call, and with which control before the search. Assumes nothing.
 use mathlib.Core.Path.{_≡_}
-use mathlib.Core.Logic.{_⊎_}
 use mathlib.Core.Bool.{true, false}
 use mathlib.Core.List.{List, [], _∷_, _++_}
 use Prim.Native.Nat.{ℕ, _+_, _<_}
@@ -10,7 +9,6 @@ use lib.Ieee.{Float, lt}
 use Rattle.numbers.specs.Firsts.{written}
 use Rattle.machine.specs.Runs.{run}
 use Rattle.protocol.specs.declared.Kind.{Kind}
-use Rattle.protocol.specs.declared.Kind.the-variants.{Bert}
 use Rattle.search.specs.declared.Candidate.{Candidate}
 use Rattle.search.specs.declared.Candidate.the-variants.{Nothing}
 use Rattle.search.specs.declared.Wait.{Wait}
@@ -20,7 +18,7 @@ use Rattle.search.specs.declared.Shown.{Shown}
 use Rattle.search.specs.declared.Reply.the-variants.{Accepted, Rejected}
 use Rattle.search.specs.TakenBurst.{TakenBurst, heldAs, shownOf}
 use Rattle.search.specs.Search.{rank}
-use Rattle.search.specs.Turn.{counted, freed, owing}
+use Rattle.search.specs.Turn.{counted, owing}
 use Rattle.demodulator.specs.Spans.{symbolAt}
 use Rattle.demodulator.specs.Calls.{frame, offerOf}
 use Rattle.demodulator_run.specs.Filter.{ago}
@@ -37,11 +35,9 @@ abbrev pub lastSample : Wait
 lastSample = Due (record { left = 1 })
 
 -- ---- the search runs in the call, and the control before it is c
--- A sample: no wait is held, or "A due BERT frame is not offered; the search runs at once". A reply: "Rejected: the search runs for that same sample."
+-- A sample: no wait is held. A reply: "Rejected: the search runs for that same sample."
 abbrev pub Searches : History → Single → Control → Type 0
-Searches h (sample x room) c =
-    ((h .control .wait ≡ Free) × (c ≡ counted (h .control)))
-    ⊎ ((h .control .wait ≡ lastSample) × ((t : TakenBurst) × HeldOf Bert t (h .control .candidate)) × (c ≡ freed (counted (h .control))))
+Searches h (sample x room) c = (h .control .wait ≡ Free) × (c ≡ counted (h .control))
 Searches h (reply Accepted) c = ⊥
 Searches h (reply Rejected) c = c ≡ owing false (h .control)
 Searches h query c = ⊥
@@ -76,7 +72,7 @@ pub record MarkedAt (table : List Float) (p : ℕ) (ear : Ear) (y : Mark) (h : H
   pub admitted : isRefusal (single table p (run (singleRules table p) h before) call .said .answer) ≡ false
   pub rules : ByRules ear y (run (singleRules table p) h before) call
 
--- ---- "A due LSF, Stream or Packet frame is offered: the kind, the sample number d, and symbol i", at the admitted sample d
+-- ---- a due frame "is offered: the kind, the sample number d, and symbol i", at the admitted sample d
 pub record OfferedAt (table : List Float) (p : ℕ) (d : ℕ) (x : Shown) (cs : List Single) : Type 0 where
   pub before : List Single
   pub value : ℤ

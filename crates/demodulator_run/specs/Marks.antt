@@ -17,7 +17,7 @@ use Rattle.search.specs.declared.Reply.{Reply}
 use Rattle.search.specs.declared.Reply.the-variants.{Accepted, Rejected}
 use Rattle.search.specs.TakenBurst.{TakenBurst, heldBy, taken, shownOf}
 use Rattle.search.specs.Search.{carried, sameKind, tried}
-use Rattle.search.specs.Turn.{counted, freed, owing, offered}
+use Rattle.search.specs.Turn.{counted, freed, owing}
 use Rattle.demodulator.specs.Spans.{eight}
 pub use Rattle.demodulator.specs.Calls.{isRefusal}
 use Rattle.demodulator_run.specs.Filter.{ago}
@@ -65,7 +65,7 @@ searchedMarks p v c = passedMarks p v (carried p EndOfTransmission v (carried p 
 -- "At 0 the wait and the candidate are removed and a frame is due." The control is the one after the removal.
 unfoldable pub dueMarks : ℕ → (ℕ → Float) → Option TakenBurst → Control → List Mark
 dueMarks p v none c = searchedMarks p v c
-dueMarks p v (some t) c = FellDue (c .sample) (shownOf t) ∷ cond (offered (t .kind)) [] (searchedMarks p v c)
+dueMarks p v (some t) c = FellDue (c .sample) (shownOf t) ∷ []
 
 -- "while more than 0 is left the sample is finished, with no search"
 unfoldable pub waitedMarks : ℕ → (ℕ → Float) → Wait → Control → List Mark

@@ -36,7 +36,7 @@ abbrev pub refused : ℕ → List Float → History → After
 refused number room h = record { said = record { answer = refusal (bare number); room = room }; history = h }
 
 module _ (table : List Float) (p : ℕ) where
-  -- "A due LSF, Stream or Packet frame is offered: the kind, the sample number d, and symbol i"; "Symbol room is written only by an offer, first 192 places only"
+  -- a due frame "is offered: the kind, the sample number d, and symbol i"; "Symbol room is written only by an offer, first 192 places only"
   -- what an admitted sample comes to: xs are all the samples, it among them
   unfoldable pub settled : List ℤ → List Float → Outcome → After
   settled xs room (quiet c) = record { said = record { answer = nothing; room = room }; history = record { samples = xs; control = c } }

@@ -1,2 +1,2 @@
--- The two frames whose symbols are fixed.
+-- The frames whose symbols are fixed.
 pub mod Frames

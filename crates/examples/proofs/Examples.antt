@@ -16,6 +16,7 @@ use Rattle.decode.proofs.Worked as Decode
 use Rattle.decode.proofs.Worked.{answer, found}
 use Rattle.demodulator_run.specs.Filter.{filtered}
 use Rattle.demodulator_run.proofs.Worked as Receiver
+use Rattle.given_symbols.specs.declared.Traffic.the-variants.{Ordinary}
 use Rattle.modulator.specs.Frame.{preamble, paddingOf}
 use Rattle.modulator_run.specs.Stream.{sentAt}
 use Rattle.modulator_run.proofs.Worked as Sender
@@ -29,7 +30,7 @@ pub record Examples : Type 0 where
   -- sample 1, then 40 zeros: F(41) = tap 40, 0.35943073
   pub p1 : (filtered taps 10 (pos 1 ∷ replicate 40 (pos 0)) 41 ≡ getD taps 40 nought) × (filtered taps 10 (pos 1 ∷ replicate 40 (pos 0)) 41 ≡ ofBits binary32 0x3eb8_074e)
   -- first five preamble samples: -113, -103, -68, -12, 54
-  pub p2 : firsts (λ (i : ℕ). sentAt at48 (firsts (preamble .symbol) 192) (i + 1)) 5 ≡ negsuc 112 ∷ negsuc 102 ∷ negsuc 67 ∷ negsuc 11 ∷ pos 54 ∷ []
+  pub p2 : firsts (λ (i : ℕ). sentAt at48 (firsts (preamble Ordinary .symbol) 192) (i + 1)) 5 ≡ negsuc 112 ∷ negsuc 102 ∷ negsuc 67 ∷ negsuc 11 ∷ pos 54 ∷ []
   -- LSF signs times 32: match, diff 0, gain 32, shift 0
   pub p3 : (found (whole 32) (whole 0) ≡ true) × (answer (whole 32) (whole 0) ≡ record { diff = whole 0; gain = whole 32; shift = whole 0 })
   -- times 16: match; times 15.5: none

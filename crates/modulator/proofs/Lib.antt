@@ -4,7 +4,6 @@ pub mod Fitness
 -- what a call comes to, case by case
 pub mod Cases
 pub mod FrameCases
-pub mod Judged
 -- what a frame makes of the record
 pub mod Frames
 -- a read as the code does it: one piece behind the other, into the caller's room

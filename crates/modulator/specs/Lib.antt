@@ -1,7 +1,6 @@
 -- The sender's rules for one call: what a frame's symbols are, what makes a record fit, and what each call answers and leaves.
 pub mod Paper
 pub mod Frame
-pub mod Offender
 -- what a call comes to, for a record and for the rules over all calls
 pub mod Control
 pub mod Fit

@@ -2,21 +2,20 @@
 use mathlib.Core.Bool.{Bool, true, not, cond, _||_}
 use mathlib.Core.List.{List}
 use Prim.Native.Nat.{ℕ}
-use lib.Dec.{eqb, ltb}
-use lib.ListN.{length}
+use lib.Dec.{ltb}
 use lib.Ieee.{Float}
 use Rattle.protocol.specs.Refusals.{bare, onPaper}
+use Rattle.given_symbols.specs.declared.Verdict.{Verdict}
+use Rattle.given_symbols.specs.declared.Verdict.the-variants.{Refused, Fine}
+use Rattle.given_symbols.specs.Offender.{judgedAs}
 use Rattle.modulator.specs.declared.EndReport.{EndReport}
 use Rattle.modulator.specs.declared.EndReport.the-variants.{Nothing as NoReport, After}
 use Rattle.modulator.specs.declared.Pending.{Pending}
 use Rattle.modulator.specs.declared.OutputBuffer.{OutputBuffer}
 use Rattle.modulator.specs.declared.ModulatorFrame.{ModulatorFrame}
 use Rattle.modulator.specs.declared.ModulatorFrame.the-variants.{Nothing as NoFrame, Preamble, Symbols as GivenSymbols, EndOfTransmission}
-use Rattle.modulator.specs.declared.Provided.{Provided}
-use Rattle.modulator.specs.declared.Provided.the-variants.{Refused, Done}
 use Rattle.modulator.specs.Paper.{Paper, refusal, done, transmitEnd, readOutput, idle, getFrame, nothing}
 use Rattle.modulator.specs.Frame.{Symbols, preamble, given, ending, paddingOf}
-use Rattle.modulator.specs.Offender.{judgedBelow}
 use Rattle.modulator.specs.Control.{Control, bufferOf, dropped, ended, endAfter, updatedPending, reported, idled}
 use Rattle.modulator.specs.Fit.{countFit}
 
@@ -29,20 +28,16 @@ pub data Outcome : Type 0 where
   sends : Symbols → ℕ → Pending → Outcome
 
 -- ---- a frame
--- 71 to 74 "replace 7, at its place in the order, and are the first to return a place beside the number"
-abbrev pub judgedOutcome : Provided → List Float → Control → Outcome
+-- 6, 71 to 74 and 11, of which 71 to 74 "are the first to return a place beside the number"
+abbrev pub judgedOutcome : Verdict → List Float → Control → Outcome
 judgedOutcome (Refused why) symbols s = only (refusal (onPaper why))
-judgedOutcome Done symbols s = sends (given symbols) (s .progress .«tx_delay_padding» .0) (s .pending)
-
--- 6: "symbols not exactly 192"
-unfoldable pub givenOutcome : List Float → Control → Outcome
-givenOutcome symbols s = cond (not (eqb (length symbols) 192)) (only (refusal (bare 6))) (judgedOutcome (judgedBelow 192 symbols) symbols s)
+judgedOutcome Fine symbols s = sends (given symbols) (s .progress .«tx_delay_padding» .0) (s .pending)
 
 -- "A frame is a preamble with TxDelay, 192 symbols, the end of transmission, or none. None only drops the wish for a frame." Of padding: "Only a preamble sets it."
 unfoldable pub frameOutcome : ℕ → ModulatorFrame → List Float → Control → Outcome
 frameOutcome p NoFrame symbols s = told done (dropped (s .pending)) (s .buffer)
-frameOutcome p (Preamble steps) symbols s = sends preamble (paddingOf p (steps .0) (s .buffer .«output_latency» .0)) (s .pending)
-frameOutcome p GivenSymbols symbols s = givenOutcome symbols s
+frameOutcome p (Preamble traffic steps) symbols s = sends (preamble traffic) (paddingOf p (steps .0) (s .buffer .«output_latency» .0)) (s .pending)
+frameOutcome p (GivenSymbols traffic) symbols s = judgedOutcome (judgedAs traffic symbols) symbols s
 frameOutcome p EndOfTransmission symbols s = sends ending (s .progress .«tx_delay_padding» .0) (ended (s .pending))
 
 -- ---- an update

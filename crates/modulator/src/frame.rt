@@ -1,4 +1,4 @@
-// Frames go in: each kind's symbols, the checks on symbols that are given, and the samples that they become.
+// Frames go in: each kind's symbols, and the samples that they become.
 use super::AfterFrame;
 use super::DelaySteps;
 use super::EndReport;
@@ -10,7 +10,9 @@ use super::Provided;
 use super::SampleCount;
 use super::SoftModulator;
 use super::fit::record_fit;
-use super::offender::first_offender;
+use given_symbols::Traffic;
+use given_symbols::Verdict;
+use given_symbols::judge_frame;
 use protocol::Refusal;
 use pulse::SAMPLES_PER_SYMBOL;
 use pulse::push_symbols;
@@ -23,20 +25,6 @@ ghost use Rattle.modulator.specs.Frame.{listing, preamble, given, ending
 ghost use Rattle.modulator.specs.Record.{framed, withPending};
 ghost use Rattle.modulator.specs.Control.{dropped, ended};
 ghost use Rattle.modulator.specs.Calls.{new-says, provide-next-frame-says};
-
-// The end of transmission, and the zeros that empty the window after it.
-fn ending_symbols() -> [f32; 272]
-    ensures { λ r. ⌜ r ≡ firsts (ending .symbol) 272 ⌝ }
-{
-    let end = encode::generate_end_of_transmission();
-    let mut symbols = [0.0f32; 272];
-    let mut i: usize = 0;
-    while i < 192 {
-        symbols[i] = end[i];
-        i += 1;
-    }
-    symbols
-}
 
 // The frame takes the place of what is unread of the last one.
 fn framed(
@@ -69,15 +57,24 @@ fn framed(
     }
 }
 
-fn preamble(m: SoftModulator, tx_delay: DelaySteps) -> SoftModulator
+fn preamble_symbols(traffic: Traffic) -> [f32; 192]
+    ensures { λ r. ⌜ r ≡ firsts (preamble traffic .symbol) 192 ⌝ }
+{
+    match traffic {
+        Traffic::Ordinary => encode::generate_preamble(),
+        Traffic::Bert => encode::generate_bert_preamble(),
+    }
+}
+
+fn preamble(m: SoftModulator, traffic: Traffic, tx_delay: DelaySteps) -> SoftModulator
     requires { ⌜ m .«filter_cursor» < 81 ⌝ }
-    ensures { λ r. ⌜ r ≡ framed at48 preamble (paddingOf 10 («tx_delay» .0) (m .buffer .«output_latency» .0)) (m .pending) m ⌝ }
+    ensures { λ r. ⌜ r ≡ framed at48 (preamble traffic) (paddingOf 10 («tx_delay» .0) (m .buffer .«output_latency» .0)) (m .pending) m ⌝ }
 {
     let pending = m.pending;
     let latency = m.buffer.output_latency;
     let delay = tx_delay.in_samples();
     let padding = delay.saturating_sub(latency);
-    let symbols = encode::generate_preamble();
+    let symbols = preamble_symbols(traffic);
     framed(m, &symbols, padding, pending)
 }
 
@@ -97,7 +94,7 @@ fn end_of_transmission(m: SoftModulator) -> SoftModulator
     let mut pending = m.pending;
     pending.calculate_tx_end = true;
     let padding = m.progress.tx_delay_padding;
-    let symbols = ending_symbols();
+    let symbols = encode::generate_ending();
     framed(m, &symbols, padding, pending)
 }
 
@@ -147,18 +144,12 @@ impl SoftModulator {
         }
         let modulator = match frame {
             ModulatorFrame::Nothing => without_wish(self),
-            ModulatorFrame::Preamble(tx_delay) => preamble(self, tx_delay),
-            ModulatorFrame::Symbols => {
-                if symbols.len() != 192 {
+            ModulatorFrame::Preamble(traffic, tx_delay) => preamble(self, traffic, tx_delay),
+            ModulatorFrame::Symbols(traffic) => {
+                let verdict = judge_frame(traffic, symbols);
+                if let Verdict::Refused(why) = verdict {
                     return AfterFrame {
-                        answer: Provided::Refused(Refusal::WrongCount),
-                        modulator: self,
-                    };
-                }
-                let offender = first_offender(symbols);
-                if let Provided::Refused(_) = offender {
-                    return AfterFrame {
-                        answer: offender,
+                        answer: Provided::Refused(why),
                         modulator: self,
                     };
                 }

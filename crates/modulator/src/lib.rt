@@ -1,11 +1,11 @@
 // The sender: SoftModulator of the Rust's modem.rs as a record by value. Frames go in, and samples for the sound card come out, with the actions that keep the two in step.
+use given_symbols::Traffic;
 use protocol::Refusal;
 
 mod action;
 mod counts;
 mod fit;
 mod frame;
-mod offender;
 mod output;
 mod within;
 
@@ -55,8 +55,8 @@ pub struct SoftModulator {
 // What is to be sent next. The symbols of a frame stand beside the choice, since an enum holds no array.
 pub enum ModulatorFrame {
     Nothing,
-    Preamble(DelaySteps),
-    Symbols,
+    Preamble(Traffic, DelaySteps),
+    Symbols(Traffic),
     EndOfTransmission,
 }
 

@@ -8,34 +8,41 @@ use lib.Dec.{eqb, ltb}
 use lib.ListN.{length, getD}
 use lib.Ieee.{Float, nan}
 use lib.Ieee.Bits.{is-true}
-use Rattle.numbers.specs.Below.{allBelow}
 use Rattle.numbers.proofs.Below.{below-all, all-failed}
+use Rattle.protocol.specs.declared.Refusal.the-variants.{WrongCount, WrongBurst}
 use Rattle.protocol.specs.Refusals.{bare, placed}
+use Rattle.given_symbols.specs.declared.Traffic.{Traffic}
+use Rattle.given_symbols.specs.declared.Verdict.{Verdict}
+use Rattle.given_symbols.specs.declared.Verdict.the-variants.{Refused, Fine}
+use Rattle.given_symbols.specs.Offender.{symbolFit, allFit, earlier, judgedBelow, headed, headJudged, judgedAs}
+use Rattle.given_symbols.proofs.FirstOf.{FirstOf, none, first, first-of}
 use Rattle.modulator.specs.declared.SampleCount.{SampleCount}
 use Rattle.modulator.specs.declared.EndReport.{EndReport}
 use Rattle.modulator.specs.declared.EndReport.the-variants.{Nothing, After}
-use Rattle.modulator.specs.declared.Provided.{Provided}
-use Rattle.modulator.specs.declared.Provided.the-variants.{Refused, Done}
 use Rattle.modulator.specs.Paper.{refusal, done, transmitEnd, readOutput, idle, getFrame, nothing}
-use Rattle.modulator.specs.Frame.{given, symbolFit}
-use Rattle.modulator.specs.Offender.{judgedBelow}
+use Rattle.modulator.specs.Frame.{given}
 use Rattle.modulator.specs.Control.{Control, bufferOf, endAfter, updatedPending, reported, idled}
-use Rattle.modulator.specs.Outcome.{Outcome, only, told, sends, judgedOutcome, givenOutcome, tooLarge, updateOutcome, actionBy, actionOutcome}
+use Rattle.modulator.specs.Outcome.{Outcome, only, told, sends, judgedOutcome, tooLarge, updateOutcome, actionBy, actionOutcome}
 use Rattle.modulator_laws.proofs.Picked.{picked}
-use Rattle.modulator_laws.proofs.FirstOffender.{FirstOf, none, first, first-of}
 
 module _ (s : Control) (P : Outcome → Type 0) where
-  pub each-given : (symbols : List Float) → (eqb (length symbols) 192 ≡ false → P (only (refusal (bare 6))))
-      → ((number place : ℕ) → allBelow 192 (λ (i : ℕ). symbolFit (getD symbols i nan)) ≡ false → P (only (refusal (placed number place))))
-      → (eqb (length symbols) 192 ≡ true → allBelow 192 (λ (i : ℕ). symbolFit (getD symbols i nan)) ≡ true → P (sends (given symbols) (s .progress .«tx_delay_padding» .0) (s .pending)))
-      → P (givenOutcome symbols s)
-  unfolding givenOutcome
-  each-given symbols miscounted outside taken =
-      picked P (not (eqb (length symbols) 192)) _ _ (λ e. miscounted (not-true _ e)) λ e.
+  abbrev Of : List Float → Verdict → Type 0
+  Of symbols a = P (judgedOutcome a symbols s)
+
+  pub each-given : (traffic : Traffic) (symbols : List Float) → (eqb (length symbols) 192 ≡ false → P (only (refusal (bare 6))))
+      → ((number place : ℕ) → allFit symbols ≡ false → P (only (refusal (placed number place))))
+      → (eqb (length symbols) 192 ≡ true → allFit symbols ≡ true → headed traffic symbols ≡ false → P (only (refusal (bare 11))))
+      → (eqb (length symbols) 192 ≡ true → allFit symbols ≡ true → headed traffic symbols ≡ true → P (sends (given symbols) (s .progress .«tx_delay_padding» .0) (s .pending)))
+      → P (judgedOutcome (judgedAs traffic symbols) symbols s)
+  unfolding judgedAs
+  each-given traffic symbols miscounted outside unheaded taken =
+      picked (Of symbols) (not (eqb (length symbols) 192)) (Refused WrongCount) (earlier (judgedBelow 192 symbols) (headJudged traffic symbols)) (λ e. miscounted (not-true _ e)) λ e.
       by-first (not-false _ e) (judgedBelow 192 symbols) (first-of symbols 192)
     where
-      by-first : eqb (length symbols) 192 ≡ true → (a : Provided) → FirstOf symbols 192 a → P (judgedOutcome a symbols s)
-      by-first counted Done (none all) = taken counted (is-true _ (below-all 192 (λ (i : ℕ). symbolFit (getD symbols i nan)) all))
+      by-first : eqb (length symbols) 192 ≡ true → (a : Verdict) → FirstOf symbols 192 a → Of symbols (earlier a (headJudged traffic symbols))
+      by-first counted Fine (none all) =
+          let fits = is-true _ (below-all 192 (λ (i : ℕ). symbolFit (getD symbols i nan)) all) in
+          picked (Of symbols) (headed traffic symbols) Fine (Refused WrongBurst) (taken counted fits) (unheaded counted fits)
       by-first counted (Refused why) (first _ number place e l o) = rw e (outside number place (all-failed 192 (λ (i : ℕ). symbolFit (getD symbols i nan)) place l (o .outside)))
 
   pub each-update : (p fill capacity latency : ℕ) → (tooLarge fill capacity latency ≡ true → P (only (refusal (bare 8)))) → (tooLarge fill capacity latency ≡ false → capacity < fill → P (only (refusal (bare 9))))

@@ -4,29 +4,28 @@ use mathlib.Core.Bool.{true}
 use mathlib.Core.List.{List, [], _∷_}
 use Prim.Native.Nat.{ℕ}
 use native.Mathlib.Omega.{arith}
-use borrow.Author.Tests.{eqb-false}
-use lib.ListN.{getD, replicate}
-use lib.Ieee.{Float, nan, inf, binary32, ofBits, lt, eq, le, ne}
+use lib.ListN.{replicate}
+use lib.Ieee.{Float, nan, binary32, ofBits, ofInt, lt, eq, le}
 use Rattle.numbers.specs.Below.{allBelow}
 use Rattle.numbers.specs.Firsts.{firsts}
-use Rattle.numbers.proofs.Below.{all-below}
 use Rattle.shaping.specs.Rate.{at48}
-use Rattle.protocol.specs.declared.Refusal.the-variants.{SymbolNotANumber, SymbolInfinite, SymbolAboveOne, SymbolBelowMinusOne}
+use Rattle.protocol.specs.declared.Refusal.the-variants.{WrongCount, SymbolAboveOne, WrongBurst}
+use Rattle.protocol.specs.Bursts.{signsOf}
 use Rattle.protocol.specs.Refusals.{bare, placed}
+use Rattle.given_symbols.specs.declared.Traffic.the-variants.{Ordinary, Bert}
+use Rattle.given_symbols.specs.Offender.{symbolFit, judged, judgedBelow, bertHeaded, headed, judgedAs}
+use Rattle.given_symbols.proofs.Judged.{one, minusOne}
 use Rattle.modulator.specs.declared.ModulatorFrame.{ModulatorFrame}
 use Rattle.modulator.specs.declared.ModulatorFrame.the-variants.{Nothing as NoFrame, Preamble, Symbols as GivenSymbols, EndOfTransmission}
-use Rattle.modulator.specs.declared.Provided.the-variants.{Refused, Done}
 use Rattle.modulator.specs.Paper.{refusal, done}
-use Rattle.modulator.specs.Frame.{preamble, listing, given, ending, symbolFit, paddingOf}
-use Rattle.modulator.specs.Offender.{judged, judgedBelow}
+use Rattle.modulator.specs.Frame.{preamble, listing, given, ending, paddingOf}
 use Rattle.modulator.specs.Control.{dropped, ended}
 use Rattle.modulator.specs.Record.{fresh, withPending, framed}
 use Rattle.modulator.specs.Fit.{recordFit}
 use Rattle.modulator.specs.Calls.{Left, left, settled, provided}
 use Rattle.modulator.proofs.Frames.{framed-listed}
-use Rattle.modulator.proofs.FrameCases.{frame-unfit, frame-none, frame-preamble, frame-ending, frame-count, frame-outside, frame-given}
-use Rattle.modulator.proofs.Judged.{one, judged-not-a-number, judged-infinite, judged-above, judged-below, judged-done}
-use Rattle.modulator_laws.proofs.FirstOffender.{fit-judged, FirstOffender, first-offender}
+use Rattle.modulator.proofs.FrameCases.{frame-unfit, frame-none, frame-preamble, frame-ending, frame-refused, frame-given}
+use Rattle.modulator_laws.proofs.FirstOffender.{FirstOffender, first-offender}
 use Rattle.modulator_laws.proofs.SymbolsAsBefore.{providedBefore, symbols-as-before}
 use Rattle.modulator_laws.proofs.OutcomeLimits.{Byte}
 use Rattle.modulator_laws.proofs.Kept.{frame-keeps}
@@ -39,11 +38,12 @@ frame-unfit-meets = frame-unfit at48 astray NoFrame [] astray-unfit
 frame-none-meets : provided at48 fresh NoFrame [] ≡ left done (withPending (dropped (fresh .pending)) (fresh .buffer) fresh) []
 frame-none-meets = frame-none at48 fresh NoFrame [] fresh-fit refl
 
-frame-preamble-meets : provided at48 fresh (Preamble (record { 0 = 1 })) [] ≡ left done (framed at48 preamble (paddingOf 10 1 (fresh .buffer .«output_latency» .0)) (fresh .pending) fresh) []
-frame-preamble-meets = frame-preamble at48 fresh (Preamble (record { 0 = 1 })) [] fresh-fit (record { 0 = 1 }) refl
+frame-preamble-meets : provided at48 fresh (Preamble Ordinary (record { 0 = 1 })) [] ≡ left done (framed at48 (preamble Ordinary) (paddingOf 10 1 (fresh .buffer .«output_latency» .0)) (fresh .pending) fresh) []
+frame-preamble-meets = frame-preamble at48 fresh (Preamble Ordinary (record { 0 = 1 })) [] fresh-fit Ordinary (record { 0 = 1 }) refl
 
-frame-count-meets : provided at48 fresh GivenSymbols [] ≡ left (refusal (bare 6)) fresh []
-frame-count-meets = frame-count at48 fresh GivenSymbols [] fresh-fit refl λ e. eqb-false 0 192 refl e
+frame-count-meets : provided at48 fresh (GivenSymbols Ordinary) [] ≡ left (refusal (bare 6)) fresh []
+unfolding judgedAs
+frame-count-meets = frame-refused at48 fresh (GivenSymbols Ordinary) [] fresh-fit Ordinary refl WrongCount refl
 
 -- 192 symbols, all the same
 even : Float → List Float
@@ -53,53 +53,40 @@ even x = replicate 192 x
 louder : List Float
 louder = ofBits binary32 0 ∷ ofBits binary32 0x4000_0000 ∷ nan ∷ replicate 189 (ofBits binary32 0)
 
-frame-outside-meets : provided at48 fresh GivenSymbols louder ≡ left (refusal (placed 73 1)) fresh []
-unfolding louder judgedBelow judged ofBits lt
-frame-outside-meets = frame-outside at48 fresh GivenSymbols louder fresh-fit refl refl (SymbolAboveOne 1) refl
+frame-outside-meets : provided at48 fresh (GivenSymbols Ordinary) louder ≡ left (refusal (placed 73 1)) fresh []
+unfolding louder judgedAs headed judgedBelow judged ofBits lt
+frame-outside-meets = frame-refused at48 fresh (GivenSymbols Ordinary) louder fresh-fit Ordinary refl (SymbolAboveOne 1) refl
 
-frame-given-meets : provided at48 fresh GivenSymbols (even one) ≡ left done (framed at48 (given (even one)) (fresh .progress .«tx_delay_padding» .0) (fresh .pending) fresh) []
-unfolding even judgedBelow judged ofBits lt
-frame-given-meets = frame-given at48 fresh GivenSymbols (even one) fresh-fit refl refl refl
+frame-given-meets : provided at48 fresh (GivenSymbols Ordinary) (even one) ≡ left done (framed at48 (given (even one)) (fresh .progress .«tx_delay_padding» .0) (fresh .pending) fresh) []
+unfolding even judgedAs headed judgedBelow judged ofBits lt
+frame-given-meets = frame-given at48 fresh (GivenSymbols Ordinary) (even one) fresh-fit Ordinary refl refl
+
+-- ---- a BERT frame: its burst and zeros; and the same with its first sign turned
+headedBy : Float → List Float
+headedBy first = first ∷ one ∷ minusOne ∷ minusOne ∷ one ∷ one ∷ one ∷ one ∷ replicate 184 (ofBits binary32 0)
+
+bert-given-meets : provided at48 fresh (GivenSymbols Bert) (headedBy minusOne) ≡ left done (framed at48 (given (headedBy minusOne)) (fresh .progress .«tx_delay_padding» .0) (fresh .pending) fresh) []
+unfolding headedBy judgedAs headed bertHeaded allBelow judgedBelow judged signsOf ofBits ofInt lt eq
+bert-given-meets = frame-given at48 fresh (GivenSymbols Bert) (headedBy minusOne) fresh-fit Bert refl refl
+
+bert-unheaded-meets : provided at48 fresh (GivenSymbols Bert) (headedBy one) ≡ left (refusal (bare 11)) fresh []
+unfolding headedBy judgedAs headed bertHeaded allBelow judgedBelow judged signsOf ofBits ofInt lt eq
+bert-unheaded-meets = frame-refused at48 fresh (GivenSymbols Bert) (headedBy one) fresh-fit Bert refl WrongBurst refl
 
 -- ---- the first symbol that is wrong, and what was said of it before
-louder-first : FirstOffender at48 fresh louder 73 1
-louder-first = first-offender at48 fresh louder 73 1 .0 (ap (λ (l : Left). l .answer) frame-outside-meets)
+louder-first : FirstOffender at48 fresh Ordinary louder 73 1
+louder-first = first-offender at48 fresh Ordinary louder 73 1 .0 (ap (λ (l : Left). l .answer) frame-outside-meets)
 
-louder-told : provided at48 fresh GivenSymbols louder .answer ≡ refusal (placed 73 1)
-louder-told = first-offender at48 fresh louder 73 1 .1 louder-first
+louder-told : provided at48 fresh (GivenSymbols Ordinary) louder .answer ≡ refusal (placed 73 1)
+louder-told = first-offender at48 fresh Ordinary louder 73 1 .1 louder-first
 
 louder-before : providedBefore at48 fresh louder .answer ≡ refusal (bare 7)
 louder-before = symbols-as-before at48 fresh louder .refused .0 (73, 1, louder-told)
 
 -- an accepted frame is what it was
-even-before : provided at48 fresh GivenSymbols (even one) ≡ providedBefore at48 fresh (even one)
+even-before : provided at48 fresh (GivenSymbols Ordinary) (even one) ≡ providedBefore at48 fresh (even one)
 unfolding settled even allBelow symbolFit ofBits le
 even-before = symbols-as-before at48 fresh (even one) .otherwise (rw fresh-fit (λ e. let z : _≡_ {A = ℕ} 0 1 = cc in omega arith))
-
--- ---- each judgement, in place 3
-not-a-number-meets : Refused (SymbolNotANumber 3) ≡ judged 3 nan
-unfolding ne eq
-not-a-number-meets = judged-not-a-number 3 nan refl
-
-infinite-meets : Refused (SymbolInfinite 3) ≡ judged 3 (inf true)
-unfolding eq
-infinite-meets = judged-infinite 3 (inf true) refl
-
-above-meets : Refused (SymbolAboveOne 3) ≡ judged 3 (ofBits binary32 0x3f80_0001)
-unfolding ofBits ne eq lt
-above-meets = judged-above 3 (ofBits binary32 0x3f80_0001) refl refl refl
-
-below-meets : Refused (SymbolBelowMinusOne 3) ≡ judged 3 (ofBits binary32 0xbf80_0001)
-unfolding ofBits ne eq lt
-below-meets = judged-below 3 (ofBits binary32 0xbf80_0001) refl refl refl refl
-
-done-meets : Done ≡ judged 3 (ofBits binary32 0x8000_0000)
-unfolding ofBits ne eq lt
-done-meets = judged-done 3 (ofBits binary32 0x8000_0000) refl refl refl refl
-
-fit-judged-meets : judgedBelow 192 (even one) ≡ Done
-unfolding even allBelow symbolFit ofBits le
-fit-judged-meets = fit-judged (even one) 192 (all-below 192 (λ (i : ℕ). symbolFit (getD (even one) i nan)) tt)
 
 frame-ending-meets : provided at48 fresh EndOfTransmission [] ≡ left done (framed at48 ending (fresh .progress .«tx_delay_padding» .0) (ended (fresh .pending)) fresh) []
 frame-ending-meets = frame-ending at48 fresh EndOfTransmission [] fresh-fit refl
@@ -109,11 +96,11 @@ framed-listed-meets : (x : Float) (padding : ℕ)
 framed-listed-meets x padding = framed-listed at48 padding (fresh .pending) fresh (λ (_ : ℕ). x) 5 _ refl
 
 delay : ModulatorFrame
-delay = Preamble (record { 0 = 25 })
+delay = Preamble Bert (record { 0 = 25 })
 
 delay-byte : Byte delay
 unfolding delay
-delay-byte steps e = let same : 25 ≡ steps .0 = cc in omega arith
+delay-byte traffic steps e = let same : 25 ≡ steps .0 = cc in omega arith
 
 frame-keeps-meets : recordFit 10 (provided at48 fresh delay [] .modulator) ≡ true
 frame-keeps-meets = frame-keeps at48 fresh fresh-fit delay [] delay-byte

@@ -5,7 +5,6 @@ pub mod Picked
 pub mod Papers
 pub mod OnlyAnswer
 -- which symbol is wrong, and that no other frame is refused than before
-pub mod SymbolFaults
 pub mod FirstOffender
 pub mod SymbolsAsBefore
 -- what holds in every case of a call

@@ -9,6 +9,7 @@ use borrow.Author.Tests.{le-leb}
 use lib.Dec.{T, lit≤}
 use lib.Ieee.{Float}
 use Rattle.shaping.specs.Rate.{delayStep, paddingLimit, endLimit}
+use Rattle.given_symbols.specs.declared.Traffic.{Traffic}
 use Rattle.modulator.specs.declared.DelaySteps.{DelaySteps}
 use Rattle.modulator.specs.declared.EndReport.{EndReport}
 use Rattle.modulator.specs.declared.EndReport.the-variants.{After}
@@ -27,7 +28,7 @@ use Rattle.modulator_laws.proofs.Sizes.{Small, preamble-small, ending-s
 
 -- a TxDelay is a byte
 abbrev pub Byte : ModulatorFrame → Type 0
-Byte frame = (steps : DelaySteps) → frame ≡ Preamble steps → steps .0 < 256
+Byte frame = (traffic : Traffic) (steps : DelaySteps) → frame ≡ Preamble traffic steps → steps .0 < 256
 
 -- ---- the store takes every frame
 unfoldable pub Few : Outcome → Type 0
@@ -39,8 +40,8 @@ module _ (p : ℕ) (s : Control) where
   pub frame-few : (frame : ModulatorFrame) (symbols : List Float) → Few (frameOutcome p frame symbols s)
   unfolding Few frameOutcome
   frame-few NoFrame symbols = tt
-  frame-few (Preamble steps) symbols = lit≤ tt
-  frame-few GivenSymbols symbols = each-given s Few symbols (λ _. tt) (λ _ _ _. tt) (λ _ _. lit≤ tt)
+  frame-few (Preamble traffic steps) symbols = lit≤ tt
+  frame-few (GivenSymbols traffic) symbols = each-given s Few traffic symbols (λ _. tt) (λ _ _ _. tt) (λ _ _ _. tt) (λ _ _ _. lit≤ tt)
   frame-few EndOfTransmission symbols = lit≤ tt
 
   pub update-few : (fill capacity latency : ℕ) → Few (updateOutcome p fill capacity latency s)
@@ -76,8 +77,8 @@ module _ (p : ℕ) (s : Control) (far : ProgressFacts p (s .progress)) (buffer :
   pub frame-sound : (frame : ModulatorFrame) (symbols : List Float) → Byte frame → Sound p (frameOutcome p frame symbols s)
   unfolding Sound frameOutcome
   frame-sound NoFrame symbols h = (report, buffer)
-  frame-sound (Preamble steps) symbols h = (preamble-small, padding-short p (steps .0) _ (h steps refl), report)
-  frame-sound GivenSymbols symbols h = each-given s (Sound p) symbols (λ _. tt) (λ _ _ _. tt) (λ _ e. (given-small symbols (subst T (sym e) tt), far .padding, report))
+  frame-sound (Preamble traffic steps) symbols h = (preamble-small traffic, padding-short p (steps .0) _ (h traffic steps refl), report)
+  frame-sound (GivenSymbols traffic) symbols h = each-given s (Sound p) traffic symbols (λ _. tt) (λ _ _ _. tt) (λ _ _ _. tt) (λ _ e _. (given-small symbols (subst T (sym e) tt), far .padding, report))
   frame-sound EndOfTransmission symbols h = (ending-small, far .padding, report)
 
   pub update-sound : (fill capacity latency : ℕ) → Sound p (updateOutcome p fill capacity latency s)

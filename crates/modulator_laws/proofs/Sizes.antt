@@ -7,7 +7,7 @@ use native.Mathlib.Omega.{arith}
 use lib.Dec.{T, eqb, leb, ltb, lit≤, lit<, leb→le}
 use lib.IntN.{ℤ, pos, negsuc, natAbs}
 use lib.ListN.{getD, set}
-use lib.Ieee.{Float, nan, binary32, ofBits, ofInt, mul, le}
+use lib.Ieee.{Float, nan, binary32, ofBits, ofInt, neg, mul, le}
 use lib.Ieee.Fits.{and-i, and-l, and-r}
 use lib.Ieee.Positive.{num, den, den-pos}
 use Rattle.numbers.specs.Within.{Within, reach}
@@ -16,10 +16,13 @@ use Rattle.numbers.proofs.Below.{all-below}
 use Rattle.numbers.proofs.Bounds.{within-more, between, within→tests, mul-within, whole-within}
 use Rattle.protocol.specs.declared.SyncBurst.the-variants.{EndOfTransmission as EndBurst}
 use Rattle.protocol.specs.Bursts.{signsOf}
-use Rattle.encode.specs.Frames.{preambleSign, endSign}
+use Rattle.encode.specs.Frames.{preambleSign, bertPreambleSymbol, endSign}
 use Rattle.pulse.specs.Pulse.{pulses, Line, after}
 use Rattle.pulse.proofs.Pulses.{symbol-inside}
-use Rattle.modulator.specs.Frame.{Symbols, preamble, given, ending, symbolFit}
+use Rattle.given_symbols.specs.declared.Traffic.{Traffic}
+use Rattle.given_symbols.specs.declared.Traffic.the-variants.{Ordinary, Bert}
+use Rattle.given_symbols.specs.Offender.{symbolFit, allFit}
+use Rattle.modulator.specs.Frame.{Symbols, preambleSymbol, preamble, given, ending}
 use Rattle.modulator.specs.Fit.{pulseFit}
 use Rattle.modulator_laws.proofs.Picked.{picked}
 
@@ -95,9 +98,10 @@ sign-size j l = leb→le _ 1 (all-below 8 (λ (k : ℕ). leb (natAbs (getD (sign
 whole-small : (z : ℤ) → natAbs z ≤ 1 → Within (ofInt binary32 z) 1
 whole-small z h = within-more (ofInt binary32 z) (natAbs z) 1 h (whole-within binary32 z (omega arith))
 
-pub preamble-small : Small preamble
-unfolding preambleSign
-preamble-small i l = whole-small (preambleSign i) (picked (λ (z : ℤ). natAbs z ≤ 1) (eqb (i % 2) 0) (pos 1) (negsuc 0) (λ _. lit≤ tt) (λ _. lit≤ tt))
+pub preamble-small : (traffic : Traffic) → Small (preamble traffic)
+unfolding preambleSymbol preambleSign bertPreambleSymbol ofInt neg
+preamble-small Ordinary i l = whole-small (preambleSign i) (picked (λ (z : ℤ). natAbs z ≤ 1) (eqb (i % 2) 0) (pos 1) (negsuc 0) (λ _. lit≤ tt) (λ _. lit≤ tt))
+preamble-small Bert i l = picked (λ (z : ℤ). Within (neg (ofInt binary32 z)) 1) (eqb (i % 2) 0) (pos 1) (negsuc 0) (λ _. (tt, lit≤ tt)) (λ _. (tt, lit≤ tt))
 
 pub ending-small : Small ending
 unfolding endSign ofBits
@@ -106,5 +110,5 @@ ending-small i l =
     (λ _. whole-small (endSign i) (sign-size (i % 8) (mod-lt i (lit< tt))))
     (λ _. (tt, lit≤ tt))
 
-pub given-small : (symbols : List Float) → T (allBelow 192 (λ (i : ℕ). symbolFit (getD symbols i nan))) → Small (given symbols)
+pub given-small : (symbols : List Float) → T (allFit symbols) → Small (given symbols)
 given-small symbols t i l = symbol-size (getD symbols i nan) (all-below 192 (λ (j : ℕ). symbolFit (getD symbols j nan)) t i l)

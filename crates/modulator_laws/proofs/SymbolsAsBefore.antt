@@ -8,27 +8,25 @@ use native.Mathlib.Omega.{arith}
 use lib.Dec.{T, eqb}
 use lib.ListN.{length, getD}
 use lib.Ieee.{Float, nan}
-use Rattle.numbers.specs.Below.{allBelow}
 use Rattle.numbers.proofs.Below.{all-below, below-all}
 use Rattle.numbers.proofs.Tests.{holds}
 use Rattle.shaping.specs.Rate.{Rate}
+use Rattle.protocol.specs.declared.Refusal.the-variants.{WrongCount}
 use Rattle.protocol.specs.Refusals.{bare, placed}
+use Rattle.given_symbols.specs.declared.Traffic.the-variants.{Ordinary}
+use Rattle.given_symbols.specs.declared.Verdict.{Verdict}
+use Rattle.given_symbols.specs.declared.Verdict.the-variants.{Refused, Fine}
+use Rattle.given_symbols.specs.Offender.{symbolFit, allFit, earlier, judgedBelow, headed, judgedAs}
+use Rattle.given_symbols.proofs.FirstOf.{FirstOf, none, first, first-of}
 use Rattle.modulator.specs.declared.SoftModulator.{SoftModulator}
 use Rattle.modulator.specs.declared.ModulatorFrame.the-variants.{Symbols as GivenSymbols}
-use Rattle.modulator.specs.declared.Provided.{Provided}
-use Rattle.modulator.specs.declared.Provided.the-variants.{Refused, Done}
 use Rattle.modulator.specs.Paper.{refusal}
-use Rattle.modulator.specs.Frame.{given, symbolFit}
-use Rattle.modulator.specs.Offender.{judgedBelow}
+use Rattle.modulator.specs.Frame.{given}
 use Rattle.modulator.specs.Control.{Control}
 use Rattle.modulator.specs.Record.{controlOf}
 use Rattle.modulator.specs.Fit.{recordFit}
-use Rattle.modulator.specs.Outcome.{Outcome, only, sends, judgedOutcome, givenOutcome, frameOutcome}
+use Rattle.modulator.specs.Outcome.{Outcome, only, sends, judgedOutcome, frameOutcome}
 use Rattle.modulator.specs.Calls.{Left, left, unlessUnfit, settled, provided}
-use Rattle.modulator_laws.proofs.FirstOffender.{FirstOf, none, first, first-of}
-
-abbrev allFit : List Float → Bool
-allFit symbols = allBelow 192 (λ (i : ℕ). symbolFit (getD symbols i nan))
 
 -- what came of a frame of symbols before: 6 "symbols not exactly 192"; 7 "a symbol not a number or outside -1 to 1"
 abbrev outcomeBefore : Bool → Bool → List Float → Control → Outcome
@@ -52,14 +50,14 @@ unchanged l no-place no-seven = record {
 }
 
 module _ (R : Rate) (m : SoftModulator) (symbols : List Float) where
-  by-tests : (fit counted : Bool) (a : Provided) (within : Bool) → FirstOf symbols 192 a → allFit symbols ≡ within
-      → AsBefore (cond (not fit) (left (refusal (bare 1)) m []) (settled R m (cond (not counted) (only (refusal (bare 6))) (judgedOutcome a symbols (controlOf m)))))
+  by-tests : (fit counted : Bool) (a : Verdict) (within : Bool) → FirstOf symbols 192 a → allFit symbols ≡ within
+      → AsBefore (cond (not fit) (left (refusal (bare 1)) m []) (settled R m (judgedOutcome (cond (not counted) (Refused WrongCount) (earlier a Fine)) symbols (controlOf m))))
       (cond (not fit) (left (refusal (bare 1)) m []) (settled R m (outcomeBefore counted within symbols (controlOf m))))
   unfolding settled
   by-tests false counted a within o e = unchanged _ (λ n i r. let z : _≡_ {A = ℕ} 0 1 = cc in omega arith) (λ r. let z : _≡_ {A = ℕ} 0 1 = cc in omega arith)
   by-tests true false a within o e = unchanged _ (λ n i r. let z : _≡_ {A = ℕ} 0 1 = cc in omega arith) (λ r. let z : _≡_ {A = ℕ} 0 1 = cc in omega arith)
-  by-tests true true Done true o e = unchanged _ (λ n i r. let z : _≡_ {A = ℕ} 0 1 = cc in omega arith) (λ r. let z : _≡_ {A = ℕ} 0 1 = cc in omega arith)
-  by-tests true true Done false (none all) e = absurd (subst T e (below-all 192 (λ (i : ℕ). symbolFit (getD symbols i nan)) all))
+  by-tests true true Fine true o e = unchanged _ (λ n i r. let z : _≡_ {A = ℕ} 0 1 = cc in omega arith) (λ r. let z : _≡_ {A = ℕ} 0 1 = cc in omega arith)
+  by-tests true true Fine false (none all) e = absurd (subst T e (below-all 192 (λ (i : ℕ). symbolFit (getD symbols i nan)) all))
   by-tests true true (Refused why) true (first _ n i told l o) e = absurd (subst T (o .outside) (all-below 192 (λ (i : ℕ). symbolFit (getD symbols i nan)) (holds e) i l))
   by-tests true true (Refused why) false (first _ n i told l o) e = record {
     refused = (λ _. refl, λ _. (n, i, rw told));
@@ -67,6 +65,6 @@ module _ (R : Rate) (m : SoftModulator) (symbols : List Float) where
     otherwise = λ never. absurd (never refl);
   }
 
-  pub symbols-as-before : AsBefore (provided R m GivenSymbols symbols) (providedBefore R m symbols)
-  unfolding provided frameOutcome givenOutcome
+  pub symbols-as-before : AsBefore (provided R m (GivenSymbols Ordinary) symbols) (providedBefore R m symbols)
+  unfolding provided frameOutcome judgedAs headed
   symbols-as-before = by-tests (recordFit (R .p) m) (eqb (length symbols) 192) (judgedBelow 192 symbols) (allFit symbols) (first-of symbols 192) refl

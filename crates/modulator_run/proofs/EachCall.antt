@@ -10,6 +10,7 @@ use lib.ListN.{length}
 use lib.Ieee.{Float}
 use Rattle.shaping.specs.Rate.{Rate}
 use Rattle.protocol.specs.Refusals.{PaperRefusal, bare, placed}
+use Rattle.given_symbols.specs.declared.Traffic.{Traffic}
 use Rattle.modulator.specs.declared.DelaySteps.{DelaySteps}
 use Rattle.modulator.specs.declared.EndReport.the-variants.{Nothing as NoReport, After as Reported}
 use Rattle.modulator.specs.declared.SampleCount.{SampleCount}
@@ -25,8 +26,9 @@ use Rattle.modulator_run.specs.Kinds.{stores, replaces}
 
 -- a call that is refused, by a number other than 1
 pub data Refusing : Call → PaperRefusal → Type 0 where
-  miscounted : {symbols : List Float} → replaces (provide GivenSymbols symbols) ≡ false → Refusing (provide GivenSymbols symbols) (bare 6)
-  outside : {symbols : List Float} {number place : ℕ} → replaces (provide GivenSymbols symbols) ≡ false → Refusing (provide GivenSymbols symbols) (placed number place)
+  miscounted : {traffic : Traffic} {symbols : List Float} → replaces (provide (GivenSymbols traffic) symbols) ≡ false → Refusing (provide (GivenSymbols traffic) symbols) (bare 6)
+  outside : {traffic : Traffic} {symbols : List Float} {number place : ℕ} → replaces (provide (GivenSymbols traffic) symbols) ≡ false → Refusing (provide (GivenSymbols traffic) symbols) (placed number place)
+  unheaded : {traffic : Traffic} {symbols : List Float} → replaces (provide (GivenSymbols traffic) symbols) ≡ false → Refusing (provide (GivenSymbols traffic) symbols) (bare 11)
   large : {fill capacity latency : ℕ} → stores (update fill capacity latency) ≡ false → Refusing (update fill capacity latency) (bare 8)
   below : {fill capacity latency : ℕ} → stores (update fill capacity latency) ≡ false → Refusing (update fill capacity latency) (bare 9)
 
@@ -39,10 +41,10 @@ module _ (R : Rate) (s : Sent) (P : Call → After → Type 0) where
   pub record Cases : Type 0 where
     pub refused : (c : Call) (number : PaperRefusal) → Refusing c number → P c (after (refusal number) [] s)
     pub no-frame : (symbols : List Float) → P (provide NoFrame symbols) (after done [] (withPending (dropped (s .pending)) (s .buffer) s))
-    pub delayed : (steps : DelaySteps) (symbols : List Float)
-        → P (provide (Preamble steps) symbols) (after done [] (framed R preamble (paddingOf (R .p) (steps .0) (s .buffer .«output_latency» .0)) (s .pending) s))
-    pub symbols-given : (symbols : List Float) → replaces (provide GivenSymbols symbols) ≡ true
-        → P (provide GivenSymbols symbols) (after done [] (framed R (given symbols) (s .progress .«tx_delay_padding» .0) (s .pending) s))
+    pub delayed : (traffic : Traffic) (steps : DelaySteps) (symbols : List Float)
+        → P (provide (Preamble traffic steps) symbols) (after done [] (framed R (preamble traffic) (paddingOf (R .p) (steps .0) (s .buffer .«output_latency» .0)) (s .pending) s))
+    pub symbols-given : (traffic : Traffic) (symbols : List Float) → replaces (provide (GivenSymbols traffic) symbols) ≡ true
+        → P (provide (GivenSymbols traffic) symbols) (after done [] (framed R (given symbols) (s .progress .«tx_delay_padding» .0) (s .pending) s))
     pub last-frame : (symbols : List Float) → P (provide EndOfTransmission symbols) (after done [] (framed R ending (s .progress .«tx_delay_padding» .0) (ended (s .pending)) s))
     pub reads : (room : List ℤ) → P (read room) (drained R room s)
     pub stored : (fill capacity latency : ℕ) → stores (update fill capacity latency) ≡ true
@@ -59,12 +61,13 @@ module _ (R : Rate) (s : Sent) (P : Call → After → Type 0) where
     each-provided : (frame : ModulatorFrame) (symbols : List Float) → P (provide frame symbols) (settled R s (frameOutcome (R .p) frame symbols (controlIn s)))
     unfolding settled frameOutcome replaces
     each-provided NoFrame symbols = k .no-frame symbols
-    each-provided (Preamble steps) symbols = k .delayed steps symbols
-    each-provided GivenSymbols symbols =
-        each-given (controlIn s) (λ (o : Outcome). P (provide GivenSymbols symbols) (settled R s o)) symbols
+    each-provided (Preamble traffic steps) symbols = k .delayed traffic steps symbols
+    each-provided (GivenSymbols traffic) symbols =
+        each-given (controlIn s) (λ (o : Outcome). P (provide (GivenSymbols traffic) symbols) (settled R s o)) traffic symbols
         (λ e. k .refused _ (bare 6) (miscounted (rw e)))
         (λ number place e. k .refused _ (placed number place) (outside (rw e (none-too (eqb (length symbols) 192)))))
-        (λ n e. k .symbols-given symbols (rw (n, e)))
+        (λ n e h. k .refused _ (bare 11) (unheaded (rw (n, e, h))))
+        (λ n e h. k .symbols-given traffic symbols (rw (n, e, h)))
     each-provided EndOfTransmission symbols = k .last-frame symbols
 
     each-updated : (fill capacity latency : ℕ) → P (update fill capacity latency) (settled R s (updateOutcome (R .p) fill capacity latency (controlIn s)))

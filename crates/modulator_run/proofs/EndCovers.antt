@@ -29,8 +29,8 @@ use Rattle.modulator_run.proofs.EndOnce.{told-number}
 given-unframed : (c : Call) → T (not (replaces c)) → Given c
 unfolding replaces Given Delay
 given-unframed (provide NoFrame symbols) t = tt
-given-unframed (provide (Preamble steps) symbols) t = absurd t
-given-unframed (provide GivenSymbols symbols) t = tt
+given-unframed (provide (Preamble traffic steps) symbols) t = absurd t
+given-unframed (provide (GivenSymbols traffic) symbols) t = tt
 given-unframed (provide EndOfTransmission symbols) t = tt
 given-unframed (read room) t = tt
 given-unframed (update fill capacity latency) t = tt

@@ -70,8 +70,8 @@ module _ (R : Rate) where
       each-call R s (Untouched s) (record {
         refused = λ _ _ _. (λ _. refl, λ e. e);
         no-frame = λ _. (λ _. refl, λ e. e);
-        delayed = λ _ _. (λ _. refl, λ e. e);
-        symbols-given = λ _ _. (λ _. refl, λ e. e);
+        delayed = λ _ _ _. (λ _. refl, λ e. e);
+        symbols-given = λ _ _ _. (λ _. refl, λ e. e);
         last-frame = λ _. (λ _. refl, λ e. e);
         reads = λ _. (λ _. refl, λ e. e);
         stored = λ _ _ _ _. (λ _. refl, λ e. e);

@@ -11,7 +11,7 @@ use Rattle.protocol.specs.Refusals.{PaperRefusal, bare, placed}
 use Rattle.modulator.specs.Paper.{Paper, refusal, done, wrote, transmitEnd, readOutput, idle, getFrame, nothing}
 use Rattle.modulator_run.specs.Rules.{Call, Sent, Said, After, start, drained, called, rules}
 use Rattle.modulator_run.specs.Run.{answersTo, Given}
-use Rattle.modulator_run.proofs.EachCall.{Refusing, miscounted, outside, large, below, each-call}
+use Rattle.modulator_run.proofs.EachCall.{Refusing, miscounted, outside, unheaded, large, below, each-call}
 use Rattle.modulator_run.proofs.SenderRun.{sender-run}
 
 -- 1: "record unfit"
@@ -29,6 +29,7 @@ unfit nothing = false
 other-number : (c : Call) (number : PaperRefusal) → Refusing c number → T (not (unfit (refusal number)))
 other-number c number (miscounted e) = tt
 other-number c number (outside e) = tt
+other-number c number (unheaded e) = tt
 other-number c number (large e) = tt
 other-number c number (below e) = tt
 
@@ -39,8 +40,8 @@ module _ (R : Rate) where
       each-call R s (λ (_ : Call) (a : After). T (not (unfit (a .said .answer)))) (record {
         refused = other-number;
         no-frame = λ _. tt;
-        delayed = λ _ _. tt;
-        symbols-given = λ _ _. tt;
+        delayed = λ _ _ _. tt;
+        symbols-given = λ _ _ _. tt;
         last-frame = λ _. tt;
         reads = λ _. tt;
         stored = λ _ _ _ _. tt;

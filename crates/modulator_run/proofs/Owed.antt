@@ -9,7 +9,7 @@ use Rattle.protocol.specs.Refusals.{PaperRefusal}
 use Rattle.modulator_run.specs.Rules.{Call, Sent, After, start, framed, drained, called, rules, sentAll}
 use Rattle.modulator_run.specs.Kinds.{stores, ends}
 use Rattle.modulator_run.specs.Reports.{Owed}
-use Rattle.modulator_run.proofs.EachCall.{Refusing, miscounted, outside, large, below, each-call}
+use Rattle.modulator_run.proofs.EachCall.{Refusing, miscounted, outside, unheaded, large, below, each-call}
 use Rattle.modulator_run.proofs.Lasting.{lasted, lasting-exactly}
 
 abbrev pub owed : Sent → Bool
@@ -19,6 +19,7 @@ refused-owed : (c : Call) (number : PaperRefusal) (o : Bool) → Refusing c numb
 unfolding ends stores
 refused-owed c number o (miscounted e) = refl
 refused-owed c number o (outside e) = refl
+refused-owed c number o (unheaded e) = refl
 refused-owed c number o (large e) = rw e
 refused-owed c number o (below e) = rw e
 
@@ -29,8 +30,8 @@ module _ (R : Rate) where
       each-call R s (λ (c : Call) (a : After). owed (a .sent) ≡ lasted ends stores c (owed s)) (record {
         refused = λ c number e. refused-owed c number (owed s) e;
         no-frame = λ _. refl;
-        delayed = λ _ _. refl;
-        symbols-given = λ _ _. refl;
+        delayed = λ _ _ _. refl;
+        symbols-given = λ _ _ _. refl;
         last-frame = λ _. refl;
         reads = λ _. refl;
         stored = λ _ _ _ e. rw e;

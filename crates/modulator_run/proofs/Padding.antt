@@ -14,6 +14,7 @@ use Rattle.machine.proofs.Parts.{run-joined}
 use Rattle.shaping.specs.Rate.{Rate}
 use Rattle.shaping.proofs.RateFacts.{Facts}
 use Rattle.protocol.specs.Refusals.{PaperRefusal}
+use Rattle.given_symbols.specs.declared.Traffic.{Traffic}
 use Rattle.modulator.specs.declared.DelaySteps.{DelaySteps}
 use Rattle.modulator.specs.declared.ModulatorFrame.the-variants.{Nothing as NoFrame, Preamble, Symbols as GivenSymbols, EndOfTransmission}
 use Rattle.modulator.specs.declared.Progress.{Progress}
@@ -23,7 +24,7 @@ use Rattle.modulator_run.specs.Rules.{Call, provide, read, update, ask, 
 use Rattle.modulator_run.specs.Run.{recordAfter, Given}
 use Rattle.modulator_run.specs.Kinds.{stores, delays, none}
 use Rattle.modulator_run.specs.Padding.{latencyOf, lastLatency, placesOf, placesRead, PaddingLeft, unset, set}
-use Rattle.modulator_run.proofs.EachCall.{Refusing, miscounted, outside, large, below, each-call}
+use Rattle.modulator_run.proofs.EachCall.{Refusing, miscounted, outside, unheaded, large, below, each-call}
 use Rattle.modulator_run.proofs.LastCall.{by-last, none-more}
 use Rattle.modulator_run.proofs.SenderRun.{sender-run}
 
@@ -38,6 +39,7 @@ refused-latency : (c : Call) (number : PaperRefusal) (l : ℕ) → Refusing c nu
 unfolding stores
 refused-latency c number l (miscounted e) = refl
 refused-latency c number l (outside e) = refl
+refused-latency c number l (unheaded e) = refl
 refused-latency c number l (large e) = rw e
 refused-latency c number l (below e) = rw e
 
@@ -58,6 +60,7 @@ pub no-places : (c : Call) (number : PaperRefusal) → Refusing c number → pla
 unfolding placesOf
 no-places c number (miscounted e) = refl
 no-places c number (outside e) = refl
+no-places c number (unheaded e) = refl
 no-places c number (large e) = refl
 no-places c number (below e) = refl
 
@@ -68,8 +71,8 @@ module _ (R : Rate) where
       each-call R s (λ (c : Call) (a : After). latency (a .sent) ≡ cond (stores c) (latencyOf c) (latency s)) (record {
         refused = λ c number e. refused-latency c number (latency s) e;
         no-frame = λ _. refl;
-        delayed = λ _ _. refl;
-        symbols-given = λ _ _. refl;
+        delayed = λ _ _ _. refl;
+        symbols-given = λ _ _ _. refl;
         last-frame = λ _. refl;
         reads = λ _. refl;
         stored = λ _ _ _ e. rw e;
@@ -91,9 +94,9 @@ module _ (R : Rate) where
   latency-all cs = latency-from cs start ∙ none-stored cs
 
   -- ---- the padding, by one call
-  padding-set : (s : Sent) (steps : DelaySteps) (symbols : List Float) → padding (called R s (provide (Preamble steps) symbols) .sent) ≡ paddingOf (R .p) (steps .0) (latency s)
+  padding-set : (s : Sent) (traffic : Traffic) (steps : DelaySteps) (symbols : List Float) → padding (called R s (provide (Preamble traffic steps) symbols) .sent) ≡ paddingOf (R .p) (steps .0) (latency s)
   unfolding called frameOutcome settled framed
-  padding-set s steps symbols = refl
+  padding-set s traffic steps symbols = refl
 
   pub padding-read : (s : Sent) (c : Call) → T (not (delays c)) → padding (called R s c .sent) ≡ padding s - placesOf c
   unfolding delays placesOf framed drained
@@ -101,8 +104,8 @@ module _ (R : Rate) where
       each-call R s (λ (c : Call) (a : After). T (not (delays c)) → padding (a .sent) ≡ padding s - placesOf c) (record {
         refused = λ c number e _. omega (arith, no-places c number e);
         no-frame = λ _ _. omega arith;
-        delayed = λ _ _ t. absurd t;
-        symbols-given = λ _ _ _. omega arith;
+        delayed = λ _ _ _ t. absurd t;
+        symbols-given = λ _ _ _ _. omega arith;
         last-frame = λ _ _. omega arith;
         reads = λ _ _. omega arith;
         stored = λ _ _ _ _ _. omega arith;
@@ -124,13 +127,13 @@ module _ (R : Rate) where
   left-after : (cs : List Call) (n : ℕ) → PaddingLeft (R .p) cs n → padding (sentAll R cs) ≡ n
   unfolding run
   left-after cs n (unset t) = padding-since cs start t ∙ omega arith
-  left-after cs n (set before steps symbols since parts t) =
+  left-after cs n (set before traffic steps symbols since parts t) =
       let there : Sent = sentAll R before in
-      let delay : Call = provide (Preamble steps) symbols in
+      let delay : Call = provide (Preamble traffic steps) symbols in
       ap (λ (ds : List Call). padding (sentAll R ds)) parts
       ∙ ap padding (run-joined (rules R) before (delay ∷ since) start)
       ∙ padding-since since (called R there delay .sent) t
-      ∙ rw (padding-set there steps symbols, latency-all before)
+      ∙ rw (padding-set there traffic steps symbols, latency-all before)
 
 -- ---- each list of calls leaves some padding
 Some : ℕ → List Call → Type 0
@@ -140,15 +143,15 @@ module _ (p : ℕ) where
   some-more : (cs : List Call) (c : Call) → delays c ≡ false → Some p cs → Some p (cs ++ c ∷ [])
   unfolding Some
   some-more cs c e (n, unset t) = (0, unset (none-more delays cs c t e))
-  some-more cs c e (n, set before steps symbols since parts t) =
-      let longer = ap (λ (ds : List Call). ds ++ c ∷ []) parts ∙ append-assoc before (provide (Preamble steps) symbols ∷ since) (c ∷ []) in
-      (_, set before steps symbols (since ++ c ∷ []) longer (none-more delays since c t e))
+  some-more cs c e (n, set before traffic steps symbols since parts t) =
+      let longer = ap (λ (ds : List Call). ds ++ c ∷ []) parts ∙ append-assoc before (provide (Preamble traffic steps) symbols ∷ since) (c ∷ []) in
+      (_, set before traffic steps symbols (since ++ c ∷ []) longer (none-more delays since c t e))
 
   some-last : (cs : List Call) (c : Call) → Some p cs → Some p (cs ++ c ∷ [])
   unfolding Some delays none
   some-last cs (provide NoFrame symbols) l = some-more cs _ refl l
-  some-last cs (provide (Preamble steps) symbols) l = (_, set cs steps symbols [] refl tt)
-  some-last cs (provide GivenSymbols symbols) l = some-more cs _ refl l
+  some-last cs (provide (Preamble traffic steps) symbols) l = (_, set cs traffic steps symbols [] refl tt)
+  some-last cs (provide (GivenSymbols traffic) symbols) l = some-more cs _ refl l
   some-last cs (provide EndOfTransmission symbols) l = some-more cs _ refl l
   some-last cs (read room) l = some-more cs _ refl l
   some-last cs (update fill capacity latency) l = some-more cs _ refl l

@@ -24,7 +24,7 @@ use Rattle.modulator_laws.proofs.EachCase.{each-given, each-update, each-action
 use Rattle.modulator_run.specs.Rules.{Call, provide, read, update, ask, Sent, After, settled, drained, called, rules}
 use Rattle.modulator_run.specs.Run.{left, saidBy, sender}
 use Rattle.modulator_run.specs.Kinds.{stores}
-use Rattle.modulator_run.proofs.EachCall.{Refusing, miscounted, outside, large, below, each-call}
+use Rattle.modulator_run.proofs.EachCall.{Refusing, miscounted, outside, unheaded, large, below, each-call}
 
 -- the room that is lent with a call
 abbrev pub lent : Call → List ℤ
@@ -50,6 +50,7 @@ refused-by a number e = rw e tt
 no-room-lent : (c : Call) (number : PaperRefusal) → Refusing c number → [] ≡ lent c
 no-room-lent c number (miscounted e) = refl
 no-room-lent c number (outside e) = refl
+no-room-lent c number (unheaded e) = refl
 no-room-lent c number (large e) = refl
 no-room-lent c number (below e) = refl
 
@@ -63,8 +64,8 @@ module _ (R : Rate) (s : Sent) where
       each-call R s Kept (record {
         refused = λ c number e _. (refl, no-room-lent c number e);
         no-frame = λ _ t. absurd t;
-        delayed = λ _ _ t. absurd t;
-        symbols-given = λ _ _ t. absurd t;
+        delayed = λ _ _ _ t. absurd t;
+        symbols-given = λ _ _ _ t. absurd t;
         last-frame = λ _ t. absurd t;
         reads = λ _ t. absurd t;
         stored = λ _ _ _ _ t. absurd t;
@@ -108,8 +109,8 @@ module _ (R : Rate) (m : SoftModulator) where
   kept-frame : (frame : ModulatorFrame) (symbols : List Float) → KeptBy (frameOutcome (R .p) frame symbols (controlOf m))
   unfolding settledRecord frameOutcome
   kept-frame NoFrame symbols t = absurd t
-  kept-frame (Preamble steps) symbols t = absurd t
-  kept-frame GivenSymbols symbols t = each-given (controlOf m) KeptBy symbols (λ _ _. (refl, refl)) (λ _ _ _ _. (refl, refl)) (λ _ _ u. absurd u) t
+  kept-frame (Preamble traffic steps) symbols t = absurd t
+  kept-frame (GivenSymbols traffic) symbols t = each-given (controlOf m) KeptBy traffic symbols (λ _ _. (refl, refl)) (λ _ _ _ _. (refl, refl)) (λ _ _ _ _. (refl, refl)) (λ _ _ _ u. absurd u) t
   kept-frame EndOfTransmission symbols t = absurd t
 
   kept-update : (fill capacity latency : ℕ) → KeptBy (updateOutcome (R .p) fill capacity latency (controlOf m))

@@ -11,6 +11,7 @@ use Rattle.numbers.specs.Below.{allBelow}
 use Rattle.machine.specs.Runs.{Each}
 use Rattle.shaping.specs.Rate.{at48}
 use Rattle.shaping.proofs.RateFacts.{facts48}
+use Rattle.given_symbols.specs.declared.Traffic.the-variants.{Ordinary}
 use Rattle.modulator.specs.declared.EndReport.the-variants.{Nothing as NoReport}
 use Rattle.modulator.specs.declared.SoftModulator.{SoftModulator}
 use Rattle.modulator.specs.declared.ModulatorFrame.the-variants.{Preamble, EndOfTransmission}
@@ -108,15 +109,15 @@ brought-in-part = covered .never-more (read (pos 0 ∷ []) ∷ []) tt
 
 -- ---- a preamble with a TxDelay of one step, 30 samples read, and an end: 450 of the padding are left
 abbrev delayed : List Call
-delayed = provide (Preamble (record { 0 = 1 })) [] ∷ read (replicate 30 (pos 0)) ∷ end ∷ []
+delayed = provide (Preamble Ordinary (record { 0 = 1 })) [] ∷ read (replicate 30 (pos 0)) ∷ end ∷ []
 
 padding-left : PaddingLeft 10 delayed 450
 unfolding none delays lastLatency placesRead placesOf
-padding-left = set [] (record { 0 = 1 }) [] (read (replicate 30 (pos 0)) ∷ end ∷ []) refl tt
+padding-left = set [] Ordinary (record { 0 = 1 }) [] (read (replicate 30 (pos 0)) ∷ end ∷ []) refl tt
 
 unread-behind : UnreadLeft 10 delayed 2720
 unfolding replaces none symbolsOf placesRead
-unread-behind = sent (record { before = provide (Preamble (record { 0 = 1 })) [] ∷ read (replicate 30 (pos 0)) ∷ []; call = end; since = []; parts = refl; started = tt; unstopped = tt }) 450 padding-left
+unread-behind = sent (record { before = provide (Preamble Ordinary (record { 0 = 1 })) [] ∷ read (replicate 30 (pos 0)) ∷ []; call = end; since = []; parts = refl; started = tt; unstopped = tt }) 450 padding-left
 
 delayed-given : Each Given delayed
 unfolding Each Given Delay
@@ -128,7 +129,7 @@ unread-of-record = unread-by-record at48 facts48 delayed delayed-given 2720 .1 u
 delayed-told : called at48 (sentAll at48 (delayed ++ update 100 3000 50 ∷ [])) ask .said .answer ≡ transmitEnd 3320
 unfolding stores none
 delayed-told =
-    told-next at48 delayed (owed-again (provide (Preamble (record { 0 = 1 })) [] ∷ read (replicate 30 (pos 0)) ∷ [])) 100 3000 50 tt [] tt reporting-none 3320
+    told-next at48 delayed (owed-again (provide (Preamble Ordinary (record { 0 = 1 })) [] ∷ read (replicate 30 (pos 0)) ∷ [])) 100 3000 50 tt [] tt reporting-none 3320
     (record { padding = 450; unread = 2720; padding-left = padding-left; unread-left = unread-behind; samples = refl })
 
 -- ---- an end that is read out, and an update: the number is the old one

@@ -21,10 +21,12 @@ use Rattle.shaping.specs.Phase.{fullSymbol, phasesFit}
 use Rattle.shaping.proofs.RateFacts.{facts48}
 use Rattle.pulse.specs.Pulse.{pulses}
 use Rattle.protocol.specs.Refusals.{bare}
+use Rattle.given_symbols.specs.declared.Traffic.the-variants.{Ordinary}
+use Rattle.given_symbols.specs.Offender.{symbolFit}
 use Rattle.modulator.specs.declared.Progress.{Progress}
 use Rattle.modulator.specs.declared.ModulatorFrame.the-variants.{Nothing as NoFrame, Preamble, Symbols as GivenSymbols, EndOfTransmission}
 use Rattle.modulator.specs.Paper.{refusal, done, wrote}
-use Rattle.modulator.specs.Frame.{preamble, symbolFit}
+use Rattle.modulator.specs.Frame.{preamble}
 use Rattle.modulator.specs.Record.{fresh, framed}
 use Rattle.modulator.specs.Fit.{recordFit}
 use Rattle.modulator.specs.Outcome.{frameOutcome}
@@ -88,8 +90,8 @@ even-within : natAbs (sentAt even three 21) ≤ 20000
 even-within = stream-within even 20000 (lit< tt) even-finite refl even-phases (lit≤ tt) three three-fit 21
 
 -- ---- one frame, and one call, from a fresh start
-fresh-framed : Remembers at48 (framed at48 preamble 0 (fresh .pending) fresh) (firsts (preamble .symbol) 192) 0
-fresh-framed = next-frame at48 facts48 fresh [] 0 (fresh-remembers at48 facts48) preamble 0 (fresh .pending) (lit≤ tt)
+fresh-framed : Remembers at48 (framed at48 (preamble Ordinary) 0 (fresh .pending) fresh) (firsts (preamble Ordinary .symbol) 192) 0
+fresh-framed = next-frame at48 facts48 fresh [] 0 (fresh-remembers at48 facts48) (preamble Ordinary) 0 (fresh .pending) (lit≤ tt)
 
 fresh-represents : Represents at48 fresh start
 unfolding fresh
@@ -104,7 +106,7 @@ fresh-kept = stays-fit at48 fresh fresh-fit (update 100 3000 50) (unfold Given i
 -- ---- calls of each kind, refused ones among them
 abbrev mixed : List Call
 mixed =
-    ask ∷ provide (Preamble (record { 0 = 255 })) [] ∷ read (replicate 3 (pos 7)) ∷ provide GivenSymbols [] ∷ update 9 5 0 ∷ provide EndOfTransmission [] ∷ update 100 3000 50 ∷ provide NoFrame [] ∷ []
+    ask ∷ provide (Preamble Ordinary (record { 0 = 255 })) [] ∷ read (replicate 3 (pos 7)) ∷ provide (GivenSymbols Ordinary) [] ∷ update 9 5 0 ∷ provide EndOfTransmission [] ∷ update 100 3000 50 ∷ provide NoFrame [] ∷ []
 
 mixed-given : Each Given mixed
 unfolding Each Given Delay

@@ -30,10 +30,10 @@ use Rattle.modulator_run.proofs.Step.{call-agrees}
 
 byte : (frame : ModulatorFrame) → Delay frame → Byte frame
 unfolding Delay
-byte NoFrame d steps e = let z : _≡_ {A = ℕ} 0 1 = cc in omega arith
-byte (Preamble given) d steps e = let same : given .0 ≡ steps .0 = cc in omega arith
-byte GivenSymbols d steps e = let z : _≡_ {A = ℕ} 0 1 = cc in omega arith
-byte EndOfTransmission d steps e = let z : _≡_ {A = ℕ} 0 1 = cc in omega arith
+byte NoFrame d traffic steps e = let z : _≡_ {A = ℕ} 0 1 = cc in omega arith
+byte (Preamble carried given) d traffic steps e = let same : given .0 ≡ steps .0 = cc in omega arith
+byte (GivenSymbols carried) d traffic steps e = let z : _≡_ {A = ℕ} 0 1 = cc in omega arith
+byte EndOfTransmission d traffic steps e = let z : _≡_ {A = ℕ} 0 1 = cc in omega arith
 
 pub stays-fit : (R : Rate) (m : SoftModulator) → recordFit (R .p) m ≡ true → (c : Call) → Given c → recordFit (R .p) (left R m c .modulator) ≡ true
 unfolding left Given

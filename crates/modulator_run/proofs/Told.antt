@@ -25,7 +25,7 @@ use Rattle.modulator_run.specs.Kinds.{stores, asks, ends, none}
 use Rattle.modulator_run.specs.Padding.{PaddingLeft}
 use Rattle.modulator_run.specs.Unread.{UnreadLeft}
 use Rattle.modulator_run.specs.Reports.{Owed, Reporting, ReportedEnd, Untold}
-use Rattle.modulator_run.proofs.EachCall.{Refusing, miscounted, outside, large, below, each-call}
+use Rattle.modulator_run.proofs.EachCall.{Refusing, miscounted, outside, unheaded, large, below, each-call}
 use Rattle.modulator_run.proofs.LastCall.{by-last, none-fewer}
 use Rattle.modulator_run.proofs.ReportParts.{reporting-more, untold-more, reporting-here, reporting-none}
 use Rattle.modulator_run.proofs.Lasting.{lasted}
@@ -47,6 +47,7 @@ refused-report : (c : Call) (number : PaperRefusal) (o : Bool) (t : Progress) (r
 unfolding reportNext
 refused-report c number o t r (miscounted e) = refl
 refused-report c number o t r (outside e) = refl
+refused-report c number o t r (unheaded e) = refl
 refused-report c number o t r (large e) = rw e
 refused-report c number o t r (below e) = rw e
 
@@ -57,8 +58,8 @@ module _ (R : Rate) where
       each-call R s (λ (c : Call) (a : After). report (a .sent) ≡ reportNext c (owed s) (s .progress) (report s)) (record {
         refused = λ c number e. refused-report c number (owed s) (s .progress) (report s) e;
         no-frame = λ _. refl;
-        delayed = λ _ _. refl;
-        symbols-given = λ _ _. refl;
+        delayed = λ _ _ _. refl;
+        symbols-given = λ _ _ _. refl;
         last-frame = λ _. refl;
         reads = λ _. refl;
         stored = λ _ _ _ e. rw e;

@@ -23,7 +23,7 @@ use Rattle.modulator_run.specs.Kinds.{replaces, delays, none}
 use Rattle.modulator_run.specs.Padding.{placesOf, placesRead}
 use Rattle.modulator_run.specs.Unread.{symbolsOf, UnreadLeft, unsent, sent}
 use Rattle.modulator_run.specs.Pieces.{counted, total}
-use Rattle.modulator_run.proofs.EachCall.{Refusing, miscounted, outside, large, below, each-call}
+use Rattle.modulator_run.proofs.EachCall.{Refusing, miscounted, outside, unheaded, large, below, each-call}
 use Rattle.modulator_run.proofs.LastCall.{last-or-none}
 use Rattle.modulator_run.proofs.Padding.{padding, no-places, padding-read, padding-exactly}
 use Rattle.modulator_run.proofs.SenderRun.{sender-run}
@@ -38,6 +38,7 @@ not-framed : (c : Call) (number : PaperRefusal) → Refusing c number → replac
 unfolding replaces
 not-framed c number (miscounted e) = e
 not-framed c number (outside e) = e
+not-framed c number (unheaded e) = e
 not-framed c number (large e) = refl
 not-framed c number (below e) = refl
 
@@ -45,8 +46,8 @@ not-framed c number (below e) = refl
 undelayed : (c : Call) → T (not (replaces c)) → T (not (delays c))
 unfolding replaces delays
 undelayed (provide NoFrame symbols) t = tt
-undelayed (provide (Preamble steps) symbols) t = t
-undelayed (provide GivenSymbols symbols) t = tt
+undelayed (provide (Preamble traffic steps) symbols) t = t
+undelayed (provide (GivenSymbols traffic) symbols) t = tt
 undelayed (provide EndOfTransmission symbols) t = tt
 undelayed (read room) t = tt
 undelayed (update fill capacity latency) t = tt
@@ -74,8 +75,8 @@ module _ (R : Rate) where
       each-call R s (λ (c : Call) (a : After). T (replaces c) → samples (a .sent) ≡ R .p * symbolsOf c) (record {
         refused = λ c number e t. absurd (subst T (not-framed c number e) t);
         no-frame = λ _ t. absurd t;
-        delayed = λ _ _ _. omega arith;
-        symbols-given = λ _ _ _. omega arith;
+        delayed = λ _ _ _ _. omega arith;
+        symbols-given = λ _ _ _ _. omega arith;
         last-frame = λ _ _. omega arith;
         reads = λ _ t. absurd t;
         stored = λ _ _ _ _ t. absurd t;
@@ -92,8 +93,8 @@ module _ (R : Rate) where
       each-call R s (λ (c : Call) (a : After). T (not (replaces c)) → samples (a .sent) ≡ samples s - (placesOf c - padding s)) (record {
         refused = λ c number e _. omega (arith, no-places c number e);
         no-frame = λ _ _. omega arith;
-        delayed = λ _ _ t. absurd t;
-        symbols-given = λ _ e t. absurd (subst (λ (b : Bool). T (not b)) e t);
+        delayed = λ _ _ _ t. absurd t;
+        symbols-given = λ _ _ e t. absurd (subst (λ (b : Bool). T (not b)) e t);
         last-frame = λ _ t. absurd t;
         reads = λ room _. sub-add-eq (s .progress .«next_len») (s .progress .«next_read») _ ∙ rest-unread (samples s) (padding s) (length room);
         stored = λ _ _ _ _ _. omega arith;
@@ -111,8 +112,8 @@ module _ (R : Rate) where
       each-call R s (λ (c : Call) (a : After). counted (a .said .answer) ≡ min (placesOf c) (padding s + samples s)) (record {
         refused = λ c number e. omega (arith, no-places c number e);
         no-frame = λ _. omega arith;
-        delayed = λ _ _. omega arith;
-        symbols-given = λ _ _. omega arith;
+        delayed = λ _ _ _. omega arith;
+        symbols-given = λ _ _ _. omega arith;
         last-frame = λ _. omega arith;
         reads = λ _. omega arith;
         stored = λ _ _ _ _. omega arith;

@@ -14,7 +14,7 @@ use Rattle.modulator_run.specs.Rules.{Call, Sent, After, start, framed, 
 use Rattle.modulator_run.specs.Run.{recordAfter, Given}
 use Rattle.modulator_run.specs.Kinds.{raises, drops}
 use Rattle.modulator_run.specs.Wish.{Wished}
-use Rattle.modulator_run.proofs.EachCall.{Refusing, miscounted, outside, large, below, each-call}
+use Rattle.modulator_run.proofs.EachCall.{Refusing, miscounted, outside, unheaded, large, below, each-call}
 use Rattle.modulator_run.proofs.SenderRun.{sender-run}
 use Rattle.modulator_run.proofs.Lasting.{lasted, lasting-exactly}
 
@@ -30,6 +30,7 @@ module _ (R : Rate) where
   unfolding raises drops
   refused-wish c number w (miscounted e) = refl
   refused-wish c number w (outside e) = refl
+  refused-wish c number w (unheaded e) = refl
   refused-wish c number w (large e) = rw e
   refused-wish c number w (below e) = rw e
 
@@ -39,8 +40,8 @@ module _ (R : Rate) where
       each-call R s (λ (c : Call) (a : After). wish (a .sent) ≡ lasted (raises (R .p)) drops c (wish s)) (record {
         refused = λ c number e. refused-wish c number (wish s) e;
         no-frame = λ _. refl;
-        delayed = λ _ _. refl;
-        symbols-given = λ _ _. refl;
+        delayed = λ _ _ _. refl;
+        symbols-given = λ _ _ _. refl;
         last-frame = λ _. refl;
         reads = λ _. refl;
         stored = λ fill capacity _ e. rw e (raised-or-kept (leb (wishRoom (R .p)) (capacity - fill)) (wish s));

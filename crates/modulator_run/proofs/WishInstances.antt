@@ -9,6 +9,7 @@ use Rattle.machine.specs.Runs.{run, answers, Each}
 use Rattle.shaping.specs.Rate.{at48}
 use Rattle.shaping.proofs.RateFacts.{facts48}
 use Rattle.protocol.specs.Refusals.{bare}
+use Rattle.given_symbols.specs.declared.Traffic.the-variants.{Bert}
 use Rattle.modulator.specs.declared.ModulatorFrame.the-variants.{Nothing as NoFrame, Preamble, EndOfTransmission}
 use Rattle.modulator.specs.Paper.{refusal}
 use Rattle.modulator.specs.Outcome.{frameOutcome, updateOutcome, actionBy}
@@ -53,7 +54,7 @@ abbrev readSince : List Call
 readSince = read (replicate 600 (pos 7)) ∷ update 9 5 0 ∷ update 0 2000 9 ∷ provide EndOfTransmission [] ∷ read (replicate 1000 (pos 7)) ∷ []
 
 abbrev delaying : List Call
-delaying = update 0 2000 400 ∷ provide (Preamble (record { 0 = 25 })) [] ∷ readSince
+delaying = update 0 2000 400 ∷ provide (Preamble Bert (record { 0 = 25 })) [] ∷ readSince
 
 delaying-given : Each Given delaying
 unfolding Each Given Delay
@@ -61,7 +62,7 @@ delaying-given = (tt, (lit< tt, (tt, (tt, (tt, (tt, (tt, tt)))))))
 
 left-of-it : PaddingLeft 10 delaying 10000
 unfolding stores delays none latencyOf lastLatency placesOf placesRead
-left-of-it = set (update 0 2000 400 ∷ []) (record { 0 = 25 }) [] readSince refl tt
+left-of-it = set (update 0 2000 400 ∷ []) Bert (record { 0 = 25 }) [] readSince refl tt
 
 padding-there : padding (sentAll at48 delaying) ≡ 10000
 padding-there = padding-exactly at48 delaying 10000 .1 left-of-it

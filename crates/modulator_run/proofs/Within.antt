@@ -1,7 +1,7 @@
 -- `within`: every sample of every stream of symbols lies within the limit, and so does every sample that a run makes or hands out. Assumes nothing.
 use mathlib.Core.Path.{_≡_, refl, sym, ap, subst, _∙_}
 use mathlib.Core.Logic.{inl, inr}
-use mathlib.Core.Bool.{Bool, true, false}
+use mathlib.Core.Bool.{Bool, true, false, _&&_}
 use mathlib.Core.List.{List, [], _∷_, _++_, List·Memᴰ, List·Memᴰ·not-nil, List·Memᴰ·cases-cons}
 use Prim.Native.Nat.{ℕ, _+_, _-_, _≤_, _<_}
 use native.Mathlib.Omega.{arith}
@@ -11,7 +11,7 @@ use lib.IntN.{ℤ, pos, natAbs}
 use lib.ListN.{length, getD, drop, replicate, length-append, length-replicate, getD-replicate, List·getD-append}
 use lib.Seq.{getD-append-add}
 use lib.Ieee.{Float, nan, binary32, ofBits, le}
-use lib.Ieee.Fits.{and-i, and-r}
+use lib.Ieee.Fits.{and-i, and-l, and-r}
 use Rattle.numbers.specs.Firsts.{firsts}
 use Rattle.numbers.specs.Within.{Within}
 use Rattle.numbers.proofs.Bounds.{within→tests}
@@ -20,8 +20,9 @@ use Rattle.machine.specs.Runs.{run, answers, Each}
 use Rattle.shaping.specs.Rate.{Rate}
 use Rattle.shaping.specs.Phase.{sampleLimit}
 use Rattle.shaping.proofs.RateFacts.{Facts}
+use Rattle.given_symbols.specs.Offender.{symbolFit, allFit, headed}
 use Rattle.modulator.specs.Paper.{wrote}
-use Rattle.modulator.specs.Frame.{Symbols, preamble, given, ending, symbolFit}
+use Rattle.modulator.specs.Frame.{Symbols, preamble, given, ending}
 use Rattle.modulator.specs.Control.{zerosRead, samplesRead, handedOut}
 use Rattle.modulator.specs.Record.{storedSample}
 use Rattle.modulator_laws.proofs.Sizes.{Small, preamble-small, ending-small, given-small}
@@ -76,8 +77,8 @@ module _ (R : Rate) where
       each-call R s (λ (_ : Call). FitAfter) (record {
         refused = λ _ _ _. fit;
         no-frame = λ _. fit;
-        delayed = λ _ _. more-fit (s .symbols) preamble fit preamble-small;
-        symbols-given = λ symbols e. more-fit (s .symbols) (given symbols) fit (given-small symbols (and-r (eqb (length symbols) 192) _ (subst T (sym e) tt)));
+        delayed = λ traffic _ _. more-fit (s .symbols) (preamble traffic) fit (preamble-small traffic);
+        symbols-given = λ traffic symbols e. more-fit (s .symbols) (given symbols) fit (given-small symbols (and-l (allFit symbols) (headed traffic symbols) (and-r (eqb (length symbols) 192) (allFit symbols && headed traffic symbols) (subst T (sym e) tt))));
         last-frame = λ _. more-fit (s .symbols) ending fit ending-small;
         reads = λ _. fit;
         stored = λ _ _ _ _. fit;
@@ -123,8 +124,8 @@ module _ (R : Rate) (limit : ℕ) (bound : (symbols : List Float) → SymbolsFit
       each-call R s (λ (_ : Call) (a : After). QuietSaid (a .said)) (record {
         refused = λ _ _ _ i l. let never : ⊥ = omega arith in absurd never;
         no-frame = λ _ i l. let never : ⊥ = omega arith in absurd never;
-        delayed = λ _ _ i l. let never : ⊥ = omega arith in absurd never;
-        symbols-given = λ _ _ i l. let never : ⊥ = omega arith in absurd never;
+        delayed = λ _ _ _ i l. let never : ⊥ = omega arith in absurd never;
+        symbols-given = λ _ _ _ i l. let never : ⊥ = omega arith in absurd never;
         last-frame = λ _ i l. let never : ⊥ = omega arith in absurd never;
         reads = quiet-read s fit;
         stored = λ _ _ _ _ i l. let never : ⊥ = omega arith in absurd never;

@@ -4,12 +4,10 @@ use mathlib.Core.Bool.{Bool, true, false, not, _&&_}
 use mathlib.Core.List.{List, [], _∷_, _++_}
 use Prim.Native.Nat.{ℕ, _-_}
 use lib.Dec.{T, eqb, leb, ltb}
-use lib.ListN.{length, getD}
-use lib.Ieee.{nan}
-use Rattle.numbers.specs.Below.{allBelow}
+use lib.ListN.{length}
 use Rattle.shaping.specs.Rate.{wishRoom}
+use Rattle.given_symbols.specs.Offender.{allFit, headed}
 use Rattle.modulator.specs.declared.ModulatorFrame.the-variants.{Nothing as NoFrame, Preamble, Symbols as GivenSymbols, EndOfTransmission}
-use Rattle.modulator.specs.Frame.{symbolFit}
 use Rattle.modulator.specs.Outcome.{tooLarge}
 use Rattle.modulator_run.specs.Rules.{Call, provide, read, update, ask}
 
@@ -36,19 +34,19 @@ asks ask = true
 -- "None only drops the wish for a frame."
 unfoldable pub drops : Call → Bool
 drops (provide NoFrame symbols) = true
-drops (provide (Preamble steps) symbols) = false
-drops (provide GivenSymbols symbols) = false
+drops (provide (Preamble traffic steps) symbols) = false
+drops (provide (GivenSymbols traffic) symbols) = false
 drops (provide EndOfTransmission symbols) = false
 drops (read room) = false
 drops (update fill capacity latency) = false
 drops ask = false
 
 -- "Any other replaces unread samples": each frame but none, if it is not refused. 6: "symbols not exactly 192"; 71 to 74:
--- "not a number, infinite, above 1, below -1"
+-- "not a number, infinite, above 1, below -1"; 11: "a BERT frame whose first eight symbols are not that burst's signs"
 unfoldable pub replaces : Call → Bool
 replaces (provide NoFrame symbols) = false
-replaces (provide (Preamble steps) symbols) = true
-replaces (provide GivenSymbols symbols) = eqb (length symbols) 192 && allBelow 192 (λ (i : ℕ). symbolFit (getD symbols i nan))
+replaces (provide (Preamble traffic steps) symbols) = true
+replaces (provide (GivenSymbols traffic) symbols) = eqb (length symbols) 192 && (allFit symbols && headed traffic symbols)
 replaces (provide EndOfTransmission symbols) = true
 replaces (read room) = false
 replaces (update fill capacity latency) = false
@@ -57,8 +55,8 @@ replaces ask = false
 -- Of padding: "Only a preamble sets it."
 unfoldable pub delays : Call → Bool
 delays (provide NoFrame symbols) = false
-delays (provide (Preamble steps) symbols) = true
-delays (provide GivenSymbols symbols) = false
+delays (provide (Preamble traffic steps) symbols) = true
+delays (provide (GivenSymbols traffic) symbols) = false
 delays (provide EndOfTransmission symbols) = false
 delays (read room) = false
 delays (update fill capacity latency) = false
@@ -67,8 +65,8 @@ delays ask = false
 -- "End of transmission appends .. and a transmit end owed."
 unfoldable pub ends : Call → Bool
 ends (provide NoFrame symbols) = false
-ends (provide (Preamble steps) symbols) = false
-ends (provide GivenSymbols symbols) = false
+ends (provide (Preamble traffic steps) symbols) = false
+ends (provide (GivenSymbols traffic) symbols) = false
 ends (provide EndOfTransmission symbols) = true
 ends (read room) = false
 ends (update fill capacity latency) = false

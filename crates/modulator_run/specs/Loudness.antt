@@ -6,7 +6,7 @@ use lib.IntN.{ℤ, natAbs}
 use lib.ListN.{length, getD}
 use lib.Ieee.{Float, nan}
 use Rattle.shaping.specs.Phase.{sampleLimit}
-use Rattle.modulator.specs.Frame.{symbolFit}
+use Rattle.given_symbols.specs.Offender.{symbolFit}
 
 -- each symbol lies from -1 to 1, the zeros of the flush with them
 abbrev pub SymbolsFit : List Float → Type 0

@@ -6,6 +6,7 @@ use Prim.Native.Nat.{ℕ, _+_, _-_}
 use lib.Dec.{T}
 use lib.ListN.{length}
 use lib.Ieee.{Float}
+use Rattle.given_symbols.specs.declared.Traffic.{Traffic}
 use Rattle.modulator.specs.declared.DelaySteps.{DelaySteps}
 use Rattle.modulator.specs.declared.ModulatorFrame.the-variants.{Preamble}
 use Rattle.modulator.specs.Frame.{paddingOf}
@@ -37,8 +38,8 @@ placesRead (c ∷ cs) = placesOf c + placesRead cs
 
 -- So many samples of padding are left. "Padding is TxDelay in samples less the latency, never below 0. Only a preamble sets it." "Reading writes padding zeros first."
 pub data PaddingLeft (p : ℕ) (cs : List Call) : ℕ → Type 0 where
-  -- no preamble came
+  -- no preamble came, of either traffic
   unset : T (none delays cs) → PaddingLeft p cs 0
   -- the last preamble's, by the latency then, less the places of all reads since
-  set : (before : List Call) (steps : DelaySteps) (symbols : List Float) (since : List Call) → cs ≡ before ++ provide (Preamble steps) symbols ∷ since → T (none delays since)
+  set : (before : List Call) (traffic : Traffic) (steps : DelaySteps) (symbols : List Float) (since : List Call) → cs ≡ before ++ provide (Preamble traffic steps) symbols ∷ since → T (none delays since)
       → PaddingLeft p cs (paddingOf p (steps .0) (lastLatency before) - placesRead since)

@@ -34,8 +34,8 @@ answersTo R cs = answers (sender R) fresh cs
 -- ---- what a caller can give: a TxDelay is a byte's value; nothing else is asked
 unfoldable pub Delay : ModulatorFrame → Type 0
 Delay NoFrame = Unit {0}
-Delay (Preamble steps) = steps .0 < 256
-Delay GivenSymbols = Unit {0}
+Delay (Preamble traffic steps) = steps .0 < 256
+Delay (GivenSymbols traffic) = Unit {0}
 Delay EndOfTransmission = Unit {0}
 
 unfoldable pub Given : Call → Type 0

@@ -11,8 +11,8 @@ use Rattle.modulator_run.specs.Padding.{placesRead, PaddingLeft}
 -- the symbols of a call's frame
 unfoldable pub symbolsOf : Call → ℕ
 symbolsOf (provide NoFrame symbols) = 0
-symbolsOf (provide (Preamble steps) symbols) = preamble .count
-symbolsOf (provide GivenSymbols symbols) = given symbols .count
+symbolsOf (provide (Preamble traffic steps) symbols) = preamble traffic .count
+symbolsOf (provide (GivenSymbols traffic) symbols) = given symbols .count
 symbolsOf (provide EndOfTransmission symbols) = ending .count
 symbolsOf (read room) = 0
 symbolsOf (update fill capacity latency) = 0

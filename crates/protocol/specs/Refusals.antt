@@ -2,7 +2,7 @@
 use mathlib.Core.Path.{_≡_}
 use Prim.Native.Nat.{ℕ}
 use Rattle.protocol.specs.declared.Refusal.{Refusal}
-use Rattle.protocol.specs.declared.Refusal.the-variants.{RecordUnfit, ReplyOwed, NoReplyOwed, RoomTooSmall, CountAtItsEnd, WrongCount, SymbolNotANumber, SymbolInfinite, SymbolAboveOne, SymbolBelowMinusOne, BufferTooLarge, CapacityBelowFill, ValueOutside}
+use Rattle.protocol.specs.declared.Refusal.the-variants.{RecordUnfit, ReplyOwed, NoReplyOwed, RoomTooSmall, CountAtItsEnd, WrongCount, SymbolNotANumber, SymbolInfinite, SymbolAboveOne, SymbolBelowMinusOne, BufferTooLarge, CapacityBelowFill, ValueOutside, WrongBurst}
 use Rattle.protocol.specs.declared.Place.{Place}
 use Rattle.protocol.specs.declared.Place.the-variants.{Nothing, At}
 
@@ -22,7 +22,7 @@ onPaper NoReplyOwed = bare 3
 onPaper RoomTooSmall = bare 4
 -- "sample given at count 2^63"
 onPaper CountAtItsEnd = bare 5
--- "symbols not exactly 192; correlator values not exactly 8"
+-- "symbols not exactly 192; correlator values not exactly 8"; "6 also for a payload that is not 184 symbols"
 onPaper WrongCount = bare 6
 -- "not a number, infinite, above 1, below -1, each with the place of the first offending symbol": "71 to 74 in that order replace 7"
 onPaper (SymbolNotANumber place) = placed 71 place
@@ -35,6 +35,8 @@ onPaper BufferTooLarge = bare 8
 onPaper CapacityBelowFill = bare 9
 -- "a correlator value not a number or beyond ±1,000,000"
 onPaper ValueOutside = bare 10
+-- "a BERT frame whose first eight symbols are not that burst's signs"
+onPaper WrongBurst = bare 11
 
 abbrev pub numberOf : PaperRefusal → ℕ
 numberOf (bare number) = number

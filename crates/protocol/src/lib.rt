@@ -60,6 +60,7 @@ pub enum Refusal {
     BufferTooLarge,
     CapacityBelowFill,
     ValueOutside,
+    WrongBurst,
 }
 
 // What a refusal tells beside its number: nothing, or a place, counted from 0.
@@ -87,6 +88,7 @@ impl Refusal {
             Refusal::BufferTooLarge => 8,
             Refusal::CapacityBelowFill => 9,
             Refusal::ValueOutside => 10,
+            Refusal::WrongBurst => 11,
         }
     }
 

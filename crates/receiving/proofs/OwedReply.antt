@@ -21,12 +21,12 @@ use Rattle.search.specs.declared.Wait.{Wait}
 use Rattle.search.specs.declared.Wait.the-variants.{Free, Due}
 use Rattle.search.specs.declared.Control.{Control}
 use Rattle.search.specs.declared.Turn.{Turn}
-use Rattle.search.specs.declared.Turn.the-variants.{Rest, Offer, Look}
+use Rattle.search.specs.declared.Turn.the-variants.{Rest}
 use Rattle.search.specs.declared.Reply.{Reply}
 use Rattle.search.specs.declared.Reply.the-variants.{Accepted, Rejected}
-use Rattle.search.specs.TakenBurst.{TakenBurst, heldIn, shownOf}
+use Rattle.search.specs.TakenBurst.{TakenBurst, heldIn}
 use Rattle.search.specs.Search.{carried, tried, passed, searched}
-use Rattle.search.specs.Turn.{Outcome, quiet, offer, offered, counted, freed, owing, dueTurn, waitedTurn, comesTo, sampled, replied as settledBy}
+use Rattle.search.specs.Turn.{Outcome, quiet, offer, counted, freed, owing, dueTurn, waitedTurn, comesTo, sampled, replied as settledBy}
 use Rattle.search.proofs.AgeInPass.{by-test, missed-keeps}
 use Rattle.demodulator.specs.Spans.{eight}
 use Rattle.demodulator.specs.Calls.{isRefusal}
@@ -65,7 +65,7 @@ module _ (p : ℕ) (v : ℕ → Float) where
   due-owes : (o : Option TakenBurst) (c : Control) → c .owed ≡ false → Owes (comesTo p v (dueTurn o c))
   unfolding dueTurn Owes
   due-owes none c e = searched-owed c ∙ e
-  due-owes (some t) c e = pick-owes (offered (t .kind)) (Offer (shownOf t) (owing true c)) (Look c) refl (searched-owed c ∙ e)
+  due-owes (some t) c e = refl
 
   waited-owes : (wait : Wait) (c : Control) → c .owed ≡ false → Owes (comesTo p v (waitedTurn wait c))
   unfolding waitedTurn Owes

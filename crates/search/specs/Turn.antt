@@ -5,8 +5,6 @@ use mathlib.Core.Option.{Option, none, some}
 use Prim.Native.Nat.{ℕ, _+_, _-_}
 use lib.Dec.{ltb}
 use lib.Ieee.{Float}
-use Rattle.protocol.specs.declared.Kind.{Kind}
-use Rattle.protocol.specs.declared.Kind.the-variants.{Lsf, Bert, Stream, Packet}
 use Rattle.search.specs.declared.Candidate.the-variants.{Nothing}
 use Rattle.search.specs.declared.Wait.{Wait}
 use Rattle.search.specs.declared.Wait.the-variants.{Free, Due}
@@ -43,18 +41,11 @@ freed c = record { candidate = Nothing; wait = Free; dcd = c .dcd; owed = c .owe
 abbrev pub owing : Bool → Control → Control
 owing owed c = record { candidate = c .candidate; wait = c .wait; dcd = c .dcd; owed = owed; sample = c .sample }
 
--- "A due LSF, Stream or Packet frame is offered .. A due BERT frame is not offered"
-abbrev pub offered : Kind → Bool
-offered Lsf = true
-offered Bert = false
-offered Stream = true
-offered Packet = true
-
 -- ---- the turn of a sample: it rests, its frame is offered, or it is searched
--- "At 0 the wait and the candidate are removed and a frame is due."
+-- "At 0 the wait and the candidate are removed and a frame is due."; document 02 b): "a due sample is now always an offer"
 unfoldable pub dueTurn : Option TakenBurst → Control → Turn
 dueTurn none c = Look c
-dueTurn (some t) c = cond (offered (t .kind)) (Offer (shownOf t) (owing true c)) (Look c)
+dueTurn (some t) c = Offer (shownOf t) (owing true c)
 
 -- "If a wait is held, take one from it; while more than 0 is left the sample is finished, with no search."
 unfoldable pub waitedTurn : Wait → Control → Turn

@@ -8,10 +8,9 @@ use crate::Turn;
 use crate::Wait;
 use crate::Waiting;
 use crate::bursts;
-use protocol::Kind;
 ghost use mathlib.Core.Path.{_≡_};
 ghost use Rattle.search.specs.TakenBurst.{heldIn};
-ghost use Rattle.search.specs.Turn.{cleared, offered, dueTurn};
+ghost use Rattle.search.specs.Turn.{cleared, dueTurn};
 ghost use Rattle.search.specs.Promises.{turn-of-says, replied-says};
 
 fn clear_timer(timer: Timer, count: u64) -> Timer
@@ -23,18 +22,7 @@ fn clear_timer(timer: Timer, count: u64) -> Timer
     }
 }
 
-fn is_offered(kind: Kind) -> bool
-    ensures { λ r. ⌜ r ≡ offered kind ⌝ }
-{
-    match kind {
-        Kind::Lsf => true,
-        Kind::Bert => false,
-        Kind::Stream => true,
-        Kind::Packet => true,
-    }
-}
-
-// A frame is due: the candidate that awaited it is offered, or the search goes on.
+// A frame is due: the candidate that awaited it is offered, whatever its kind.
 fn fall_due(candidate: Candidate, control: Control) -> Turn
     ensures { λ r. ⌜ r ≡ dueTurn (heldIn candidate) control ⌝ }
 {
@@ -47,9 +35,6 @@ fn fall_due(candidate: Candidate, control: Control) -> Turn
             gain,
             shift,
         } => {
-            if !is_offered(kind) {
-                return Turn::Look(control);
-            }
             let mut owing = control;
             owing.owed = true;
             Turn::Offer {

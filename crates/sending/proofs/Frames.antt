@@ -18,19 +18,20 @@ use Rattle.numbers.proofs.Below.{all-below}
 use Rattle.numbers.proofs.Firsts.{length-firsts, firsts-at, firsts-same}
 use Rattle.shaping.specs.Rate.{at48}
 use Rattle.pulse.specs.Pulse.{listed}
+use Rattle.given_symbols.specs.declared.Traffic.the-variants.{Ordinary}
+use Rattle.given_symbols.specs.declared.Verdict.the-variants.{Fine}
+use Rattle.given_symbols.specs.Offender.{symbolFit, judgedBelow, headed, judgedAs}
+use Rattle.given_symbols.proofs.FirstOf.{fit-judged}
 use Rattle.modulator.specs.declared.Pending.{Pending}
 use Rattle.modulator.specs.declared.SoftModulator.{SoftModulator}
-use Rattle.modulator.specs.declared.Provided.the-variants.{Done}
 use Rattle.modulator.specs.declared.ModulatorFrame.{ModulatorFrame}
 use Rattle.modulator.specs.declared.ModulatorFrame.the-variants.{Preamble, Symbols as GivenSymbols, EndOfTransmission}
 use Rattle.modulator.specs.Paper.{done, wrote}
-use Rattle.modulator.specs.Frame.{Symbols, preamble, given, ending, symbolFit}
-use Rattle.modulator.specs.Offender.{judgedBelow}
+use Rattle.modulator.specs.Frame.{Symbols, preamble, given, ending}
 use Rattle.modulator.specs.Control.{samplesRead, handedOut, ended}
 use Rattle.modulator.specs.Record.{controlOf}
-use Rattle.modulator.specs.Outcome.{givenOutcome, frameOutcome}
+use Rattle.modulator.specs.Outcome.{frameOutcome}
 use Rattle.modulator.specs.Calls.{settled as settledRecord}
-use Rattle.modulator_laws.proofs.FirstOffender.{fit-judged}
 use Rattle.modulator_run.specs.Stream.{sentAt}
 use Rattle.modulator_run.specs.Rules.{provide, Sent, after, framed, settled, frameSample, drained, called}
 use Rattle.modulator_run.specs.Run.{Delay}
@@ -48,7 +49,7 @@ pub record Gives (frame : ModulatorFrame) (symbols : List Float) (f : Symbols) :
   pub calls : (s : Sent) → s .progress .«tx_delay_padding» .0 ≡ 0 → called at48 s (provide frame symbols) ≡ after done [] (framed at48 f 0 (pending (s .pending)) s)
 
 -- "preamble (TxDelay 0)"
-pub gives-preamble : Gives (Preamble (record { 0 = 0 })) noSymbols preamble
+pub gives-preamble : Gives (Preamble Ordinary (record { 0 = 0 })) noSymbols (preamble Ordinary)
 unfolding Delay called settled frameOutcome
 gives-preamble = record {
   given = lit≤ tt;
@@ -56,7 +57,7 @@ gives-preamble = record {
   pending = λ p. p;
   calls = λ s e.
       let none : 48 * 10 * 0 - s .buffer .«output_latency» .0 ≡ 0 = omega arith in
-      ap (λ (n : ℕ). after done [] (framed at48 preamble n (s .pending) s)) none;
+      ap (λ (n : ℕ). after done [] (framed at48 (preamble Ordinary) n (s .pending) s)) none;
 }
 
 pub gives-end : Gives EndOfTransmission noSymbols ending
@@ -78,16 +79,16 @@ module _ (line : List ℕ) (good : goodLine line ≡ true) where
       let digit : valueOf (getD line (i / 2) 0) < 16 = ltb-true _ 16 (is-true _ (good-digit line (holds good) (i / 2) (omega arith))) in
       rw (firsts-at (λ (j : ℕ). symbolOf (bitsAt line j)) 192 i nan l) (fit-symbol (bitsAt line i) (pair-below (valueOf (getD line (i / 2) 0)) i digit))
 
-  all-fit : judgedBelow 192 (symbolsOf line) ≡ Done
+  all-fit : judgedBelow 192 (symbolsOf line) ≡ Fine
   all-fit = fit-judged (symbolsOf line) 192 fit-at
 
   -- by every record that is fit
-  pub line-accepted : (m : SoftModulator) → settledRecord at48 m (frameOutcome 10 GivenSymbols (symbolsOf line) (controlOf m)) .answer ≡ done
-  unfolding settledRecord frameOutcome givenOutcome
+  pub line-accepted : (m : SoftModulator) → settledRecord at48 m (frameOutcome 10 (GivenSymbols Ordinary) (symbolsOf line) (controlOf m)) .answer ≡ done
+  unfolding settledRecord frameOutcome judgedAs headed
   line-accepted m = rw (symbols-number, all-fit)
 
-  pub gives-line : Gives GivenSymbols (symbolsOf line) (given (symbolsOf line))
-  unfolding Delay called settled frameOutcome givenOutcome
+  pub gives-line : Gives (GivenSymbols Ordinary) (symbolsOf line) (given (symbolsOf line))
+  unfolding Delay called settled frameOutcome judgedAs headed
   gives-line = record {
     given = tt;
     few = lit≤ tt;

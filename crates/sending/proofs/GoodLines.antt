@@ -6,6 +6,7 @@ use native.Mathlib.Omega.{arith}
 use lib.ListN.{length, length-append}
 use lib.Ieee.{Float}
 use Rattle.numbers.proofs.Firsts.{length-firsts}
+use Rattle.given_symbols.specs.declared.Traffic.the-variants.{Ordinary}
 use Rattle.modulator.specs.Frame.{preamble, ending}
 use Rattle.house.specs.Line.{symbolsOf}
 use Rattle.sending.specs.Text.{linesOf, goodFront, goodLines, AllGood, none, firstBad, lineSymbols, preambleSymbols, endSymbols, symbolsSent, streamSamples, samplesSent, sampleBytes, bytesSent}
@@ -62,7 +63,7 @@ symbols-number : (text : List ℕ) → length (symbolsSent text) ≡ 464 + 192 *
 unfolding symbolsSent
 symbols-number text =
     let lines : List (List ℕ) = goodLines text in
-    omega (arith, length-append preambleSymbols (lineSymbols lines ++ endSymbols), length-append (lineSymbols lines) endSymbols, length-firsts (preamble .symbol) 192, length-firsts (ending .symbol) 272, lines-number lines)
+    omega (arith, length-append preambleSymbols (lineSymbols lines ++ endSymbols), length-append (lineSymbols lines) endSymbols, length-firsts (preamble Ordinary .symbol) 192, length-firsts (ending .symbol) 272, lines-number lines)
 
 samples-number : (symbols : List Float) → length (streamSamples symbols) ≡ 10 * length symbols
 unfolding streamSamples

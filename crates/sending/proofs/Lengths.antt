@@ -9,6 +9,7 @@ use lib.IntN.{pos}
 use lib.ListN.{length, length-replicate}
 use lib.Ieee.{Float}
 use Rattle.shaping.specs.Rate.{at48}
+use Rattle.given_symbols.specs.declared.Traffic.the-variants.{Ordinary}
 use Rattle.modulator.specs.declared.ModulatorFrame.{ModulatorFrame}
 use Rattle.modulator.specs.declared.ModulatorFrame.the-variants.{Symbols as GivenSymbols}
 use Rattle.modulator.specs.Paper.{done}
@@ -31,9 +32,9 @@ judged-within : (s : Sending) → judged s .length ≤ 5440
 unfolding judged
 judged-within s = by-test (ltb (s .have) 97) (goodLine (s .line))
   where
-    by-test : (t u : Bool) → cond t (quiet done s (hasFeed (atHand s))) (cond u (partOf (nextLine s) GivenSymbols (symbolsOf (s .line)) false false) (quiet done s true)) .length ≤ 5440
+    by-test : (t u : Bool) → cond t (quiet done s (hasFeed (atHand s))) (cond u (partOf (nextLine s) (GivenSymbols Ordinary) (symbolsOf (s .line)) false false) (quiet done s true)) .length ≤ 5440
     by-test true u = omega arith
-    by-test false true = part-within (nextLine s) GivenSymbols (symbolsOf (s .line)) false false
+    by-test false true = part-within (nextLine s) (GivenSymbols Ordinary) (symbolsOf (s .line)) false false
     by-test false false = omega arith
 
 within : (d : Left) (r : AfterPart) → Says d r → d .length ≤ 5440 → r .length ≤ 5440

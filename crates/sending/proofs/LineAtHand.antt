@@ -8,6 +8,7 @@ use borrow.Author.Tests.{ltb-true, ltb-false}
 use lib.Dec.{ltb}
 use lib.ListN.{length, take, drop, length-append, length-take, length-drop}
 use lib.Seq.{take-all, take-at, length-take-le}
+use Rattle.given_symbols.specs.declared.Traffic.the-variants.{Ordinary}
 use Rattle.modulator.specs.declared.ModulatorFrame.the-variants.{Symbols as GivenSymbols}
 use Rattle.modulator.specs.Paper.{done}
 use Rattle.house.specs.Line.{goodLine, symbolsOf}
@@ -30,7 +31,7 @@ pub data Becomes : Sending → List ℕ → Type 0 where
   waits : {s : Sending} {bytes : List ℕ} → judged (held s bytes) ≡ quiet done (longer s bytes) false → s .have + length bytes < 97 → hasFeed (atHand s ++ bytes) ≡ false → Becomes s bytes
   fails : {s : Sending} {bytes : List ℕ} → judged (held s bytes) ≡ quiet done (longer s bytes) true → 0 < s .have + length bytes
       → ((rest : List ℕ) → BadFirst (linesOf ((atHand s ++ bytes) ++ rest))) → Becomes s bytes
-  sends : {s : Sending} {bytes : List ℕ} → judged (held s bytes) ≡ partOf (nextLine (longer s bytes)) GivenSymbols (symbolsOf (atHand s ++ bytes)) false false
+  sends : {s : Sending} {bytes : List ℕ} → judged (held s bytes) ≡ partOf (nextLine (longer s bytes)) (GivenSymbols Ordinary) (symbolsOf (atHand s ++ bytes)) false false
       → goodLine (atHand s ++ bytes) ≡ true → Becomes s bytes
 
 feed-some : (l : List ℕ) → hasFeed l ≡ true → 0 < length l
@@ -71,7 +72,7 @@ module _ (s : Sending) (bytes : List ℕ) (places : length (s .line) ≡ 97) (fe
   full : 97 ≤ s .have + length bytes → (t : Bool) → goodLine (atHand s ++ bytes) ≡ t → Becomes s bytes
   full all true e =
       sends
-      (ap judged held-longer ∙ judged-good (longer s bytes) all (ap goodLine (whole all) ∙ e) ∙ ap (λ (l : List ℕ). partOf (nextLine (longer s bytes)) GivenSymbols (symbolsOf l) false false) (whole all))
+      (ap judged held-longer ∙ judged-good (longer s bytes) all (ap goodLine (whole all) ∙ e) ∙ ap (λ (l : List ℕ). partOf (nextLine (longer s bytes)) (GivenSymbols Ordinary) (symbolsOf l) false false) (whole all))
       e
   full all false e =
       fails (ap judged held-longer ∙ judged-bad (longer s bytes) all (ap goodLine (whole all) ∙ e)) (omega arith) λ rest.

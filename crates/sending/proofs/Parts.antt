@@ -11,6 +11,7 @@ use lib.ListN.{length, take, replicate, length-take}
 use lib.Ieee.{Float}
 use lib.Seq.{paste, take-all, take-take, length-take-le}
 use Rattle.shaping.specs.Rate.{at48}
+use Rattle.given_symbols.specs.declared.Traffic.the-variants.{Ordinary}
 use Rattle.modulator.specs.declared.SoftModulator.{SoftModulator}
 use Rattle.modulator.specs.declared.ModulatorFrame.{ModulatorFrame}
 use Rattle.modulator.specs.declared.ModulatorFrame.the-variants.{Preamble, Symbols as GivenSymbols}
@@ -59,7 +60,7 @@ part-said s frame symbols bad last given out after bytes n first second b k = re
 }
 
 pub open-said : (m : SoftModulator) → m ≡ fresh → (r : AfterPart)
-    → Says (partOf (record { modulator = m; line = replicate 97 0; have = 0; number = 1 }) (Preamble (record { 0 = 0 })) noSymbols false false) r → Says opened r
+    → Says (partOf (record { modulator = m; line = replicate 97 0; have = 0; number = 1 }) (Preamble Ordinary (record { 0 = 0 })) noSymbols false false) r → Says opened r
 unfolding opened starting
 open-said m e r said = rw e at said
 
@@ -69,7 +70,7 @@ module _ (s : Sending) where
   unfolding judged
   judged-short h = rw (lt-ltb (s .have) 97 h)
 
-  pub judged-good : 97 ≤ s .have → goodLine (s .line) ≡ true → judged s ≡ partOf (nextLine s) GivenSymbols (symbolsOf (s .line)) false false
+  pub judged-good : 97 ≤ s .have → goodLine (s .line) ≡ true → judged s ≡ partOf (nextLine s) (GivenSymbols Ordinary) (symbolsOf (s .line)) false false
   unfolding judged
   judged-good h good = rw (le-ltb (s .have) 97 h, good)
 

@@ -8,6 +8,7 @@ use lib.IntN.{ℤ}
 use lib.Ieee.{Float}
 use Rattle.shaping.specs.Rate.{at48}
 use Rattle.protocol.specs.Refusals.{PaperRefusal, bare}
+use Rattle.given_symbols.specs.declared.Traffic.the-variants.{Ordinary}
 use Rattle.modulator.specs.declared.SoftModulator.{SoftModulator}
 use Rattle.modulator.specs.declared.ModulatorFrame.{ModulatorFrame}
 use Rattle.modulator.specs.declared.ModulatorFrame.the-variants.{Symbols as GivenSymbols, EndOfTransmission}
@@ -34,10 +35,10 @@ use Rattle.sending.proofs.Turns.{turned-answer, turned-refused}
 module _ (s : Sending) where
   -- the line at hand by its three tests
   abbrev judgedBy : Bool → Bool → Bool → Left
-  judgedBy short feed good = cond short (quiet done s feed) (cond good (partOf (nextLine s) GivenSymbols (symbolsOf (s .line)) false false) (quiet done s true))
+  judgedBy short feed good = cond short (quiet done s feed) (cond good (partOf (nextLine s) (GivenSymbols Ordinary) (symbolsOf (s .line)) false false) (quiet done s true))
 
   abbrev frameBy : Bool → Bool → Bool → TurnFrame
-  frameBy short feed good = cond short (cond feed endFrame noFrame) (cond good (given GivenSymbols (symbolsOf (s .line))) endFrame)
+  frameBy short feed good = cond short (cond feed endFrame noFrame) (cond good (given (GivenSymbols Ordinary) (symbolsOf (s .line))) endFrame)
 
   line-answer : orClosed (judged s) .answer ≡ answerTo (s .modulator) (lineFrame s)
   unfolding judged closed partOf lineFrame answerTo
@@ -87,7 +88,7 @@ line-takeable s = by-test (ltb (s .have) 97) (hasFeed (atHand s)) (goodLine (s .
     by-test : (short feed good : Bool) → goodLine (s .line) ≡ good → Takeable (frameBy s short feed good)
     by-test true true good e = end-takeable
     by-test true false good e = none-takeable
-    by-test false feed true e = takeable GivenSymbols (symbolsOf (s .line)) (line-accepted (s .line) e)
+    by-test false feed true e = takeable (GivenSymbols Ordinary) (symbolsOf (s .line)) (line-accepted (s .line) e)
     by-test false feed false e = end-takeable
 
 turn-takeable : (s : Sending) (bytes : List ℕ) → Takeable (turnFrame s bytes)

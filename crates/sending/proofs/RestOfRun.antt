@@ -8,6 +8,7 @@ use borrow.Author.Tests.{lt-ltb}
 use lib.ListN.{length}
 use lib.Ieee.{Float}
 use Rattle.shaping.specs.Rate.{at48}
+use Rattle.given_symbols.specs.declared.Traffic.the-variants.{Ordinary}
 use Rattle.modulator.specs.declared.ModulatorFrame.the-variants.{Symbols as GivenSymbols, EndOfTransmission}
 use Rattle.modulator.specs.Paper.{done}
 use Rattle.modulator.specs.Frame.{ending}
@@ -91,7 +92,7 @@ module _ (n : ℕ) (l : Left) (calls : List Left) (cs : List Call) (xs : List Fl
     ends = λ _. rest .ends (withTaken n l);
   }
 
-  pub over-part : (g : List ℕ) → goodLine g ≡ true → Done l cs xs (symbolsOf g) GivenSymbols (symbolsOf g)
+  pub over-part : (g : List ℕ) → goodLine g ≡ true → Done l cs xs (symbolsOf g) (GivenSymbols Ordinary) (symbolsOf g)
       → Over calls (cs ++ lineCalls g) (xs ++ symbolsOf g) (suc k) lines → Over (withTaken n l ∷ calls) cs xs k (g ∷ lines)
   unfolding AllDone lastOf flatten
   over-part g good part rest =

@@ -10,6 +10,7 @@ use lib.ListN.{length}
 use lib.Seq.{length-take-le}
 use lib.Ieee.{Float}
 use Rattle.machine.specs.Runs.{run, Each}
+use Rattle.given_symbols.specs.declared.Traffic.the-variants.{Ordinary}
 use Rattle.modulator.specs.declared.ModulatorFrame.the-variants.{Preamble, Symbols as GivenSymbols}
 use Rattle.modulator.specs.Paper.{done}
 use Rattle.modulator.specs.Frame.{preamble, given}
@@ -92,7 +93,7 @@ module _ (bytes : List ℕ) (s : Sending) (cs : List Call) (xs : List Float) (k 
 
   -- a good line as a part
   abbrev lineSent : Left
-  lineSent = partOf (nextLine (longer s bytes)) GivenSymbols (symbolsOf g) false false
+  lineSent = partOf (nextLine (longer s bytes)) (GivenSymbols Ordinary) (symbolsOf g) false false
 
   line-fine : lineSent .bad ≡ false
   unfolding partOf
@@ -103,8 +104,8 @@ module _ (bytes : List ℕ) (s : Sending) (cs : List Call) (xs : List Float) (k 
       let hand : atHand (longer s bytes) ≡ g = longer-at-hand s bytes (st .places) few in
       record { sits = st .sits; places = longer-places s bytes (st .places) few; short = less; plain = ap hasFeed hand ∙ plain; number = st .number }
 
-  line-done : goodLine g ≡ true → Done lineSent cs xs (symbolsOf g) GivenSymbols (symbolsOf g)
-  line-done good = rw (line-frame g good) at (part-done (nextLine (longer s bytes)) cs xs (st .sits) GivenSymbols (symbolsOf g) (given (symbolsOf g)) (gives-line g good) false false)
+  line-done : goodLine g ≡ true → Done lineSent cs xs (symbolsOf g) (GivenSymbols Ordinary) (symbolsOf g)
+  line-done good = rw (line-frame g good) at (part-done (nextLine (longer s bytes)) cs xs (st .sits) (GivenSymbols Ordinary) (symbolsOf g) (given (symbolsOf g)) (gives-line g good) false false)
 
   bad-done : closed (longer s bytes) .answer ≡ done
   bad-done = closes (longer s bytes) cs xs (st .sits) .answer
@@ -165,15 +166,15 @@ start-sits : Sits (starting .modulator) [] []
 unfolding starting run Each
 start-sits = record { by = refl; given = tt; symbols = refl; padding = refl }
 
-opens : Done opened [] [] preambleSymbols (Preamble (record { 0 = 0 })) noSymbols
+opens : Done opened [] [] preambleSymbols (Preamble Ordinary (record { 0 = 0 })) noSymbols
 unfolding opened
-opens = part-done starting [] [] start-sits (Preamble (record { 0 = 0 })) noSymbols preamble gives-preamble false false
+opens = part-done starting [] [] start-sits (Preamble Ordinary (record { 0 = 0 })) noSymbols (preamble Ordinary) gives-preamble false false
 
 -- Opening is never refused.
 pub open-done : opened .answer ≡ done
 open-done = opens .answer
 
-pub opened-stands : Stands (opened .sending) (partCalls (Preamble (record { 0 = 0 })) noSymbols) preambleSymbols 1
+pub opened-stands : Stands (opened .sending) (partCalls (Preamble Ordinary (record { 0 = 0 })) noSymbols) preambleSymbols 1
 unfolding opened starting partOf hasFeed
 opened-stands = record { sits = opens .sits; places = refl; short = omega arith; plain = refl; number = refl }
 
@@ -181,7 +182,7 @@ opened-stands = record { sits = opens .sits; places = refl; short = omega arith;
 pub send-run : (reads : List (List ℕ)) → Fitting (opened .sending) reads → Sends reads
 unfolding AllDone lastOf flatten symbolsSent senderCalls opened starting partOf
 send-run reads fit =
-    let rest = run-from reads (opened .sending) (partCalls (Preamble (record { 0 = 0 })) noSymbols) preambleSymbols 1 opened-stands fit in
+    let rest = run-from reads (opened .sending) (partCalls (Preamble Ordinary (record { 0 = 0 })) noSymbols) preambleSymbols 1 opened-stands fit in
     let more : List Float = lineSymbols (goodLines (flatten reads)) ++ endSymbols in
     record {
       written =

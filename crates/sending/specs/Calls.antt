@@ -8,6 +8,7 @@ use lib.IntN.{ℤ, pos}
 use lib.ListN.{length, take, drop, replicate}
 use lib.Ieee.{Float}
 use Rattle.shaping.specs.Rate.{at48}
+use Rattle.given_symbols.specs.declared.Traffic.the-variants.{Ordinary}
 use Rattle.modulator.specs.declared.SoftModulator.{SoftModulator}
 use Rattle.modulator.specs.declared.ModulatorFrame.{ModulatorFrame}
 use Rattle.modulator.specs.declared.ModulatorFrame.the-variants.{Preamble, Symbols as GivenSymbols, EndOfTransmission}
@@ -76,7 +77,7 @@ unfoldable pub starting : Sending
 starting = record { modulator = fresh; line = replicate 97 0; have = 0; number = 1 }
 
 unfoldable pub opened : Left
-opened = partOf starting (Preamble (record { 0 = 0 })) noSymbols false false
+opened = partOf starting (Preamble Ordinary (record { 0 = 0 })) noSymbols false false
 
 -- ---- ".. each line's 192 symbols": the line at hand grows up to its 97 bytes
 abbrev pub lacking : Sending → ℕ
@@ -110,7 +111,7 @@ nextLine s = record { modulator = s .modulator; line = s .line; have = 0; number
 unfoldable pub judged : Sending → Left
 judged s =
     cond (ltb (s .have) 97) (quiet done s (hasFeed (atHand s)))
-    (cond (goodLine (s .line)) (partOf (nextLine s) GivenSymbols (symbolsOf (s .line)) false false)
+    (cond (goodLine (s .line)) (partOf (nextLine s) (GivenSymbols Ordinary) (symbolsOf (s .line)) false false)
     (quiet done s true))
 
 -- ---- ".. and end of transmission"; "a last one without its line feed too": a line begun and not ended is bad

@@ -6,6 +6,7 @@ use Prim.Native.Nat.{ℕ, _≤_, _<_}
 use lib.ListN.{length, take}
 use lib.Ieee.{Float}
 use Rattle.shaping.specs.Rate.{at48}
+use Rattle.given_symbols.specs.declared.Traffic.the-variants.{Ordinary}
 use Rattle.modulator.specs.declared.ModulatorFrame.{ModulatorFrame}
 use Rattle.modulator.specs.declared.ModulatorFrame.the-variants.{Preamble, Symbols as GivenSymbols, EndOfTransmission}
 use Rattle.modulator.specs.Paper.{done}
@@ -76,11 +77,11 @@ abbrev pub partCalls : ModulatorFrame → List Float → List Call
 partCalls frame symbols = provide frame symbols ∷ read emptyRoom ∷ []
 
 abbrev pub lineCalls : List ℕ → List Call
-lineCalls line = partCalls GivenSymbols (symbolsOf line)
+lineCalls line = partCalls (GivenSymbols Ordinary) (symbolsOf line)
 
 -- "preamble (TxDelay 0), each line's 192 symbols .., and end of transmission", each read out before the next is given
 unfoldable pub senderCalls : List (List ℕ) → List Call
-senderCalls lines = partCalls (Preamble (record { 0 = 0 })) noSymbols ++ (flatten (map lineCalls lines) ++ partCalls EndOfTransmission noSymbols)
+senderCalls lines = partCalls (Preamble Ordinary (record { 0 = 0 })) noSymbols ++ (flatten (map lineCalls lines) ++ partCalls EndOfTransmission noSymbols)
 
 -- ---- over these reads the program writes what their text says: no call is refused, no byte is left out, the sender has had just these
 -- calls, and the last turn ends the transmission and tells the first bad line, if there is one, as long as a u64 holds its number

@@ -9,6 +9,7 @@ use lib.ListN.{length}
 use lib.Ieee.{Float}
 use Rattle.numbers.specs.Firsts.{firsts}
 use Rattle.shaping.specs.Rate.{at48}
+use Rattle.given_symbols.specs.declared.Traffic.the-variants.{Ordinary}
 use Rattle.modulator.specs.Frame.{preamble, ending}
 use Rattle.modulator_run.specs.Stream.{sentAt}
 use Rattle.house.specs.Line.{lineFeed, goodLine, symbolsOf}
@@ -60,7 +61,7 @@ badLine text = firstBad 1 (linesOf text)
 
 -- ---- symbols, samples and bytes
 abbrev pub preambleSymbols : List Float
-preambleSymbols = firsts (preamble .symbol) (preamble .count)
+preambleSymbols = firsts (preamble Ordinary .symbol) (preamble Ordinary .count)
 
 abbrev pub endSymbols : List Float
 endSymbols = firsts (ending .symbol) (ending .count)

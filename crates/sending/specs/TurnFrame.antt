@@ -5,6 +5,7 @@ use Prim.Native.Nat.{ℕ}
 use lib.Dec.{ltb}
 use lib.Ieee.{Float}
 use Rattle.shaping.specs.Rate.{at48}
+use Rattle.given_symbols.specs.declared.Traffic.the-variants.{Ordinary}
 use Rattle.modulator.specs.declared.SoftModulator.{SoftModulator}
 use Rattle.modulator.specs.declared.ModulatorFrame.{ModulatorFrame}
 use Rattle.modulator.specs.declared.ModulatorFrame.the-variants.{Symbols as GivenSymbols, EndOfTransmission}
@@ -26,7 +27,7 @@ endFrame = given EndOfTransmission noSymbols
 unfoldable pub lineFrame : Sending → TurnFrame
 lineFrame s =
     cond (ltb (s .have) 97) (cond (hasFeed (atHand s)) endFrame noFrame)
-    (cond (goodLine (s .line)) (given GivenSymbols (symbolsOf (s .line))) endFrame)
+    (cond (goodLine (s .line)) (given (GivenSymbols Ordinary) (symbolsOf (s .line))) endFrame)
 
 -- the end of the input gives the end of transmission
 unfoldable pub turnFrame : Sending → List ℕ → TurnFrame

@@ -2,6 +2,7 @@
 use super::AfterPart;
 use super::Sending;
 use super::part::part;
+use given_symbols::Traffic;
 use house::LINE_FEED;
 use modulator::ModulatorFrame;
 use modulator::Provided;
@@ -109,7 +110,13 @@ fn judge(s: Sending) -> AfterPart
         have: 0,
         number: next_number(s.number),
     };
-    part(next, ModulatorFrame::Symbols, symbols, false, false)
+    part(
+        next,
+        ModulatorFrame::Symbols(Traffic::Ordinary),
+        symbols,
+        false,
+        false,
+    )
 }
 
 // The first n of the bytes, or those that the line lacks if n is more.

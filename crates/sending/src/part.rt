@@ -1,6 +1,7 @@
 // A part of the transmission: a frame goes to the sender, and its samples are read as bytes, from a fresh start all of them.
 use super::AfterPart;
 use super::Sending;
+use given_symbols::Traffic;
 use modulator::DelaySteps;
 use modulator::ModulatorFrame;
 use modulator::Read;
@@ -103,7 +104,7 @@ impl Sending {
         };
         part(
             sending,
-            ModulatorFrame::Preamble(DelaySteps(0)),
+            ModulatorFrame::Preamble(Traffic::Ordinary, DelaySteps(0)),
             NO_SYMBOLS,
             false,
             false,

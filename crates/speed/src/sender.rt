@@ -1,5 +1,6 @@
 // The sender over frames of the same symbols, each read to its end. The checksum takes in how many samples each read wrote, and the last frame's samples.
 use crate::sums;
+use given_symbols::Traffic;
 use modulator::ModulatorFrame;
 use modulator::Read;
 use modulator::SoftModulator;
@@ -17,7 +18,10 @@ pub(crate) fn frames(count: u32, symbols: [f32; 192]) -> u64 {
     let mut sum: u64 = 0;
     let mut i: u32 = 0;
     while i < count {
-        let provided = sender.provide_next_frame(ModulatorFrame::Symbols, &symbols);
+        let provided = sender.provide_next_frame(
+            ModulatorFrame::Symbols(Traffic::Ordinary),
+            &symbols,
+        );
         sender = provided.modulator;
         let read = sender.read_output_samples(&mut room);
         sender = read.modulator;

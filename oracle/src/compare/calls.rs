@@ -27,7 +27,9 @@ pub enum Call {
 pub enum Frame {
     None,
     Preamble(u8),
+    BertPreamble(u8),
     Symbols,
+    Bert,
     End,
 }
 
@@ -97,6 +99,8 @@ impl Pair {
                     Frame::Preamble(steps) => (1, steps),
                     Frame::Symbols => (2, 0),
                     Frame::End => (3, 0),
+                    Frame::BertPreamble(steps) => (4, steps),
+                    Frame::Bert => (5, 0),
                 };
                 Sending::Provide(number, steps, symbols)
             }
@@ -169,8 +173,9 @@ impl Pair {
         let frame = match frame {
             Frame::None => None,
             Frame::Preamble(tx_delay) => Some(ModulatorFrame::Preamble { tx_delay }),
+            Frame::BertPreamble(tx_delay) => Some(ModulatorFrame::BertPreamble { tx_delay }),
             Frame::End => Some(ModulatorFrame::EndOfTransmission),
-            Frame::Symbols => {
+            Frame::Symbols | Frame::Bert => {
                 lay_symbols(symbols.try_into().expect("192 symbols are accepted"));
                 Some(match self.frames % 3 {
                     0 => ModulatorFrame::Packet(a_packet()),

@@ -8,7 +8,7 @@ use super::smallest::{from_the_front, plainer};
 use super::tally::Tally;
 use super::values::numbered;
 use super::{caught, Difference};
-use crate::decode::{name, SyncBurst, KINDS};
+use crate::decode::{name, KINDS};
 use crate::harness::{lay_replies, take_offer, Offer};
 use crate::modem::kept::Control;
 use crate::modem::peek::control;
@@ -262,12 +262,8 @@ fn count(before: Control, after: Control, offer: Option<&Offer>, tally: &mut Tal
         tally.waits += 1;
         tally.waits_kept += u64::from(changed);
     }
-    match offer {
-        Some(offer) => count_offer(offer, took, tally),
-        None => {
-            let bert = due.is_some_and(|held| held.burst == SyncBurst::Bert);
-            tally.bert_due += u64::from(bert);
-        }
+    if let Some(offer) = offer {
+        count_offer(offer, took, tally);
     }
 }
 
@@ -286,6 +282,7 @@ fn count_offer(offer: &Offer, took: bool, tally: &mut Tally) {
     tally.offers += 1;
     match offer.kind {
         "lsf" => tally.offers_lsf += 1,
+        "bert" => tally.offers_bert += 1,
         "stream" => tally.offers_stream += 1,
         _ => tally.offers_packet += 1,
     }

@@ -102,14 +102,27 @@ fn of_symbols(symbols: &[f32]) -> Option<(u64, u64)> {
         .find_map(|(place, &symbol)| Some((of_symbol(symbol)?, place)))
 }
 
+/// Request b: 11, "a BERT frame whose first eight symbols are not that burst's signs".
+fn unheaded(symbols: &[f32]) -> u64 {
+    let burst = [-1.0, 1.0, -1.0, -1.0, 1.0, 1.0, 1.0, 1.0];
+    if symbols[..8] == burst {
+        0
+    } else {
+        11
+    }
+}
+
 /// The number, and the place beside it or 0.
 pub fn of_sender(record: &Sender, call: &Call) -> (u64, u64) {
     if !sender_fit(record) {
         return (1, 0);
     }
     match call {
-        Call::Provide(Frame::Symbols, symbols) if symbols.len() != 192 => (6, 0),
+        Call::Provide(Frame::Symbols | Frame::Bert, symbols) if symbols.len() != 192 => (6, 0),
         Call::Provide(Frame::Symbols, symbols) => of_symbols(symbols).unwrap_or((0, 0)),
+        Call::Provide(Frame::Bert, symbols) => {
+            of_symbols(symbols).unwrap_or((unheaded(symbols), 0))
+        }
         Call::Update(counts) if counts.iter().any(|&count| count > LARGEST_COUNT) => (8, 0),
         Call::Update([fill, capacity, _]) if capacity < fill => (9, 0),
         _ => (0, 0),

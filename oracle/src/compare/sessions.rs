@@ -70,8 +70,10 @@ fn count(call: &Call, unread: bool, action: u64, tally: &mut Tally) {
             return;
         }
         Call::Provide(Frame::None, _) => tally.frames += 1,
-        Call::Provide(..) => {
+        Call::Provide(frame, _) => {
             tally.frames += 1;
+            tally.bert_preambles += u64::from(matches!(frame, Frame::BertPreamble(_)));
+            tally.bert_frames += u64::from(matches!(frame, Frame::Bert));
             tally.replaced_unread += u64::from(unread);
         }
         Call::Read(_) => tally.reads += 1,
@@ -92,9 +94,11 @@ pub fn any_call(random: &mut Random) -> Call {
         3..=5 => Call::Provide(Frame::None, unread_symbols(random)),
         6..=8 => {
             let steps = *random.pick(&[0, 1, 2, 3, 50, 255]);
-            Call::Provide(Frame::Preamble(steps), unread_symbols(random))
+            let frame = *random.pick(&[Frame::Preamble(steps), Frame::BertPreamble(steps)]);
+            Call::Provide(frame, unread_symbols(random))
         }
-        9..=12 => Call::Provide(Frame::Symbols, symbols(random)),
+        9..=11 => Call::Provide(Frame::Symbols, symbols(random)),
+        12 => Call::Provide(Frame::Bert, headed(symbols(random))),
         13..=14 => Call::Provide(Frame::End, unread_symbols(random)),
         15..=30 => {
             let sizes = [
@@ -127,17 +131,19 @@ fn any_counts(random: &mut Random) -> [u64; 3] {
 
 fn refused_call(random: &mut Random) -> Call {
     let above = 16_777_217 + random.below(3) as u64;
-    match random.below(5) {
+    match random.below(6) {
         0 => {
             let count = *random.pick(&[0, 1, 191, 193, 400]);
-            Call::Provide(Frame::Symbols, vec![0.5; count])
+            let frame = *random.pick(&[Frame::Symbols, Frame::Bert]);
+            Call::Provide(frame, vec![0.5; count])
         }
         1 => {
             let mut symbols = symbols(random);
             for _ in 0..1 + random.below(3) {
                 symbols[random.below(192)] = wrong_symbol(random);
             }
-            Call::Provide(Frame::Symbols, symbols)
+            let frame = *random.pick(&[Frame::Symbols, Frame::Bert]);
+            Call::Provide(frame, symbols)
         }
         2 => {
             let mut counts = any_counts(random);
@@ -145,6 +151,11 @@ fn refused_call(random: &mut Random) -> Call {
             Call::Update(counts)
         }
         3 => Call::Update([u64::MAX, 0, 0]),
+        4 => {
+            let mut symbols = headed(symbols(random));
+            symbols[random.below(8)] *= *random.pick(&[-1.0, 0.5, 0.999_999_9]);
+            Call::Provide(Frame::Bert, symbols)
+        }
         _ => {
             let fill = 1 + random.below(5000) as u64;
             Call::Update([fill, fill - 1, 0])
@@ -162,6 +173,12 @@ fn wrong_symbol(random: &mut Random) -> f32 {
         5 => f32::MIN,
         _ => nan(random),
     }
+}
+
+/// The same, headed by DF55.
+fn headed(mut symbols: Vec<f32>) -> Vec<f32> {
+    symbols[..8].copy_from_slice(&[-1.0, 1.0, -1.0, -1.0, 1.0, 1.0, 1.0, 1.0]);
+    symbols
 }
 
 /// Symbols of every sort that is let through.

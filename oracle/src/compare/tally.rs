@@ -25,12 +25,12 @@ tally! {
     whole: "times the whole window and ring were compared",
     offers: "offers: kind, sample number and 192 symbols",
     offers_lsf: "  of LSF",
+    offers_bert: "  of BERT",
     offers_stream: "  of Stream",
     offers_packet: "  of Packet",
     accepted: "  accepted",
     rejected: "  rejected, with the search by the reply",
     taken_on_reject: "  rejected, and a candidate taken by that search",
-    bert_due: "BERT frames due",
     takes: "candidates taken",
     replaced: "  in the place of another kind",
     ties: "  in the place of one with the very same diff",
@@ -44,6 +44,8 @@ tally! {
     sessions: "sender sessions, each from a fresh sender",
     calls: "sender calls: the answer, the room, the store, the window and twelve numbers after each",
     frames: "  frames provided",
+    bert_preambles: "  of them BERT preambles",
+    bert_frames: "  of them BERT frames",
     replaced_unread: "  of them in the place of unread samples",
     reads: "  reads",
     updates: "  updates",
@@ -84,6 +86,7 @@ tally! {
     refused_74: "calls refused with 74, and the place",
     refused_8: "calls refused with 8",
     refused_9: "calls refused with 9",
+    refused_11: "calls refused with 11",
     nan_kept: "not-a-numbers of a record that were not-a-numbers again after an accepted call",
     nan_refused: "not-a-numbers of a record that were not-a-numbers again after a refused call",
 }
@@ -102,7 +105,9 @@ impl Tally {
             73 => &mut self.refused_73,
             74 => &mut self.refused_74,
             8 => &mut self.refused_8,
-            _ => &mut self.refused_9,
+            9 => &mut self.refused_9,
+            11 => &mut self.refused_11,
+            _ => unreachable!("no call is refused with {number}"),
         };
         *count += 1;
     }

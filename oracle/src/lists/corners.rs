@@ -56,11 +56,7 @@ fn pair(held: SyncBurst, second: SyncBurst, larger: bool) -> Script {
     let (before, after) = last_step(&samples);
     assert!(holds(before, held, 1) && holds(after, kept, age));
     let name = format!("{}-{}-{diff}", name(held), name(second));
-    script(
-        &name,
-        if kept == Bert { "" } else { "a" },
-        with_pause(samples),
-    )
+    script(&name, "a", with_pause(samples))
 }
 
 /// A Stream burst on two samples with the very same diff: the later is taken. Small changes of the samples
@@ -124,14 +120,14 @@ fn chain() -> Script {
 }
 
 /// Ten bursts, whose candidates grow 1 to 10 samples old before the wait is set. Each but the first begins
-/// to match on the very sample on which the frame before it is due. Every frame that is offered is rejected.
+/// to match on the very sample on which the frame before it is due. Every frame is rejected.
 fn ages() -> Script {
     let kinds = [Lsf, Bert, Stream, Packet];
     let bursts: Vec<Vec<i16>> = (1..=10)
         .map(|age| aged(kinds[(age - 1) % 4], age))
         .collect();
     let samples = joined(&bursts, FRAME);
-    let replies = "rrrrrrr";
+    let replies = "rrrrrrrrrr";
     let set = |age: usize| (FIRST + (age - 1) * FRAME + age, (FRAME - age) as u16);
     assert!(waits(&samples, replies).into_iter().eq((1..=10).map(set)));
     script("ages", replies, with_pause(samples))

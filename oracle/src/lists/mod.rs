@@ -1,5 +1,6 @@
 //! The lists, one file each. README.md gives the form of their lines.
 
+mod bit_errors;
 mod bursts;
 mod corners;
 mod correlations;
@@ -21,7 +22,11 @@ pub struct List {
     pub write: fn() -> String,
 }
 
-pub const ALL: [List; 13] = [
+pub const ALL: [List; 14] = [
+    List {
+        name: "bit-errors",
+        write: bit_errors::write,
+    },
     List {
         name: "taps",
         write: taps::write,

@@ -76,7 +76,7 @@ fn feed(list: &mut String, receiver: &mut SoftDemodulator, sample: i16) {
                 offer.kind, after.count
             ));
         }
-        (Some(held), None) => say(format!("due {}", name(held.burst))),
+        (Some(_), None) => panic!("a due frame that was not offered"),
         (None, offer) => assert!(offer.is_none(), "an offer that was not due"),
     }
     assert_eq!(frame.is_some(), offer.is_some_and(|offer| offer.accepted));

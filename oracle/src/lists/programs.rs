@@ -33,7 +33,7 @@ fn whole(list: &mut Session) {
     list.receive(512, ALL);
 }
 
-/// A frame of each kind that is offered, and one of those that are not.
+/// A frame of each kind.
 fn several(list: &mut Session) {
     let mut random = Random::new(31);
     let frames = ["55F7", "FF5D", "DF55", "75FF"].map(|word| payload(&mut random, word));
@@ -43,11 +43,16 @@ fn several(list: &mut Session) {
 }
 
 /// A payload that ends in 75, and a Stream frame after it: the last four symbols of the one and the first four
-/// of the other are the Packet burst.
+/// of the other are the Packet burst. DF before an LSF frame makes the BERT burst.
 fn not_lossless(list: &mut Session) {
-    let first = format!("55F7{}75\n", "0".repeat(90));
-    list.send("75-before-stream", &(first + &headed("FF5D", '0')));
-    list.receive(512, ALL);
+    for (name, tail, word) in [
+        ("75-before-stream", "75", "FF5D"),
+        ("df-before-lsf", "DF", "55F7"),
+    ] {
+        let first = format!("55F7{}{tail}\n", "0".repeat(90));
+        list.send(name, &(first + &headed(word, '0')));
+        list.receive(512, ALL);
+    }
 }
 
 fn silence(list: &mut Session) {

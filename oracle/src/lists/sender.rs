@@ -28,6 +28,8 @@ pub fn write() -> String {
     replaced(&mut Session::new(&mut list, "replaced"));
     shrinking(&mut Session::new(&mut list, "shrinking"));
     ends(&mut Session::new(&mut list, "ends"));
+    #[cfg(not(feature = "unamended"))]
+    bert(&mut Session::new(&mut list, "bert"));
     list
 }
 
@@ -83,6 +85,28 @@ fn delays(session: &mut Session) {
     session.run();
     session.read(30);
     session.read(1);
+}
+
+/// A link test: the turned preamble with its padding, a frame headed by DF55, and the end.
+#[cfg(not(feature = "unamended"))]
+fn bert(session: &mut Session) {
+    let mut random = Random::new(17);
+    session.bert_preamble(0);
+    session.read(40);
+    for (latency, steps) in [(500, 1), (480, 1), (400, 1), (0, 255)] {
+        session.update(0, 16_777_216, latency);
+        session.bert_preamble(steps);
+    }
+    session.update(0, 4000, 440);
+    session.bert_preamble(1);
+    session.read(60);
+    session.read(1900);
+    let mut symbols = [(); 192].map(|()| *random.pick(&DIBITS));
+    symbols[..8].copy_from_slice(&[-1.0, 1.0, -1.0, -1.0, 1.0, 1.0, 1.0, 1.0]);
+    session.bert(symbols);
+    session.read(1920);
+    session.end();
+    session.read(2720);
 }
 
 /// A transmission from start to end, as a card reads it.
@@ -348,8 +372,25 @@ impl<'a> Session<'a> {
         self.say(&format!("preamble {steps}"), "");
     }
 
+    #[cfg(not(feature = "unamended"))]
+    fn bert_preamble(&mut self, steps: u8) {
+        self.sender
+            .provide_next_frame(Some(ModulatorFrame::BertPreamble { tx_delay: steps }));
+        self.say(&format!("bert-preamble {steps}"), "");
+    }
+
     /// The Rust has three frames of symbols, which it sends alike: each in turn.
     fn symbols(&mut self, symbols: [f32; 192]) {
+        self.symbols_as("symbols", symbols);
+    }
+
+    /// A BERT frame's symbols are given too.
+    #[cfg(not(feature = "unamended"))]
+    fn bert(&mut self, symbols: [f32; 192]) {
+        self.symbols_as("bert", symbols);
+    }
+
+    fn symbols_as(&mut self, name: &str, symbols: [f32; 192]) {
         lay_symbols(symbols);
         self.frames += 1;
         self.sender.provide_next_frame(Some(match self.frames % 3 {
@@ -357,7 +398,7 @@ impl<'a> Session<'a> {
             1 => ModulatorFrame::Lsf(an_lsf()),
             _ => ModulatorFrame::Stream(a_stream()),
         }));
-        self.say(&format!("symbols {}", row(&symbols)), "");
+        self.say(&format!("{name} {}", row(&symbols)), "");
     }
 
     fn end(&mut self) {

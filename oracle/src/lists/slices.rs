@@ -9,10 +9,14 @@ pub fn write() -> String {
         let [high, low] = slice(symbol);
         format!("{} = {high}{low}\n", hex(symbol))
     };
-    symbols().iter().map(line).collect()
+    let mut random = Random::new(1);
+    let mut symbols = corners();
+    symbols.extend((0..200).map(|_| f32::from_bits(random.word())));
+    symbols.iter().map(line).collect()
 }
 
-fn symbols() -> Vec<f32> {
+/// The limits with a step to each side, and extremes.
+pub fn corners() -> Vec<f32> {
     let mut symbols = Vec::new();
     for limit in [0.667f32, -0.667] {
         symbols.extend([-1, 0, 1].map(|by| step(limit, by)));
@@ -29,7 +33,5 @@ fn symbols() -> Vec<f32> {
         f32::MAX,
         f32::MIN,
     ]);
-    let mut random = Random::new(1);
-    symbols.extend((0..200).map(|_| f32::from_bits(random.word())));
     symbols
 }

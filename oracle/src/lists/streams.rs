@@ -46,11 +46,11 @@ fn kinds() -> Script {
     let frames = [Lsf, Bert, Packet, Stream, Bert].map(|kind| frame(&mut random, kind));
     let sent = transmission(&frames);
     let samples = heard(&mut random, joined_late(&sent), 1, 700, 900);
-    script("kinds", "arr", samples)
+    script("kinds", "aarra", samples)
 }
 
-/// Frames that end with a burst. The due BERT frame and the rejected Stream frame search the very sample and
-/// find it; the accepted LSF frame does not, and it is found one later. The frame that such a burst seems to
+/// Frames that end with a burst. The rejected BERT and Stream frames leave the very sample to the search, which
+/// finds it; the accepted LSF frame does not, and it is found one later. The frame that such a burst seems to
 /// head hides the next one.
 fn tails() -> Script {
     let mut random = Random::new(8);
@@ -63,7 +63,7 @@ fn tails() -> Script {
     ];
     let sent = transmission(&frames);
     let samples = heard(&mut random, joined_late(&sent), 3, -200, 100);
-    script("tails", "rarra", samples)
+    script("tails", "rrarra", samples)
 }
 
 /// A signal near the smallest gain.

@@ -7,8 +7,8 @@ use Rattle.modulator.proofs.Frames.{framed-listed}
 use Rattle.modulator.proofs.frame.end_of_transmission.Statement.{statement}
 use Rattle.modulator.proofs.frame.end_of_transmission.Tie as tie
 
-ending-symbols-requires : tie.Need-ending-symbols-requires
-ending-symbols-requires c κs = search needs
+generate-ending-requires : tie.Need-generate-ending-requires
+generate-ending-requires c κs = search needs
 
 slice-aggregate-framed : tie.Need-slice-aggregate-framed
 slice-aggregate-framed c = search needs
@@ -20,8 +20,8 @@ returns : tie.Need-returns
 returns c =
     let s = c .before .before in
     let m = s .before .before .before .args .m in
-    rw (framed-listed at48 (m .progress .«tx_delay_padding» .0) (ended (m .pending)) m (ending .symbol) 272 (s .ending-symbols .result) (s .ending-symbols .ensures)) at (c .framed .ensures)
+    rw (framed-listed at48 (m .progress .«tx_delay_padding» .0) (ended (m .pending)) m (ending .symbol) 272 (s .generate-ending .result) (s .generate-ending .ensures)) at (c .framed .ensures)
 
 pub end-of-transmission-spec : {M : Type 1} → statement M
 end-of-transmission-spec =
-    tie.close (tie.spec ending-symbols-requires slice-aggregate-framed framed-requires returns)
+    tie.close (tie.spec generate-ending-requires slice-aggregate-framed framed-requires returns)

@@ -1,0 +1,2 @@
+-- The bits of two payloads that differ.
+pub mod Errors

@@ -1,0 +1,67 @@
+-- Which of the symbols given is wrong, and how: document 01's 6, and document 02, requests c and b. Assumes nothing.
+use mathlib.Core.Path.{_≡_}
+use mathlib.Core.Bool.{Bool, true, not, cond, _&&_}
+use mathlib.Core.List.{List}
+use Prim.Native.Nat.{ℕ, zero, suc}
+use lib.Dec.{eqb}
+use lib.IntN.{pos}
+use lib.ListN.{length, getD}
+use lib.Ieee.{Float, nan, inf, fin, binary32, ofBits, ofInt, lt, le, eq}
+use Rattle.numbers.specs.Below.{allBelow}
+use Rattle.protocol.specs.declared.Kind.the-variants.{Bert as BertKind}
+use Rattle.protocol.specs.declared.SyncBurst.the-variants.{Frame}
+use Rattle.protocol.specs.Bursts.{signsOf}
+use Rattle.protocol.specs.declared.Refusal.the-variants.{WrongCount, SymbolNotANumber, SymbolInfinite, SymbolAboveOne, SymbolBelowMinusOne, WrongBurst}
+use Rattle.given_symbols.specs.declared.Traffic.{Traffic}
+use Rattle.given_symbols.specs.declared.Traffic.the-variants.{Ordinary, Bert}
+use Rattle.given_symbols.specs.declared.Verdict.{Verdict}
+use Rattle.given_symbols.specs.declared.Verdict.the-variants.{Refused, Fine}
+
+-- from -1 to 1; document 01's 7 was "a symbol not a number or outside -1 to 1"
+unfoldable pub symbolFit : Float → Bool
+symbolFit symbol = le (ofBits binary32 0xbf80_0000) symbol && le symbol (ofBits binary32 0x3f80_0000)
+
+-- each of the 192 is
+abbrev pub allFit : List Float → Bool
+allFit symbols = allBelow 192 (λ (i : ℕ). symbolFit (getD symbols i nan))
+
+-- What a symbol at a place makes of the frame: "not a number, infinite, above 1, below -1"; "an infinity is always 72".
+unfoldable pub judged : ℕ → Float → Verdict
+judged place nan = Refused (SymbolNotANumber place)
+judged place (inf negative) = Refused (SymbolInfinite place)
+judged place (fin negative m e) =
+    cond (lt (ofBits binary32 0x3f80_0000) (fin negative m e)) (Refused (SymbolAboveOne place))
+    (cond (lt (fin negative m e) (ofBits binary32 0xbf80_0000)) (Refused (SymbolBelowMinusOne place))
+    Fine)
+
+-- "The earliest place decides."
+abbrev pub earlier : Verdict → Verdict → Verdict
+earlier (Refused why) next = Refused why
+earlier Fine next = next
+
+-- what the first n symbols make of it: "each with the place of the first offending symbol"
+unfoldable pub judgedBelow : ℕ → List Float → Verdict
+judgedBelow zero symbols = Fine
+judgedBelow (suc n) symbols = earlier (judgedBelow n symbols) (judged n (getD symbols n nan))
+
+-- ---- "a test-pattern frame of 192 given symbols headed by DF55"
+-- each of the first eight symbols is its sign in the burst, 1.0 or -1.0
+unfoldable pub bertHeaded : List Float → Bool
+bertHeaded symbols = allBelow 8 (λ (i : ℕ). eq (getD symbols i nan) (ofInt binary32 (getD (signsOf (Frame BertKind)) i (pos 0))))
+
+-- a frame of ordinary traffic is of any kind
+unfoldable pub headed : Traffic → List Float → Bool
+headed Ordinary symbols = true
+headed Bert symbols = bertHeaded symbols
+
+-- 11: "a BERT frame whose first eight symbols are not that burst's signs"
+abbrev pub headJudged : Traffic → List Float → Verdict
+headJudged traffic symbols = cond (headed traffic symbols) Fine (Refused WrongBurst)
+
+-- 6: "symbols not exactly 192". 71 to 74 "replace 7, at its place in the order"; 11 is "checked after 7".
+unfoldable pub judgedAs : Traffic → List Float → Verdict
+judgedAs traffic symbols = cond (not (eqb (length symbols) 192)) (Refused WrongCount) (earlier (judgedBelow 192 symbols) (headJudged traffic symbols))
+
+-- ---- what the function promises
+abbrev pub judge-frame-says : Traffic → List Float → Verdict → Type 0
+judge-frame-says traffic symbols r = r ≡ judgedAs traffic symbols
