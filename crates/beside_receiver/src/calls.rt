@@ -21,16 +21,23 @@ fn told(refusal: u64, answer: u64) -> Words {
         refusal,
         answer,
         at: 0,
+        taken_at: 0,
+        age: 0,
+        mark: 0,
         carrier: 0,
         given: 0,
     }
 }
 
-fn of_samples(refusal: u64, answer: u64, at: u64, carrier: u64, given: usize) -> Words {
+// No offer.
+fn of_samples(refusal: u64, answer: u64, carrier: u64, given: usize) -> Words {
     Words {
         refusal,
         answer,
-        at,
+        at: 0,
+        taken_at: 0,
+        age: 0,
+        mark: 0,
         carrier,
         given,
     }
@@ -38,11 +45,20 @@ fn of_samples(refusal: u64, answer: u64, at: u64, carrier: u64, given: usize) ->
 
 fn heard(answer: Heard, carrier: u64, given: usize) -> Words {
     match answer {
-        Heard::Refused(why) => of_samples(why.number() as u64, NO_KIND, 0, carrier, given),
-        Heard::Quiet => of_samples(0, NO_KIND, 0, carrier, given),
+        Heard::Refused(why) => of_samples(why.number() as u64, NO_KIND, carrier, given),
+        Heard::Quiet => of_samples(0, NO_KIND, carrier, given),
         Heard::Offered(offer) => {
             let kind = offer.kind;
-            of_samples(0, layout::number_of(kind), offer.sample, carrier, given)
+            Words {
+                refusal: 0,
+                answer: layout::number_of(kind),
+                at: offer.sample,
+                taken_at: offer.taken_at,
+                age: offer.age as u64,
+                mark: offer.replaced as u64,
+                carrier,
+                given,
+            }
         }
     }
 }
@@ -88,7 +104,7 @@ fn listen(fresh: SoftDemodulator, samples: &[i16], room: &mut [f32]) {
         quiet = is_quiet(answer);
         given += 1;
     }
-    layout::put_record(receiver, of_samples(0, 0, 0, 0, given));
+    layout::put_record(receiver, of_samples(0, 0, 0, given));
 }
 
 fn feed(receiver: SoftDemodulator, samples: &[i16], room: &mut [f32]) {

@@ -1,7 +1,7 @@
-// The receiver's record in bytes: 15 numbers; the candidate's diff, gain and shift and the newest filtered value; the ring's 1,920 values; the window's 81 samples. The numbers are both
-// cursors, the count, the candidate's kind (4 for none) and age, whether a wait is held and what is left of it, whether a timer is held and its end, whether a reply is owed; then an answer:
-// the refusal's number or 0, the offered kind or what the carrier query says, the offer's sample, the carrier after a sample, and how many samples were given, by `feed` how many went in. The numbers end at byte 120,
-// the four floats at 136, the ring at 7,816 and the window at 7,978.
+// The receiver's record in bytes: 21 numbers; the candidate's diff, gain and shift and the newest filtered value; the ring's 1,920 values; the window's 81 samples. The numbers are both
+// cursors, the count, the candidate's kind (4 for none), age and taken-at, whether a wait is held, what is left of it, its age and its mark, whether a timer is held and its end, whether a
+// reply is owed; then an answer: the refusal's number or 0, the offered kind or what the carrier query says, the offer's sample, taken-at, age and mark, the carrier after a sample, and how
+// many samples were given, by `feed` how many went in. The numbers end at byte 168, the four floats at 184, the ring at 7,864 and the window at 8,026.
 use demodulator::Candidate;
 use demodulator::Control;
 use demodulator::SoftDemodulator;
@@ -19,6 +19,9 @@ pub(crate) struct Words {
     pub refusal: u64,
     pub answer: u64,
     pub at: u64,
+    pub taken_at: u64,
+    pub age: u64,
+    pub mark: u64,
     pub carrier: u64,
     pub given: usize,
 }
@@ -46,7 +49,7 @@ pub(crate) fn number_of(kind: Kind) -> u64 {
     }
 }
 
-fn candidate_of(n: [u64; 15], four: [f32; 4]) -> Candidate {
+fn candidate_of(n: [u64; 21], four: [f32; 4]) -> Candidate {
     let kind = n[3];
     let age = n[4] % 256;
     if NO_KIND <= kind {
@@ -58,45 +61,51 @@ fn candidate_of(n: [u64; 15], four: [f32; 4]) -> Candidate {
         diff: four[0],
         gain: four[1],
         shift: four[2],
+        taken_at: n[5],
     }
 }
 
-fn wait_of(n: [u64; 15]) -> Wait {
-    let left = n[6] % 65536;
-    if n[5] == 0 {
+fn wait_of(n: [u64; 21]) -> Wait {
+    let left = n[7] % 65536;
+    let age = n[8] % 256;
+    if n[6] == 0 {
         return Wait::Free;
     }
-    Wait::Due(Waiting { left: left as u16 })
+    Wait::Due(Waiting {
+        left: left as u16,
+        age: age as u8,
+        replaced: n[9] != 0,
+    })
 }
 
-fn timer_of(n: [u64; 15]) -> Timer {
-    if n[7] == 0 {
+fn timer_of(n: [u64; 21]) -> Timer {
+    if n[10] == 0 {
         return Timer::Off;
     }
-    Timer::Until(n[8])
+    Timer::Until(n[11])
 }
 
-fn control_of(n: [u64; 15], four: [f32; 4]) -> Control {
+fn control_of(n: [u64; 21], four: [f32; 4]) -> Control {
     Control {
         candidate: candidate_of(n, four),
         wait: wait_of(n),
         dcd: timer_of(n),
-        owed: n[9] != 0,
+        owed: n[12] != 0,
         sample: n[2],
     }
 }
 
 pub(crate) fn record_of(from: &[u8]) -> SoftDemodulator
-    requires { ⌜ 7978 ≤ length (now from) ⌝ }
+    requires { ⌜ 8026 ≤ length (now from) ⌝ }
 {
-    let mut n = [0u64; 15];
+    let mut n = [0u64; 21];
     wire::numbers(from, &mut n);
     let mut four = [0.0f32; 4];
-    wire::floats(&from[120..], &mut four);
+    wire::floats(&from[168..], &mut four);
     let mut rx_win = [0.0f32; 1920];
-    wire::floats(&from[136..], &mut rx_win);
+    wire::floats(&from[184..], &mut rx_win);
     let mut filter_win = [0i16; 81];
-    wire::samples(&from[7816..], &mut filter_win);
+    wire::samples(&from[7864..], &mut filter_win);
     SoftDemodulator {
         filter_win,
         filter_cursor: n[0] as usize,
@@ -115,6 +124,7 @@ fn kind_held(candidate: Candidate) -> u64 {
             diff: _,
             gain: _,
             shift: _,
+            taken_at: _,
         } => number_of(kind),
     }
 }
@@ -128,7 +138,22 @@ fn age_of(candidate: Candidate) -> u64 {
             diff: _,
             gain: _,
             shift: _,
+            taken_at: _,
         } => age as u64,
+    }
+}
+
+fn taken_at_of(candidate: Candidate) -> u64 {
+    match candidate {
+        Candidate::Nothing => 0,
+        Candidate::Held {
+            kind: _,
+            age: _,
+            diff: _,
+            gain: _,
+            shift: _,
+            taken_at,
+        } => taken_at,
     }
 }
 
@@ -141,6 +166,7 @@ fn four_of(candidate: Candidate, newest: f32) -> [f32; 4] {
             diff,
             gain,
             shift,
+            taken_at: _,
         } => [diff, gain, shift, newest],
     }
 }
@@ -159,6 +185,20 @@ fn left_of(wait: Wait) -> u64 {
     }
 }
 
+fn wait_age(wait: Wait) -> u64 {
+    match wait {
+        Wait::Free => 0,
+        Wait::Due(w) => w.age as u64,
+    }
+}
+
+fn wait_mark(wait: Wait) -> u64 {
+    match wait {
+        Wait::Free => 0,
+        Wait::Due(w) => w.replaced as u64,
+    }
+}
+
 fn timer_held(timer: Timer) -> u64 {
     match timer {
         Timer::Off => 0,
@@ -173,7 +213,7 @@ fn end_of(timer: Timer) -> u64 {
     }
 }
 
-fn numbers_of(filter_cursor: usize, rx_cursor: usize, control: Control, told: Words) -> [u64; 15] {
+fn numbers_of(filter_cursor: usize, rx_cursor: usize, control: Control, told: Words) -> [u64; 21] {
     let candidate = control.candidate;
     let wait = control.wait;
     let timer = control.dcd;
@@ -183,14 +223,20 @@ fn numbers_of(filter_cursor: usize, rx_cursor: usize, control: Control, told: Wo
         control.sample,
         kind_held(candidate),
         age_of(candidate),
+        taken_at_of(candidate),
         wait_held(wait),
         left_of(wait),
+        wait_age(wait),
+        wait_mark(wait),
         timer_held(timer),
         end_of(timer),
         control.owed as u64,
         told.refusal,
         told.answer,
         told.at,
+        told.taken_at,
+        told.age,
+        told.mark,
         told.carrier,
         told.given as u64,
     ]
@@ -198,7 +244,7 @@ fn numbers_of(filter_cursor: usize, rx_cursor: usize, control: Control, told: Wo
 
 // The record up to its rings.
 fn lay_front(to: &mut [u8], m: SoftDemodulator, told: Words)
-    requires { ⌜ 136 ≤ length (now to) ⌝ }
+    requires { ⌜ 184 ≤ length (now to) ⌝ }
     ensures { λ _. ⌜ length (now (to .exit)) ≡ length (now (to .entry)) ⌝ }
 {
     let control = m.control;
@@ -208,21 +254,21 @@ fn lay_front(to: &mut [u8], m: SoftDemodulator, told: Words)
     let newest = m.rx_win[last];
     let four = four_of(candidate, newest);
     wire::put_numbers(to, &numbers);
-    wire::put_floats(&mut to[120..], &four);
+    wire::put_floats(&mut to[168..], &four);
 }
 
 fn lay_rings(to: &mut [u8], rx_win: [f32; 1920], filter_win: [i16; 81])
-    requires { ⌜ 7978 ≤ length (now to) ⌝ }
+    requires { ⌜ 8026 ≤ length (now to) ⌝ }
     ensures { λ _. ⌜ length (now (to .exit)) ≡ length (now (to .entry)) ⌝ }
 {
-    wire::put_floats(&mut to[136..], &rx_win);
-    wire::put_samples(&mut to[7816..], &filter_win);
+    wire::put_floats(&mut to[184..], &rx_win);
+    wire::put_samples(&mut to[7864..], &filter_win);
 }
 
 pub(crate) fn put_record(m: SoftDemodulator, told: Words) {
     let rx_win = m.rx_win;
     let filter_win = m.filter_win;
-    let mut bytes = [0u8; 7978];
+    let mut bytes = [0u8; 8026];
     lay_front(&mut bytes, m, told);
     lay_rings(&mut bytes, rx_win, filter_win);
     io::write_all(STDOUT_FILENO, &bytes);
@@ -230,7 +276,7 @@ pub(crate) fn put_record(m: SoftDemodulator, told: Words) {
 
 // What is noted of a sample.
 pub(crate) fn put_front(m: SoftDemodulator, told: Words) {
-    let mut bytes = [0u8; 136];
+    let mut bytes = [0u8; 184];
     lay_front(&mut bytes, m, told);
     io::write_all(STDOUT_FILENO, &bytes);
 }

@@ -14,14 +14,22 @@ pub(crate) struct Held {
     pub diff: f32,
     pub gain: f32,
     pub shift: f32,
+    pub taken_at: u64,
 }
 
-// The control in numbers: the timer's end or NO_TIMER, and what is left of the wait, 0 for none.
+// A wait in numbers: what is left, 0 for none, the age at which it was set, and the mark, 1 for yes.
+pub(crate) struct Waited {
+    pub left: u64,
+    pub age: u64,
+    pub mark: u64,
+}
+
+// The control in numbers: the timer's end or NO_TIMER.
 pub(crate) struct Seen {
     pub count: u64,
     pub timer: u64,
     pub held: Held,
-    pub left: u64,
+    pub wait: Waited,
 }
 
 const NO_KIND: u64 = 4;
@@ -44,6 +52,7 @@ fn nothing_held() -> Held {
         diff: 0.0,
         gain: 0.0,
         shift: 0.0,
+        taken_at: 0,
     }
 }
 
@@ -56,20 +65,30 @@ fn held_of(candidate: Candidate) -> Held {
             diff,
             gain,
             shift,
+            taken_at,
         } => Held {
             kind: kind_number(kind),
             age: age as u64,
             diff,
             gain,
             shift,
+            taken_at,
         },
     }
 }
 
-fn left_of(wait: Wait) -> u64 {
+fn wait_in(wait: Wait) -> Waited {
     match wait {
-        Wait::Free => 0,
-        Wait::Due(w) => w.left as u64,
+        Wait::Free => Waited {
+            left: 0,
+            age: 0,
+            mark: 0,
+        },
+        Wait::Due(w) => Waited {
+            left: w.left as u64,
+            age: w.age as u64,
+            mark: w.replaced as u64,
+        },
     }
 }
 
@@ -97,7 +116,7 @@ pub(crate) fn look_at(receiver: SoftDemodulator) -> Seen {
         count: control.sample,
         timer: end_told(receiver.data_carrier_detect(), timer),
         held: held_of(candidate),
-        left: left_of(wait),
+        wait: wait_in(wait),
     }
 }
 
@@ -141,6 +160,7 @@ fn is_older(a: Held, b: Held, by: u64) -> bool {
         & (a.diff == b.diff)
         & (a.gain == b.gain)
         & (a.shift == b.shift)
+        & (a.taken_at == b.taken_at)
 }
 
 fn put_candidate(count: u64, before: Held, now: Held) {
@@ -159,24 +179,29 @@ fn put_candidate(count: u64, before: Held, now: Held) {
         cases_text::put_float(now.diff);
         cases_text::put_float(now.gain);
         cases_text::put_float(now.shift);
+        cases_text::put_count(now.taken_at);
     }
     cases_text::end_line();
 }
 
 // That a wait runs down is no event.
 fn put_wait(before: Seen, now: Seen) {
-    let left = before.left;
-    let run_down = if 1 < left { left - 1 } else { 0 };
-    if now.left != run_down {
+    let was = before.wait;
+    let is = now.wait;
+    let run_down = if 1 < was.left { was.left - 1 } else { 0 };
+    if is.left != run_down {
         put_event(before.count, b"wait");
-        cases_text::put_count(now.left);
+        cases_text::put_count(is.left);
+        cases_text::put_count(is.age);
+        cases_text::put_count(is.mark);
         cases_text::end_line();
     }
 }
 
 // A candidate whose frame comes due goes with it.
 fn still_held(before: Seen) -> Held {
-    if before.left == 1 {
+    let wait = before.wait;
+    if wait.left == 1 {
         nothing_held()
     } else {
         before.held

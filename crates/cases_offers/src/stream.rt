@@ -51,6 +51,9 @@ fn put_offer(before: u64, offer: Offer, room: [f32; 192]) {
     changes::put_event(before, b"offer");
     changes::put_kind(changes::kind_number(kind));
     cases_text::put_count(offer.sample);
+    cases_text::put_count(offer.taken_at);
+    cases_text::put_count(offer.age as u64);
+    cases_text::put_count(offer.replaced as u64);
     put_symbols(room);
 }
 

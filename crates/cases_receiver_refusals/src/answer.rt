@@ -1,6 +1,25 @@
 // The answer to a call, and how it is written.
 
-// Its word; the refusal's number; whether record or room is not as it was; how many samples went in or bytes were taken, with the text that says which; how many of the ring's values are new; how many of the room's first places are written, as many as an offer or a line has, and of those past them; the age of the candidate that is held then, 256 where none is; and whether a byte waits.
+// What an offer reports of its burst: the sample at which it was taken, 0 where there is no offer, the age at which its wait was set, and the mark.
+pub(crate) struct Found {
+    pub at: u64,
+    pub kept: u64,
+    pub marked: bool,
+}
+
+pub(crate) fn nothing_found() -> Found {
+    Found {
+        at: 0,
+        kept: 0,
+        marked: false,
+    }
+}
+
+fn same_found(a: Found, b: Found) -> bool {
+    (a.at == b.at) & (a.kept == b.kept) & (a.marked == b.marked)
+}
+
+// Its word; the refusal's number; whether record or room is not as it was; how many samples went in or bytes were taken, with the text that says which; how many of the ring's values are new; how many of the room's first places are written, as many as an offer or a line has, and of those past them; the age of the candidate that is held then, 256 where none is; whether a byte waits; and what an offer reports.
 pub(crate) struct Answer {
     pub word: usize,
     pub number: u32,
@@ -12,9 +31,12 @@ pub(crate) struct Answer {
     pub past: u64,
     pub age: u64,
     pub waits: bool,
+    pub found: Found,
 }
 
 pub(crate) fn same_answer(a: Answer, b: Answer) -> bool {
+    let found = a.found;
+    let other = b.found;
     (a.word == b.word)
         & (a.number == b.number)
         & (a.changed == b.changed)
@@ -24,6 +46,7 @@ pub(crate) fn same_answer(a: Answer, b: Answer) -> bool {
         & (a.past == b.past)
         & (a.age == b.age)
         & (a.waits == b.waits)
+        & same_found(found, other)
 }
 
 // The texts that are written, by their places among them; those of a call that is taken and leaves a record come before those of the carrier.
@@ -71,9 +94,15 @@ pub(crate) const TAKEN: usize = 20;
 
 const WAITS: usize = 21;
 
+const TAKEN_AT: usize = 22;
+
+const KEPT: usize = 23;
+
+const MARKED: usize = 24;
+
 pub(crate) fn put_text(k: usize) {
     let texts =
-        b"refused|quiet|offered|done|admitted|no|yes|; | in| places| and changed|,| new| written| past|, age||, unchanged|no such call| fed| taken|, a byte waits";
+        b"refused|quiet|offered|done|admitted|no|yes|; | in| places| and changed|,| new| written| past|, age||, unchanged|no such call| fed| taken|, a byte waits|, taken at|, kept age|, marked";
     io::write_all(1, cases_text::cell(texts, k));
 }
 
@@ -92,13 +121,24 @@ fn put_refusal(number: u32, changed: bool) {
     }
 }
 
+fn put_found(found: Found) {
+    let offered = 0 < found.at;
+    put_part(offered, TAKEN_AT, found.at, NOTHING);
+    put_part(offered, KEPT, found.kept, NOTHING);
+    if found.marked {
+        put_text(MARKED);
+    }
+}
+
 fn put_taken(a: Answer) {
     let offered = (0 < a.written) | (0 < a.past);
+    let found = a.found;
     put_part(a.counted != NOTHING, COMMA, a.count, a.counted);
     put_part(true, COMMA, a.new, NEW);
     put_part(offered, COMMA, a.written, WRITTEN);
     put_part(offered, COMMA, a.past, PAST);
     put_part(a.age < 256, AGE, a.age, NOTHING);
+    put_found(found);
     if a.waits {
         put_text(WAITS);
     }

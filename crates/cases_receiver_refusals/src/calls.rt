@@ -1,6 +1,7 @@
 // The receiver's calls on a made-up record.
 use crate::answer;
 use crate::answer::Answer;
+use crate::answer::Found;
 use crate::made;
 use crate::many;
 use crate::same;
@@ -27,52 +28,51 @@ pub(crate) fn written(room: [f32; 200], from: usize, to: usize) -> u64 {
     count
 }
 
-// An answer's word, and the number of a refusal.
+// An answer's word, the number of a refusal, and what an offer reports.
 pub(crate) struct Said {
     pub word: usize,
     pub number: u32,
+    pub found: Found,
+}
+
+pub(crate) fn no_offer(word: usize, number: u32) -> Said {
+    Said {
+        word,
+        number,
+        found: answer::nothing_found(),
+    }
 }
 
 pub(crate) fn heard(answer: Heard) -> Said {
     match answer {
-        Heard::Refused(why) => Said {
-            word: answer::REFUSED,
-            number: why.number(),
-        },
-        Heard::Quiet => Said {
-            word: answer::QUIET,
-            number: 0,
-        },
-        Heard::Offered(_) => Said {
+        Heard::Refused(why) => no_offer(answer::REFUSED, why.number()),
+        Heard::Quiet => no_offer(answer::QUIET, 0),
+        Heard::Offered(offer) => Said {
             word: answer::OFFERED,
             number: 0,
+            found: Found {
+                at: offer.taken_at,
+                kept: offer.age as u64,
+                marked: offer.replaced,
+            },
         },
     }
 }
 
 fn replied(answer: Replied) -> Said {
     match answer {
-        Replied::Refused(why) => Said {
-            word: answer::REFUSED,
-            number: why.number(),
-        },
-        Replied::Done => Said {
-            word: answer::DONE,
-            number: 0,
-        },
+        Replied::Refused(why) => no_offer(answer::REFUSED, why.number()),
+        Replied::Done => no_offer(answer::DONE, 0),
     }
 }
 
 fn queried(answer: Carrier) -> Said {
     match answer {
-        Carrier::Refused(why) => Said {
-            word: answer::REFUSED,
-            number: why.number(),
-        },
-        Carrier::Detected(yes) => Said {
-            word: if yes { answer::YES } else { answer::NO },
-            number: 0,
-        },
+        Carrier::Refused(why) => no_offer(answer::REFUSED, why.number()),
+        Carrier::Detected(yes) => {
+            let word = if yes { answer::YES } else { answer::NO };
+            no_offer(word, 0)
+        }
     }
 }
 
@@ -90,6 +90,7 @@ pub(crate) fn left(
     let candidate = control.candidate;
     let held = same::held_of(candidate);
     let new = same::new_values(ring, rings);
+    let found = said.found;
     Answer {
         word: said.word,
         number: said.number,
@@ -101,6 +102,7 @@ pub(crate) fn left(
         past,
         age: held.age,
         waits: false,
+        found,
     }
 }
 
@@ -153,6 +155,7 @@ fn unknown() -> Answer {
         past: 0,
         age: 256,
         waits: false,
+        found: answer::nothing_found(),
     }
 }
 

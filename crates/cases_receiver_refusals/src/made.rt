@@ -82,24 +82,36 @@ fn kind(words: &[u8]) -> Kind {
     Kind::Lsf
 }
 
+fn count(words: &[u8]) -> u64 {
+    cases_text::count_behind(words, b"count", 1000)
+}
+
+// Taken at the last sample, where the words do not say at which.
 fn candidate(words: &[u8]) -> Candidate {
     if !cases_text::names(words, b"held") {
         return Candidate::Nothing;
     }
     let age = cases_text::count_behind(words, b"age", 1) % 256;
+    let last = count(words);
     Candidate::Held {
         kind: kind(words),
         age: age as u8,
         diff: cases_text::float_behind(words, b"diff", 1.0),
         gain: cases_text::float_behind(words, b"gain", 20.0),
         shift: cases_text::float_behind(words, b"shift", 5.0),
+        taken_at: cases_text::count_behind(words, b"taken", last),
     }
 }
 
 fn wait(words: &[u8]) -> Wait {
     let left = cases_text::count_behind(words, b"wait", 65536);
+    let age = cases_text::count_behind(words, b"kept", 1) % 256;
     if left < 65536 {
-        return Wait::Due(Waiting { left: left as u16 });
+        return Wait::Due(Waiting {
+            left: left as u16,
+            age: age as u8,
+            replaced: cases_text::names(words, b"marked"),
+        });
     }
     Wait::Free
 }
@@ -117,7 +129,7 @@ fn control(words: &[u8]) -> Control {
         wait: wait(words),
         dcd: timer(words),
         owed: cases_text::names(words, b"owed"),
-        sample: cases_text::count_behind(words, b"count", 1000),
+        sample: count(words),
     }
 }
 

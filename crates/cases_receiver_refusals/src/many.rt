@@ -27,6 +27,7 @@ fn asked(words: &[u8], name: &[u8], own: u64, most: usize) -> usize
 }
 
 fn counted(plain: Answer, text: usize, count: u64) -> Answer {
+    let found = plain.found;
     Answer {
         word: plain.word,
         number: plain.number,
@@ -38,6 +39,7 @@ fn counted(plain: Answer, text: usize, count: u64) -> Answer {
         past: plain.past,
         age: plain.age,
         waits: plain.waits,
+        found,
     }
 }
 
@@ -99,14 +101,8 @@ pub(crate) fn rest(words: &[u8], place: usize) -> Answer {
 
 fn admitted(answer: Receipt) -> Said {
     match answer {
-        Receipt::Refused(why) => Said {
-            word: answer::REFUSED,
-            number: why.number(),
-        },
-        Receipt::Admitted => Said {
-            word: answer::ADMITTED,
-            number: 0,
-        },
+        Receipt::Refused(why) => calls::no_offer(answer::REFUSED, why.number()),
+        Receipt::Admitted => calls::no_offer(answer::ADMITTED, 0),
     }
 }
 
@@ -140,6 +136,7 @@ fn odd(words: &[u8]) -> Odd {
 
 fn with_odd(plain: Answer, before: u64, after: u64) -> Answer {
     let changed = plain.changed | (before != after);
+    let found = plain.found;
     Answer {
         word: plain.word,
         number: plain.number,
@@ -151,6 +148,7 @@ fn with_odd(plain: Answer, before: u64, after: u64) -> Answer {
         past: plain.past,
         age: plain.age,
         waits: after < 256,
+        found,
     }
 }
 

@@ -36,6 +36,7 @@ pub(crate) struct Held {
     pub diff: f32,
     pub gain: f32,
     pub shift: f32,
+    pub taken_at: u64,
 }
 
 fn place_in_order(kind: Kind) -> u8 {
@@ -55,6 +56,7 @@ pub(crate) fn held_of(candidate: Candidate) -> Held {
             diff: 0.0,
             gain: 0.0,
             shift: 0.0,
+            taken_at: 0,
         },
         Candidate::Held {
             kind,
@@ -62,12 +64,14 @@ pub(crate) fn held_of(candidate: Candidate) -> Held {
             diff,
             gain,
             shift,
+            taken_at,
         } => Held {
             kind: place_in_order(kind),
             age: age as u64,
             diff,
             gain,
             shift,
+            taken_at,
         },
     }
 }
@@ -78,13 +82,19 @@ fn same_held(a: Held, b: Held) -> bool {
         & cases_text::same_float(a.diff, b.diff)
         & cases_text::same_float(a.gain, b.gain)
         & cases_text::same_float(a.shift, b.shift)
+        & (a.taken_at == b.taken_at)
 }
 
-// More than a wait can hold stands for none.
-fn left_of(wait: Wait) -> u64 {
-    match wait {
-        Wait::Free => 65536,
-        Wait::Due(w) => w.left as u64,
+fn same_wait(a: Wait, b: Wait) -> bool {
+    match a {
+        Wait::Free => match b {
+            Wait::Free => true,
+            Wait::Due(_) => false,
+        },
+        Wait::Due(w) => match b {
+            Wait::Free => false,
+            Wait::Due(v) => (w.left == v.left) & (w.age == v.age) & (w.replaced == v.replaced),
+        },
     }
 }
 
@@ -109,7 +119,7 @@ fn same_control(a: Control, b: Control) -> bool {
     let timer = a.dcd;
     let timers = b.dcd;
     same_held(held_of(candidate), held_of(candidates))
-        & (left_of(wait) == left_of(waits))
+        & same_wait(wait, waits)
         & same_timer(timer, timers)
         & (a.owed == b.owed)
         & (a.sample == b.sample)

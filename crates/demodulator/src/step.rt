@@ -62,6 +62,9 @@ fn advance(
                 answer: Heard::Offered(Offer {
                     kind,
                     sample: owing.sample,
+                    taken_at: shown.taken_at,
+                    age: shown.age,
+                    replaced: shown.replaced,
                 }),
                 places,
                 control: owing,

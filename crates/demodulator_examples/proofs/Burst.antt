@@ -125,9 +125,9 @@ module _ (front : List ℤ) (x y : ℤ) (more : List ℤ) (seventy : length fron
         ap₁ j = is-true (sameKind j j) (same-self j)
 
     -- at 72 it fails: what the pass leaves then
-    module _ (hit : Kind → Bool) (second : Hits (ear 72) hit) (held : Candidate) (left : ℕ)
-        (leaves : (t : Timer) → (u : Timer) × (passBy 10 hit (λ j. at ear j 72) (controlled (heldAs (takenAt ear k 71)) Free t false 72) .control ≡ controlled held (waiting left) u false 72)) where
-      pub after-72 : (t : Timer) × (historyAll taps 10 (fed upTo72) ≡ standing upTo72 held (waiting left) t 72)
+    module _ (hit : Kind → Bool) (second : Hits (ear 72) hit) (held : Candidate) (age : ℕ) (mark : Bool) (left : ℕ)
+        (leaves : (t : Timer) → (u : Timer) × (passBy 10 hit (λ j. at ear j 72) (controlled (heldAs (takenAt ear k 71)) Free t false 72) .control ≡ controlled held (waiting age mark left) u false 72)) where
+      pub after-72 : (t : Timer) × (historyAll taps 10 (fed upTo72) ≡ standing upTo72 held (waiting age mark left) t 72)
       after-72 =
           let (t, e) = after-71 in
           let (u, f) = next-search all upTo71 y more 71 length71 part71 (lit< tt) (heldAs (takenAt ear k 71)) t hit second in
@@ -136,22 +136,22 @@ module _ (front : List ℤ) (x y : ℤ) (more : List ℤ) (seventy : length fron
 
       -- the frame falls due once `left` more samples are fed
       module _ (zs : List ℤ) (z : ℤ) (rest : List ℤ) (goes : more ≡ zs ++ (z ∷ rest)) (enough : length zs + 1 ≡ left) (short : left ≤ 4000) where
-        pub before-due : (t : Timer) × (historyAll taps 10 (fed (upTo72 ++ zs)) ≡ standing (upTo72 ++ zs) held lastSample t (71 + left))
+        pub before-due : (t : Timer) × (historyAll taps 10 (fed (upTo72 ++ zs)) ≡ standing (upTo72 ++ zs) held (lastSample age mark) t (71 + left))
         before-due =
             let (t, e) = after-72 in
-            let (u, f) = wait-run zs upTo72 held t 72 left (omega arith) (omega arith) in
+            let (u, f) = wait-run age mark zs upTo72 held t 72 left (omega arith) (omega arith) in
             let last : left - length zs ≡ 1 = omega arith in
             let count : 72 + length zs ≡ 71 + left = omega arith in (
               u,
               ap (run (singleRules taps 10) start) (fed-append upTo72 zs) ∙ run-joined (singleRules taps 10) (fed upTo72) (fed zs) start ∙ ap (λ (h : History). run (singleRules taps 10) h (fed zs)) e ∙ f
-                  ∙ ap (λ (m : ℕ). standing (upTo72 ++ zs) held (waiting m) u (72 + length zs)) last
-                  ∙ ap (standing (upTo72 ++ zs) held lastSample u) count,
+                  ∙ ap (λ (m : ℕ). standing (upTo72 ++ zs) held (waiting age mark m) u (72 + length zs)) last
+                  ∙ ap (standing (upTo72 ++ zs) held (lastSample age mark) u) count,
             )
 
-        pub falls-due : (now : TakenBurst) → held ≡ heldAs now → In (FellDue (72 + left) (shownOf now)) (logAll taps 10 (fed all))
+        pub falls-due : (now : TakenBurst) → held ≡ heldAs now → In (FellDue (72 + left) (shownOf now age mark)) (logAll taps 10 (fed all))
         falls-due now is =
             let (t, e) = before-due in
             let part : all ≡ (upTo72 ++ zs) ++ (z ∷ rest) = part72 ∙ ap (λ (l : List ℤ). upTo72 ++ l) goes ∙ sym (append-assoc upTo72 zs (z ∷ rest)) in
             let count : 72 + left ≡ (71 + left) + 1 = omega arith in
-            marked-after all small few (FellDue (72 + left) (shownOf now)) (upTo72 ++ zs) z rest part (standing (upTo72 ++ zs) held lastSample t (71 + left)) e refl (omega arith)
+            marked-after all small few (FellDue (72 + left) (shownOf now age mark)) (upTo72 ++ zs) z rest part (standing (upTo72 ++ zs) held (lastSample age mark) t (71 + left)) e refl (omega arith)
             (z, room, refl, count, refl, (now, is, refl))

@@ -39,9 +39,9 @@ one-burst-span = spans oneBurst
 pub one-burst-span-sharp : (d : ℕ) × DueAt (logAll taps 10 (calls oneBurst)) d × (71 + 1839 ≤ d) × (d ≤ 71 + 1849)
 one-burst-span-sharp = spans-sharp oneBurst
 
-pub one-burst-due : In (FellDue 1911 (shownAt (shaped oneBurst) Stream 71)) (logAll taps 10 (calls oneBurst))
+pub one-burst-due : In (FellDue 1911 (shownAt (shaped oneBurst) Stream 71 1 false)) (logAll taps 10 (calls oneBurst))
 one-burst-due =
-    due-mark oneBurst (takenAt (shaped oneBurst) Stream 71) 1839 (lit≤ tt) (lit≤ tt)
+    due-mark oneBurst (takenAt (shaped oneBurst) Stream 71) 1 false 1839 (lit≤ tt) (lit≤ tt)
     (λ t. (Until (72 + 384 * 10), ap (λ (s : Step). s .control) (pass-lost 10 (λ i. at (shaped oneBurst) i 72) t false 72 (takenAt (shaped oneBurst) Stream 71))))
 
 -- it is the only one of the span, and comes from that candidate
@@ -72,17 +72,17 @@ module _ (S : Sketch) (d : ℕ) (w : Shown) where
       → (Corner e (C .b) (C .kind) (C .s) × LiesAt taps 10 xs w 0 (C .b - 71)) ⊎ ((Corner e (C .b) (C .kind) (C .s) → ⊥) × LiesAt taps 10 xs w 0 (C .b - 70))) (sym (ear-same S))
       (λ D. symbol-zero-48 (calls S) (sampled S) (C .b) (C .kind) (C .s) d w D xs n) (C .due)
 
-pub one-burst-rule : (K : Known oneBurst 1911 (shownAt (shaped oneBurst) Stream 71)) × (Corner (shaped oneBurst) (K .from .b) (K .from .kind) (K .from .s) → ⊥)
+pub one-burst-rule : (K : Known oneBurst 1911 (shownAt (shaped oneBurst) Stream 71 1 false)) × (Corner (shaped oneBurst) (K .from .b) (K .from .kind) (K .from .s) → ⊥)
 one-burst-rule =
-    let K = known oneBurst 1911 (shownAt (shaped oneBurst) Stream 71) (lit≤ tt) one-burst-due in
+    let K = known oneBurst 1911 (shownAt (shaped oneBurst) Stream 71 1 false) (lit≤ tt) one-burst-due in
     (K, elim (K .from .due .sample) [ inl c ↦ absurd (let e = K .b in let f = c .1 in omega arith) | inr c ↦ c .0 ])
 
-pub one-burst-symbol-zero : (xs : List ℤ) → length xs ≡ 1911 → LiesAt taps 10 xs (shownAt (shaped oneBurst) Stream 71) 0 1
+pub one-burst-symbol-zero : (xs : List ℤ) → length xs ≡ 1911 → LiesAt taps 10 xs (shownAt (shaped oneBurst) Stream 71 1 false) 0 1
 one-burst-symbol-zero xs n =
     let (K, plain) = one-burst-rule in
-    elim (symbol-lies oneBurst 1911 (shownAt (shaped oneBurst) Stream 71) (K .from) xs n) [
+    elim (symbol-lies oneBurst 1911 (shownAt (shaped oneBurst) Stream 71 1 false) (K .from) xs n) [
       | inl r ↦ absurd (plain (r .0))
-      | inr r ↦ subst (λ (b : ℕ). LiesAt taps 10 xs (shownAt (shaped oneBurst) Stream 71) 0 (b - 70)) (K .b) (r .1)
+      | inr r ↦ subst (λ (b : ℕ). LiesAt taps 10 xs (shownAt (shaped oneBurst) Stream 71 1 false) 0 (b - 70)) (K .b) (r .1)
     ]
 
 -- ---- the corner: the earlier-listed LSF matches at 72 with a larger diff, and the Stream frame is due at 71 + 1,839
@@ -92,21 +92,21 @@ earlier-above =
     ∙ ap (λ (c : Correlation). lt (correlation (Frame Stream) (listed (earlierLarger .table) 71) .diff) (c .diff)) (correlates earlierLarger 72 (lit≤ tt) Lsf)
     ∙ larger-diff
 
-pub corner-due : In (FellDue 1910 (shownAt (shaped earlierLarger) Stream 71)) (logAll taps 10 (calls earlierLarger))
+pub corner-due : In (FellDue 1910 (shownAt (shaped earlierLarger) Stream 71 2 false)) (logAll taps 10 (calls earlierLarger))
 corner-due =
-    due-mark earlierLarger (aged (takenAt (shaped earlierLarger) Stream 71)) 1838 (lit≤ tt) (lit≤ tt)
+    due-mark earlierLarger (aged (takenAt (shaped earlierLarger) Stream 71)) 2 false 1838 (lit≤ tt) (lit≤ tt)
     (λ t. (Until (72 + 384 * 10), ap (λ (s : Step). s .control) (pass-hit 10 (λ i. at (shaped earlierLarger) i 72) t false 72 (takenAt (shaped earlierLarger) Stream 71) Lsf true earlier-above)))
 
-pub corner-rule : (K : Known earlierLarger 1910 (shownAt (shaped earlierLarger) Stream 71)) × Corner (shaped earlierLarger) (K .from .b) (K .from .kind) (K .from .s)
+pub corner-rule : (K : Known earlierLarger 1910 (shownAt (shaped earlierLarger) Stream 71 2 false)) × Corner (shaped earlierLarger) (K .from .b) (K .from .kind) (K .from .s)
 corner-rule =
-    let K = known earlierLarger 1910 (shownAt (shaped earlierLarger) Stream 71) (lit≤ tt) corner-due in
+    let K = known earlierLarger 1910 (shownAt (shaped earlierLarger) Stream 71 2 false) (lit≤ tt) corner-due in
     (K, elim (K .from .due .sample) [ inl c ↦ c .0 | inr c ↦ absurd (let e = K .b in let f = c .1 in omega arith) ])
 
-pub corner-symbol-zero : (xs : List ℤ) → length xs ≡ 1910 → LiesAt taps 10 xs (shownAt (shaped earlierLarger) Stream 71) 0 0
+pub corner-symbol-zero : (xs : List ℤ) → length xs ≡ 1910 → LiesAt taps 10 xs (shownAt (shaped earlierLarger) Stream 71 2 false) 0 0
 corner-symbol-zero xs n =
     let (K, corner) = corner-rule in
-    elim (symbol-lies earlierLarger 1910 (shownAt (shaped earlierLarger) Stream 71) (K .from) xs n) [
-      | inl r ↦ subst (λ (b : ℕ). LiesAt taps 10 xs (shownAt (shaped earlierLarger) Stream 71) 0 (b - 71)) (K .b) (r .1)
+    elim (symbol-lies earlierLarger 1910 (shownAt (shaped earlierLarger) Stream 71 2 false) (K .from) xs n) [
+      | inl r ↦ subst (λ (b : ℕ). LiesAt taps 10 xs (shownAt (shaped earlierLarger) Stream 71 2 false) 0 (b - 71)) (K .b) (r .1)
       | inr r ↦ absurd (r .0 corner)
     ]
 
@@ -117,11 +117,11 @@ later-not-above =
     ∙ ap (λ (c : Correlation). lt (correlation (Frame Lsf) (listed (laterSmaller .table) 71) .diff) (c .diff)) (correlates laterSmaller 72 (lit≤ tt) Stream)
     ∙ smaller-diff
 
-pub replaced-due : In (FellDue 1911 (shownAt (shaped laterSmaller) Stream 72)) (logAll taps 10 (calls laterSmaller))
+pub replaced-due : In (FellDue 1911 (shownAt (shaped laterSmaller) Stream 72 1 true)) (logAll taps 10 (calls laterSmaller))
 replaced-due =
-    due-mark laterSmaller (takenAt (shaped laterSmaller) Stream 72) 1839 (lit≤ tt) (lit≤ tt)
+    due-mark laterSmaller (takenAt (shaped laterSmaller) Stream 72) 1 true 1839 (lit≤ tt) (lit≤ tt)
     (λ t. (Until (72 + 384 * 10), ap (λ (s : Step). s .control) (pass-hit 10 (λ i. at (shaped laterSmaller) i 72) t false 72 (takenAt (shaped laterSmaller) Lsf 71) Stream false later-not-above)))
 
-pub replaced-rule : (K : Known laterSmaller 1911 (shownAt (shaped laterSmaller) Stream 72)) × Replaces (shaped laterSmaller) 71 Lsf 72 Stream
+pub replaced-rule : (K : Known laterSmaller 1911 (shownAt (shaped laterSmaller) Stream 72 1 true)) × Replaces (shaped laterSmaller) 71 Lsf 72 Stream
 replaced-rule =
-    (known laterSmaller 1911 (shownAt (shaped laterSmaller) Stream 72) (lit≤ tt) replaced-due, (lit< tt, holds (at-72 laterSmaller Stream), λ t. no→⊥ later-not-above t))
+    (known laterSmaller 1911 (shownAt (shaped laterSmaller) Stream 72 1 true) (lit≤ tt) replaced-due, (lit< tt, holds (at-72 laterSmaller Stream), λ t. no→⊥ later-not-above t))

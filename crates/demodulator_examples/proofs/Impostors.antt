@@ -54,11 +54,11 @@ pub not-refusing : fedAll taps 10 (calls oneBurst) ≡ 1972
 not-refusing = fed-number oneBurst
 
 -- ---- 2: it finds nothing. The list's sample 1,911 is answered with a frame, by the rules and by the record.
-pub finds : OfferedAt taps 10 1911 (shownAt (shaped oneBurst) Stream 71) (calls oneBurst)
-finds = due-offered-48 (calls oneBurst) (small oneBurst) 1911 (shownAt (shaped oneBurst) Stream 71) one-burst-due
+pub finds : OfferedAt taps 10 1911 (shownAt (shaped oneBurst) Stream 71 1 false) (calls oneBurst)
+finds = due-offered-48 (calls oneBurst) (small oneBurst) 1911 (shownAt (shaped oneBurst) Stream 71 1 false) one-burst-due
 
-pub finds-another : OfferedAt taps 10 1910 (shownAt (shaped earlierLarger) Stream 71) (calls earlierLarger)
-finds-another = due-offered-48 (calls earlierLarger) (small earlierLarger) 1910 (shownAt (shaped earlierLarger) Stream 71) corner-due
+pub finds-another : OfferedAt taps 10 1910 (shownAt (shaped earlierLarger) Stream 71 2 false) (calls earlierLarger)
+finds-another = due-offered-48 (calls earlierLarger) (small earlierLarger) 1910 (shownAt (shaped earlierLarger) Stream 71 2 false) corner-due
 
 -- ---- 3: it always offers one window. The two offers' windows differ in their first symbol.
 module _ {cs : List Single} {d : ℕ} {w : Shown} (O : OfferedAt taps 10 d w cs) where
@@ -109,7 +109,7 @@ module _ {cs : List Single} {d : ℕ} {w : Shown} (O : OfferedAt taps 10 d w cs)
       ∙ filtered-taken taps 10 (taps-size at48 facts48) (length zs) (zs ++ m) (d - 1910) (omega arith)
       ∙ ap (λ (l : List ℤ). filtered taps 10 l (d - 1910)) (sym e))
 
-pub record-finds : left at48 (recordAfter at48 (finds .before)) (sample (finds .value) (finds .room)) .answer ≡ frame (record { kind = Stream; sample = 1911 })
+pub record-finds : left at48 (recordAfter at48 (finds .before)) (sample (finds .value) (finds .room)) .answer ≡ frame (record { kind = Stream; sample = 1911; «taken_at» = 71; age = 1; replaced = false })
 record-finds = record-answers finds (small oneBurst)
 
 -- the first symbol of each, by its table
@@ -145,6 +145,6 @@ windows-differ e =
     true≢false (sym low ∙ ap (λ (l : List Float). lt (getD l 0 nought) half) e ∙ high)
 
 -- ---- 4: it works to its first frame and idles. The same burst given twice is offered twice: at 1,911, and at 3,883.
-pub works-on : OfferedAt taps 10 1911 (shownAt (earOf taps 10 (both oneBurst (oneBurst .facts .second))) Stream 71) (fed (both oneBurst (oneBurst .facts .second)))
+pub works-on : OfferedAt taps 10 1911 (shownAt (earOf taps 10 (both oneBurst (oneBurst .facts .second))) Stream 71 1 false) (fed (both oneBurst (oneBurst .facts .second)))
     × ((w : Shown) × (w .kind ≡ Stream) × OfferedAt taps 10 3883 w (fed (both oneBurst (oneBurst .facts .second))))
 works-on = (first-frame oneBurst (oneBurst .facts .second), second-frame oneBurst (oneBurst .facts .second))

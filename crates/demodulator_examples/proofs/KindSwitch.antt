@@ -144,14 +144,14 @@ log-append (c ∷ cs) ds h = ap (λ (l : List Mark). calledMarks taps 10 h c ++ 
 
 -- ---- no wait is set there
 -- the marks up to 71 are of samples up to 71
-early : (i : Kind) → In (Failed 72 i) (logAll taps 10 (fed before)) → ⊥
-early i m =
+early : (i : Kind) (since : ℕ) → In (Failed 72 i since) (logAll taps 10 (fed before)) → ⊥
+early i since m =
     let s : Each Callable (fed before) = fed-sampled before (sixteen-front before (y ∷ []) (subst Sixteen part sixteen)) in
     let a = alone-at at48 facts48 (fed before) s in
     let b = again-at at48 facts48 (fed before) s in
     let (t, e) = held in
     let n = ap (λ (h : History). h .control .sample) e in
-    let u = kept-past (earAll taps 10 (fed before)) 10 (logAll taps 10 (fed before)) (historyAll taps 10 (fed before) .control) (kept-all taps 10 (fed before) (size-at at48 facts48) a b) (Failed 72 i) m in
+    let u = kept-past (earAll taps 10 (fed before)) 10 (logAll taps 10 (fed before)) (historyAll taps 10 (fed before) .control) (kept-all taps 10 (fed before) (size-at at48 facts48) a b) (Failed 72 i since) m in
     omega arith
 
 log-72 : (t : Timer) → logFrom taps 10 (holding t) (sample y room ∷ reply Accepted ∷ []) ≡ Anew 72 Packet Stream ∷ []
@@ -170,9 +170,9 @@ log-parts =
     ∙ ap (λ (l : List Mark). logAll taps 10 (fed before) ++ l) (ap (λ (h : History). logFrom taps 10 h (sample y room ∷ reply Accepted ∷ [])) e ∙ log-72 t)
 
 pub no-wait : WaitSet (logAll taps 10 calls) 72 → ⊥
-no-wait w = elim (List·Memᴰ·append-cases (logAll taps 10 (fed before)) (subst (In (Failed 72 (w .0))) log-parts (w .1))) [
-  | inl m ↦ early (w .0) m
-  | inr m ↦ let e : Failed 72 (w .0) ≡ Anew 72 Packet Stream = List·Memᴰ·eq-of-singleton m in let z : _≡_ {A = ℕ} 0 1 = cc in omega arith
+no-wait w = elim (List·Memᴰ·append-cases (logAll taps 10 (fed before)) (subst (In (Failed 72 (w .0) (w .1))) log-parts (w .2))) [
+  | inl m ↦ early (w .0) (w .1) m
+  | inr m ↦ let e : Failed 72 (w .0) (w .1) ≡ Anew 72 Packet Stream = List·Memᴰ·eq-of-singleton m in let z : _≡_ {A = ℕ} 0 1 = cc in omega arith
 ]
 
 pub went-earlier : rank Stream < rank Packet

@@ -90,9 +90,9 @@ module _ (S : Sketch) (fades : Hits (listed (S .table) 72) none) where
   abbrev upToDue : List ℤ
   upToDue = first72 ++ pause 1838
 
-  waits : (t : Timer) × (historyAll taps 10 (fed upToDue) ≡ standing upToDue (heldAs held71) lastSample t 1910)
+  waits : (t : Timer) × (historyAll taps 10 (fed upToDue) ≡ standing upToDue (heldAs held71) (lastSample 1 false) t 1910)
   waits =
-      before-due (S .front) (S .x) (S .y) (pause 1900 ++ samples S) (S .facts .seventy) both-sixteen few none-before (S .kind) at-71 none at-72 (heldAs held71) 1839
+      before-due (S .front) (S .x) (S .y) (pause 1900 ++ samples S) (S .facts .seventy) both-sixteen few none-before (S .kind) at-71 none at-72 (heldAs held71) 1 false 1839
       (λ t. (Until (72 + 384 * 10), ap (λ (s : Step). s .control) (pass-lost 10 (λ i. at hear i 72) t false 72 held71)))
       (pause 1838) (pos 0) (pause 61 ++ samples S) goes (let n = pause-length 1838 in omega arith) (lit≤ tt)
 
@@ -103,7 +103,7 @@ module _ (S : Sketch) (fades : Hits (listed (S .table) 72) none) where
   after-offer : (t : Timer) × (historyAll taps 10 (fed offered1911) ≡ standing offered1911 Nothing Free t 1911)
   after-offer =
       let (t, e) = waits in
-      (_, one-more upToDue (pos 0) ∙ ap (λ (h : History). next h (pos 0)) e ∙ next-due upToDue (pos 0) 1910 (lit< tt) held71 t)
+      (_, one-more upToDue (pos 0) ∙ ap (λ (h : History). next h (pos 0)) e ∙ next-due 1 false upToDue (pos 0) 1910 (lit< tt) held71 t)
 
   length-offered : length offered1911 ≡ 1911
   length-offered =
@@ -162,10 +162,10 @@ module _ (S : Sketch) (fades : Hits (listed (S .table) 72) none) where
   both-fed = fed-all both both-sixteen few ∙ both-number
 
   -- both frames are offered
-  pub first-frame : OfferedAt taps 10 1911 (shownAt hear (S .kind) 71) (fed both)
+  pub first-frame : OfferedAt taps 10 1911 (shownAt hear (S .kind) 71 1 false) (fed both)
   first-frame =
-      due-offered-48 (fed both) both-sampled 1911 (shownAt hear (S .kind) 71)
-      (falls-due (S .front) (S .x) (S .y) (pause 1900 ++ samples S) (S .facts .seventy) both-sixteen few none-before (S .kind) at-71 none at-72 (heldAs held71) 1839
+      due-offered-48 (fed both) both-sampled 1911 (shownAt hear (S .kind) 71 1 false)
+      (falls-due (S .front) (S .x) (S .y) (pause 1900 ++ samples S) (S .facts .seventy) both-sixteen few none-before (S .kind) at-71 none at-72 (heldAs held71) 1 false 1839
       (λ t. (Until (72 + 384 * 10), ap (λ (s : Step). s .control) (pass-lost 10 (λ i. at hear i 72) t false 72 held71)))
       (pause 1838) (pos 0) (pause 61 ++ samples S) goes (let n = pause-length 1838 in omega arith) (lit≤ tt) held71 refl)
 

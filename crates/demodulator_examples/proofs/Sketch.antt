@@ -123,14 +123,14 @@ module _ (S : Sketch) where
   spans-sharp = due-span-sharp-48 calls sampled 71 started (let e = fed-number in omega arith)
 
   -- ---- the due frame
-  module _ (now : TakenBurst) (left : ℕ) (some : 1 ≤ left) (short : left ≤ 1900)
-      (leaves : (t : Timer) → (u : Timer) × (passBy 10 (S .hit) (λ i. at shaped i 72) (controlled (heldAs (takenAt shaped (S .kind) 71)) Free t false 72) .control ≡ controlled (heldAs now) (waiting left) u false 72)) where
-    pub due-mark : In (FellDue (72 + left) (shownOf now)) (logAll taps 10 calls)
+  module _ (now : TakenBurst) (age : ℕ) (mark : Bool) (left : ℕ) (some : 1 ≤ left) (short : left ≤ 1900)
+      (leaves : (t : Timer) → (u : Timer) × (passBy 10 (S .hit) (λ i. at shaped i 72) (controlled (heldAs (takenAt shaped (S .kind) 71)) Free t false 72) .control ≡ controlled (heldAs now) (waiting age mark left) u false 72)) where
+    pub due-mark : In (FellDue (72 + left) (shownOf now age mark)) (logAll taps 10 calls)
     due-mark =
         let goes : pause 1900 ≡ pause (left - 1) ++ (pos 0 ∷ pause (1900 - left)) =
         ap pause {x = 1900} {y = (left - 1) + suc (1900 - left)} (omega arith) ∙ pause-split (left - 1) (suc (1900 - left)) ∙ ap (λ (l : List ℤ). pause (left - 1) ++ l) (pause-suc (1900 - left)) in
         let enough : length (pause (left - 1)) + 1 ≡ left = let e = pause-length (left - 1) in omega arith in
-        falls-due (S .front) (S .x) (S .y) (pause 1900) (S .facts .seventy) sixteen few none-before (S .kind) at-71 (S .hit) at-72 (heldAs now) left leaves
+        falls-due (S .front) (S .x) (S .y) (pause 1900) (S .facts .seventy) sixteen few none-before (S .kind) at-71 (S .hit) at-72 (heldAs now) age mark left leaves
         (pause (left - 1)) (pos 0) (pause (1900 - left)) goes enough (omega arith) now refl
 
   -- ---- where it comes from

@@ -34,8 +34,8 @@ use Rattle.demodulator_examples.proofs.Fed.{fed, next, next-is, eightAt
 abbrev pub standing : List ℤ → Candidate → Wait → Timer → ℕ → History
 standing xs held wait t n = record { samples = xs; control = controlled held wait t false n }
 
-abbrev pub waiting : ℕ → Wait
-waiting left = Due (record { left = left })
+abbrev pub waiting : ℕ → Bool → ℕ → Wait
+waiting age mark left = Due (record { left = left; age = age; replaced = mark })
 
 -- the kinds that match are those of the test
 abbrev pub Hits : (ℕ → Float) → (Kind → Bool) → Type 0
@@ -94,17 +94,17 @@ module _ (all : List ℤ) (xs : List ℤ) (x : ℤ) (more : List ℤ) (n : ℕ) 
       )
 
 -- ---- a wait
-module _ (xs : List ℤ) (x : ℤ) (n : ℕ) (few : n < 2 ^ 63) where
+module _ (age : ℕ) (mark : Bool) (xs : List ℤ) (x : ℤ) (n : ℕ) (few : n < 2 ^ 63) where
   next-waits : (held : Candidate) (t : Timer) (left : ℕ) → 1 < left
-      → next (standing xs held (waiting left) t n) x ≡ standing (xs ++ (x ∷ [])) held (waiting (left - 1)) (cleared (n + 1) t) (n + 1)
+      → next (standing xs held (waiting age mark left) t n) x ≡ standing (xs ++ (x ∷ [])) held (waiting age mark (left - 1)) (cleared (n + 1) t) (n + 1)
   unfolding sampled waitedTurn
-  next-waits held t left l = rw (is-true (ltb 1 left) (lt→ltb 1 left l)) at (next-is (standing xs held (waiting left) t n) x refl few)
+  next-waits held t left l = rw (is-true (ltb 1 left) (lt→ltb 1 left l)) at (next-is (standing xs held (waiting age mark left) t n) x refl few)
 
   -- a frame is due, is offered, and is accepted
   pub next-due : (held : TakenBurst) (t : Timer)
-      → next (standing xs (heldAs held) lastSample t n) x ≡ standing (xs ++ (x ∷ [])) Nothing Free (cleared (n + 1) t) (n + 1)
+      → next (standing xs (heldAs held) (lastSample age mark) t n) x ≡ standing (xs ++ (x ∷ [])) Nothing Free (cleared (n + 1) t) (n + 1)
   unfolding sampled waitedTurn dueTurn
-  next-due held t = next-is (standing xs (heldAs held) lastSample t n) x refl few
+  next-due held t = next-is (standing xs (heldAs held) (lastSample age mark) t n) x refl few
 
 -- ---- many
 pub quiet-run : (all zs xs more : List ℤ) (t : Timer) (n : ℕ) → length xs ≡ n → all ≡ xs ++ (zs ++ more) → n + length zs ≤ 2 ^ 63
@@ -124,24 +124,24 @@ quiet-run all (x ∷ zs) xs more t n l p f s =
           ∙ ap (standing (xs ++ (x ∷ zs)) Nothing Free w) count,
     )
 
-pub wait-run : (zs xs : List ℤ) (held : Candidate) (t : Timer) (n left : ℕ) → n + length zs ≤ 2 ^ 63 → length zs < left
-    → (u : Timer) × (run (singleRules taps 10) (standing xs held (waiting left) t n) (fed zs) ≡ standing (xs ++ zs) held (waiting (left - length zs)) u (n + length zs))
+pub wait-run : (age : ℕ) (mark : Bool) (zs xs : List ℤ) (held : Candidate) (t : Timer) (n left : ℕ) → n + length zs ≤ 2 ^ 63 → length zs < left
+    → (u : Timer) × (run (singleRules taps 10) (standing xs held (waiting age mark left) t n) (fed zs) ≡ standing (xs ++ zs) held (waiting age mark (left - length zs)) u (n + length zs))
 unfolding run fed
-wait-run [] xs held t n left f l =
+wait-run age mark [] xs held t n left f l =
     let count : n ≡ n + 0 = omega arith in
     let rest : left ≡ left - 0 = omega arith in (
       t,
-      ap (λ (ys : List ℤ). standing ys held (waiting left) t n) (sym (append-nil xs)) ∙ ap (λ (m : ℕ). standing (xs ++ []) held (waiting m) t n) rest
-          ∙ ap (standing (xs ++ []) held (waiting (left - 0)) t) count,
+      ap (λ (ys : List ℤ). standing ys held (waiting age mark left) t n) (sym (append-nil xs)) ∙ ap (λ (m : ℕ). standing (xs ++ []) held (waiting age mark m) t n) rest
+          ∙ ap (standing (xs ++ []) held (waiting age mark (left - 0)) t) count,
     )
-wait-run (x ∷ zs) xs held t n left f l =
-    let e = next-waits xs x n (omega arith) held t left (omega arith) in
-    let (w, g) = wait-run zs (xs ++ (x ∷ [])) held (cleared (n + 1) t) (n + 1) (left - 1) (omega arith) (omega arith) in
+wait-run age mark (x ∷ zs) xs held t n left f l =
+    let e = next-waits age mark xs x n (omega arith) held t left (omega arith) in
+    let (w, g) = wait-run age mark zs (xs ++ (x ∷ [])) held (cleared (n + 1) t) (n + 1) (left - 1) (omega arith) (omega arith) in
     let count : (n + 1) + length zs ≡ n + length (x ∷ zs) = omega arith in
     let rest : (left - 1) - length zs ≡ left - length (x ∷ zs) = omega arith in (
       w,
       ap (λ (h : History). run (singleRules taps 10) h (fed zs)) e ∙ g
-          ∙ ap (λ (ys : List ℤ). standing ys held (waiting ((left - 1) - length zs)) w ((n + 1) + length zs)) (append-assoc xs (x ∷ []) zs)
-          ∙ ap (λ (m : ℕ). standing (xs ++ (x ∷ zs)) held (waiting m) w ((n + 1) + length zs)) rest
-          ∙ ap (standing (xs ++ (x ∷ zs)) held (waiting (left - length (x ∷ zs))) w) count,
+          ∙ ap (λ (ys : List ℤ). standing ys held (waiting age mark ((left - 1) - length zs)) w ((n + 1) + length zs)) (append-assoc xs (x ∷ []) zs)
+          ∙ ap (λ (m : ℕ). standing (xs ++ (x ∷ zs)) held (waiting age mark m) w ((n + 1) + length zs)) rest
+          ∙ ap (standing (xs ++ (x ∷ zs)) held (waiting age mark (left - length (x ∷ zs))) w) count,
     )

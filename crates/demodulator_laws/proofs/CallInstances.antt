@@ -30,16 +30,16 @@ use Rattle.demodulator.specs.Calls.{nothing, done, refusal, carrier, refused, L
 use Rattle.demodulator.specs.Steps.{unmoved, Steps}
 use Rattle.demodulator.proofs.StepInstances.{fresh-for-sample, room, room-enough}
 use Rattle.demodulator.proofs.CallCases.{sample-unfit, sample-owed, sample-cramped, sample-last, sample-taken, refuses, reply-unfit, reply-unasked, reply-taken, carrier-unfit, carrier-told}
-use Rattle.demodulator_laws.proofs.ExampleBurst.{heldAt}
+use Rattle.demodulator_laws.proofs.ExampleBurst.{heldAt, waitOf}
 use Rattle.demodulator_laws.proofs.SampleByWait.{sampled-free, sampled-rest, sampled-due}
 use Rattle.demodulator_laws.proofs.RecordInstances.{fresh-for-reply}
-use Rattle.demodulator_laws.proofs.SampleFits.{controlOf, sampled-fits, replied-fits}
+use Rattle.demodulator_laws.proofs.SampleFits.{controlOf, sampled-fits, replied-fits, replied-either}
 use Rattle.demodulator_laws.proofs.WaitFits.{waiting-fit, settled-fit}
-use Rattle.demodulator_laws.proofs.SearchFits.{Outgrown}
+use Rattle.demodulator_laws.proofs.SearchFits.{Outgrown, Unnumbered}
 
 -- ---- controls
 abbrev waiting : ℕ → Control
-waiting left = record { candidate = heldAt Bert 254; wait = Due (record { left = left }); dcd = Until 3840; owed = false; sample = 1840 }
+waiting left = record { candidate = heldAt Bert 254; wait = Due (waitOf left); dcd = Until 3840; owed = false; sample = 1840 }
 
 abbrev owed : Control
 owed = owing true freshControl
@@ -52,6 +52,9 @@ owed-fit : T (controlFit 10 owed)
 unfolding controlFit candidateFit waitFit
 owed-fit = tt
 
+owed-counted-fit : T (controlFit 10 (counted owed))
+owed-counted-fit = counted-fit 10 owed owed-fit (lit< tt)
+
 silent : ℕ → Float
 silent i = ofBits binary32 0
 
@@ -62,19 +65,19 @@ silent-range i l = tt
 sampled-free-meets : sampled 10 silent freshControl ≡ quiet (searched 10 silent (counted freshControl))
 sampled-free-meets = sampled-free 10 silent freshControl refl
 
-sampled-rest-meets : sampled 10 silent (waiting 2) ≡ quiet (waitingOn 1 (counted (waiting 2)))
-sampled-rest-meets = sampled-rest 10 silent (waiting 2) (record { left = 2 }) refl (lit≤ tt)
+sampled-rest-meets : sampled 10 silent (waiting 2) ≡ quiet (waitingOn (waitOf 1) (counted (waiting 2)))
+sampled-rest-meets = sampled-rest 10 silent (waiting 2) (waitOf 2) refl (lit≤ tt)
 
 -- a due BERT frame is offered
-sampled-due-meets : sampled 10 silent (waiting 1) ≡ offer (record { kind = Bert; gain = ofBits binary32 0x4180_0000; shift = ofBits binary32 0 }) (owing true (freed (counted (waiting 1))))
+sampled-due-meets : sampled 10 silent (waiting 1) ≡ offer (record { kind = Bert; gain = ofBits binary32 0x4180_0000; shift = ofBits binary32 0; «taken_at» = 1; age = 1; replaced = false }) (owing true (freed (counted (waiting 1))))
 unfolding dueTurn
-sampled-due-meets = sampled-due 10 silent (waiting 1) (record { left = 1 }) refl (lit≤ tt)
+sampled-due-meets = sampled-due 10 silent (waiting 1) (waitOf 1) refl (lit≤ tt)
 
 counted-fit-meets : T (controlFit 10 (counted (waiting 2)))
 counted-fit-meets = counted-fit 10 (waiting 2) waiting-two-fit (lit< tt)
 
-waiting-fit-meets : T (controlFit 10 (waitingOn 1 (waiting 2)))
-waiting-fit-meets = waiting-fit 10 (waiting 2) waiting-two-fit (record { left = 2 }) refl (lit≤ tt)
+waiting-fit-meets : T (controlFit 10 (waitingOn (waitOf 1) (waiting 2)))
+waiting-fit-meets = waiting-fit 10 (waiting 2) waiting-two-fit (waitOf 2) refl (lit≤ tt)
 
 freed-fit-meets : T (controlFit 10 (owing true (freed (waiting 2))))
 freed-fit-meets = freed-fit 10 (waiting 2) waiting-two-fit true
@@ -85,8 +88,11 @@ settled-fit-meets = settled-fit 10 owed owed-fit
 sampled-fits-meets : T (controlFit 10 (controlOf (sampled 10 silent (waiting 2)))) ⊎ Outgrown 10 (waiting 2) (controlOf (sampled 10 silent (waiting 2)))
 sampled-fits-meets = sampled-fits 10 (lit≤ tt) silent silent-range (waiting 2) waiting-two-fit (lit< tt) refl
 
-replied-fits-meets : T (controlFit 10 (replied 10 silent Rejected owed))
-replied-fits-meets = replied-fits 10 (lit≤ tt) silent silent-range owed owed-fit refl Rejected
+replied-fits-meets : T (controlFit 10 (replied 10 silent Rejected (counted owed)))
+replied-fits-meets = replied-fits 10 (lit≤ tt) silent silent-range (counted owed) owed-counted-fit refl (lit≤ tt) Rejected
+
+replied-either-meets : T (controlFit 10 (replied 10 silent Rejected owed)) ⊎ Unnumbered 10 owed (replied 10 silent Rejected owed)
+replied-either-meets = replied-either 10 (lit≤ tt) silent silent-range owed owed-fit refl Rejected
 
 -- ---- a sample
 past : SoftDemodulator

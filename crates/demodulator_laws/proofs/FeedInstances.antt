@@ -26,14 +26,14 @@ use Rattle.demodulator.specs.Feed.{Stretch, sampleSaid, sampleNext, sampleRoom,
 use Rattle.demodulator.proofs.StepInstances.{room, room-enough}
 use Rattle.demodulator.proofs.CallCases.{sample-last, sample-taken}
 use Rattle.demodulator.proofs.FeedSteps.{fed-some}
-use Rattle.demodulator_laws.proofs.ExampleBurst.{heldAt}
+use Rattle.demodulator_laws.proofs.ExampleBurst.{heldAt, waitOf}
 use Rattle.demodulator_laws.proofs.SampleByWait.{sampled-rest}
 use Rattle.demodulator_laws.proofs.SampleComes.{fed-silent, fed-stuck}
 use Rattle.demodulator_laws.proofs.RefusedFeed.{refused-feed, rest-refused}
 
 -- a candidate is held and its frame is not due yet, so that no search runs
 abbrev waiting : ℕ → ℕ → Control
-waiting left count = record { candidate = heldAt Lsf 1; wait = Due (record { left = left }); dcd = Off; owed = false; sample = count }
+waiting left count = record { candidate = heldAt Lsf 1; wait = Due (waitOf left); dcd = Off; owed = false; sample = count }
 
 abbrev two : List ℤ
 two = pos 1 ∷ pos 1 ∷ []
@@ -69,7 +69,7 @@ after-fit = refl
 
 taken : demodulated at48 before (pos 1) room ≡ record { answer = nothing; demodulator = after; room = room }
 unfolding cleared
-taken = sample-taken before (pos 1) room before-fit refl room-enough (lit< tt) (quiet (waitingOn 2 (counted (before .control)))) (sym (sampled-rest 10 (eight 10 (back 10 (stored at48 before (pos 1)))) (before .control) (record { left = 3 }) refl (lit≤ tt)))
+taken = sample-taken before (pos 1) room before-fit refl room-enough (lit< tt) (quiet (waitingOn (waitOf 2) (counted (before .control)))) (sym (sampled-rest 10 (eight 10 (back 10 (stored at48 before (pos 1)))) (before .control) (waitOf 3) refl (lit≤ tt)))
 
 before-stops : fedInto at48 before two room ≡ record { answer = nothing; fed = 1; state = after; room = room }
 before-stops =

@@ -1,4 +1,5 @@
--- An accepted call leaves a record that is fit for the next one, if all of its ring's values are in range: an age of 255 apart, which was 254. Assumes nothing.
+-- An accepted call leaves a record that is fit for the next one, if all of its ring's values are in range: an age of 255 apart, which was 254, and a candidate taken
+-- by a reply at a made-up count of 0. Assumes nothing.
 use mathlib.Core.Path.{_≡_, refl, ap, _∙_}
 use mathlib.Core.Logic.{_⊎_, inl, inr}
 use mathlib.Core.Bool.{true, false}
@@ -25,7 +26,7 @@ use Rattle.search.specs.declared.Control.{Control}
 use Rattle.search.specs.declared.Reply.{Reply}
 use Rattle.search.specs.Search.{withCandidate, ageOf}
 use Rattle.search.specs.Turn.{Outcome, quiet, offer, sampled}
-use Rattle.search.specs.Fit.{controlFit}
+use Rattle.search.specs.Fit.{held, controlFit}
 use Rattle.demodulator.specs.declared.SoftDemodulator.{SoftDemodulator}
 use Rattle.demodulator.specs.Spans.{eight}
 use Rattle.demodulator.specs.Record.{back, withControl, filteredAfter, stored}
@@ -34,7 +35,8 @@ use Rattle.demodulator.specs.Calls.{Paper, refusal, Left, refused, finished, de
 use Rattle.demodulator.proofs.Fitness.{record-facts, sample-record, reply-record}
 use Rattle.demodulator.proofs.CallCases.{sample-unfit, sample-owed, sample-cramped, sample-last, sample-taken, reply-unfit, reply-unasked, reply-taken}
 use Rattle.demodulator_laws.proofs.Grown.{withAge}
-use Rattle.demodulator_laws.proofs.SampleFits.{either, controlOf, sampled-fits, replied-fits}
+use Rattle.demodulator_laws.proofs.SearchFits.{countedFirst}
+use Rattle.demodulator_laws.proofs.SampleFits.{either, controlOf, sampled-fits, replied-either}
 use Rattle.demodulator_laws.proofs.StoredFits.{Rings, set-holds, new-in-range, stored-rings, stored-eight}
 
 -- ---- the statement's words
@@ -57,6 +59,12 @@ pub record Old (m : SoftDemodulator) : Type 0 where
 pub record Aged (m after : SoftDemodulator) : Type 0 where
   pub was : ageOf (m .control .candidate) ≡ 254
   pub old : Old after
+
+-- a reply was owed at count 0, which no run comes to, and its rejection took a candidate: at sample 0. With 1 for that and for the count the record is fit
+pub record Uncounted (m after : SoftDemodulator) : Type 0 where
+  pub was : m .control .sample ≡ 0
+  pub holds : T (held (after .control .candidate))
+  pub else-fit : Fits (withControl (countedFirst (after .control)) after)
 
 -- no refusal
 abbrev pub Accepted : Paper → Type 0
@@ -178,7 +186,7 @@ module _ (m : SoftDemodulator) (reply : Reply) (room : List Float) (in-range : I
         ]
       ]
 
-  pub reply-fit-again : InRange (answered 10 m reply room .demodulator) × Fits (answered 10 m reply room .demodulator)
+  pub reply-fit-again : InRange (answered 10 m reply room .demodulator) × (Fits (answered 10 m reply room .demodulator) ⊎ Uncounted m (answered 10 m reply room .demodulator))
   unfolding recordFit
   reply-fit-again =
       let fit = reply-given .0 in
@@ -189,7 +197,12 @@ module _ (m : SoftDemodulator) (reply : Reply) (room : List Float) (in-range : I
       let range : (i : ℕ) → i < 8 → T (inRange (eight 10 (back 10 m) i)) = λ i l. back-in-range m in-range (10 * (7 - i)) in
       let after : SoftDemodulator = replyLeaves 10 m reply in
       let kept : InRange after = record { rings = in-range .rings; values = in-range .values } in
+      let cursors = and-l (cursorsFit 10 m) (controlFit 10 (m .control)) both in
+      let first : SoftDemodulator = withControl (countedFirst (after .control)) after in
       rw (reply-taken m reply room fit owed) (
         kept,
-        fits-by-control after kept (and-l (cursorsFit 10 m) (controlFit 10 (m .control)) both) (replied-fits 10 (lit≤ tt) (eight 10 (back 10 m)) range (m .control) control none reply),
+        elim (replied-either 10 (lit≤ tt) (eight 10 (back 10 m)) range (m .control) control none reply) [
+          | inl t ↦ inl (fits-by-control after kept cursors t)
+          | inr o ↦ inr (record { was = o .was; holds = o .holds; else-fit = fits-by-control first (record { rings = in-range .rings; values = in-range .values }) cursors (o .else-fit) })
+        ],
       )

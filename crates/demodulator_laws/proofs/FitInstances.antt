@@ -28,7 +28,7 @@ use Rattle.demodulator.specs.Feed.{fedInto}
 use Rattle.demodulator.proofs.StepInstances.{fresh-for-sample, room}
 use Rattle.demodulator_laws.proofs.ExampleBurst.{heldAt}
 use Rattle.demodulator_laws.proofs.StoredFits.{Rings, window-fits, new-in-range, stored-eight}
-use Rattle.demodulator_laws.proofs.FitAgain.{InRange, Fits, Old, Aged, Accepted, Given, back-in-range, given, stored-in-range, fit-again, reply-fit-again}
+use Rattle.demodulator_laws.proofs.FitAgain.{InRange, Fits, Old, Aged, Uncounted, Accepted, Given, back-in-range, given, stored-in-range, fit-again, reply-fit-again}
 use Rattle.demodulator_laws.proofs.FedFits.{Usable, feed-fit-again}
 use Rattle.demodulator_laws.proofs.RecordInstances.{fresh-for-reply}
 use Rattle.demodulator_laws.proofs.CallInstances.{fresh-answer, debtor, reply-taken-meets}
@@ -87,7 +87,7 @@ debtor-accepted n e = let other : done ≡ refusal n = sym (ap (λ (left : Left)
 back-in-range-meets : T (inRange (back 10 debtor 1919))
 back-in-range-meets = back-in-range debtor debtor-in-range 1919
 
-reply-fit-again-meets : InRange (answered 10 debtor Rejected [] .demodulator) × Fits (answered 10 debtor Rejected [] .demodulator)
+reply-fit-again-meets : InRange (answered 10 debtor Rejected [] .demodulator) × (Fits (answered 10 debtor Rejected [] .demodulator) ⊎ Uncounted debtor (answered 10 debtor Rejected [] .demodulator))
 reply-fit-again-meets = reply-fit-again debtor Rejected [] debtor-in-range debtor-accepted
 
 -- ---- a stretch

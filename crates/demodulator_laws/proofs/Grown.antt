@@ -12,18 +12,26 @@ use Rattle.decode.specs.Correlator.{zero32, leastGain, threshold}
 use Rattle.decode.proofs.MatchFacts.{MatchFacts}
 use Rattle.search.specs.declared.Candidate.{Candidate}
 use Rattle.search.specs.declared.Candidate.the-variants.{Nothing}
+use Rattle.search.specs.declared.Waiting.{Waiting}
 use Rattle.search.specs.declared.Wait.{Wait}
 use Rattle.search.specs.declared.Wait.the-variants.{Free, Due}
 use Rattle.search.specs.TakenBurst.{TakenBurst, heldAs, heldIn, taken, atAge, aged}
-use Rattle.search.specs.Search.{ageOf, heldAfter}
-use Rattle.search.specs.Fit.{ageFit, diffFit, gainFit, shiftFit, candidateFit, held, waitFit}
+use Rattle.search.specs.Search.{ageOf, marked}
+use Rattle.search.specs.Fit.{ageFit, diffFit, gainFit, shiftFit, candidateFit, held, waitFit, takenFit, keptFit}
 use Rattle.search.proofs.HeldOrNot.{HeldOrNot, not-held, is-held}
 use Rattle.search.proofs.Fitness.{held-facts}
-use Rattle.search.proofs.AgeInPass.{by-test}
 
 -- a candidate as it would be at another age
 abbrev pub withAge : ℕ → Candidate → Candidate
 withAge n candidate = elim (heldIn candidate) [ none ↦ Nothing | some t ↦ heldAs (atAge n t) ]
+
+-- taken at another sample
+abbrev pub takenAs : ℕ → TakenBurst → TakenBurst
+takenAs count t = record { kind = t .kind; age = t .age; diff = t .diff; gain = t .gain; shift = t .shift; «taken_at» = count }
+
+-- as it would be if it were taken at sample 1
+abbrev pub takenFirst : Candidate → Candidate
+takenFirst candidate = elim (heldIn candidate) [ none ↦ Nothing | some t ↦ heldAs (takenAs 1 t) ]
 
 -- ---- a candidate's clauses, its age first
 first-anew : (a a′ b c d : Bool) → T a′ → T (a && b && c && d) → T (a′ && b && c && d)
@@ -38,6 +46,23 @@ pub at-age : (m n : ℕ) {candidate : Candidate} → HeldOrNot candidate → T (
 unfolding candidateFit
 at-age m n not-held a t = tt
 at-age m n (is-held u) a t = first-anew (ageFit m) (ageFit n) (diffFit (u .diff)) (gainFit (u .gain)) (shiftFit (u .shift)) a t
+
+-- another age leaves the sample at which it was taken
+pub taken-at-age : (n count : ℕ) {candidate : Candidate} → HeldOrNot candidate → T (takenFit count candidate) → T (takenFit count (withAge n candidate))
+taken-at-age n count not-held t = t
+taken-at-age n count (is-held u) t = t
+
+-- as another number leaves all else
+pub record TakenFirst (p : ℕ) (wait : Wait) (candidate : Candidate) : Type 0 where
+  pub values : T (candidateFit candidate) → T (candidateFit (takenFirst candidate))
+  pub taken : T (takenFit 1 (takenFirst candidate))
+  pub waits : T (waitFit p wait candidate false) → T (waitFit p wait (takenFirst candidate) false)
+
+pub taken-first : (p : ℕ) (wait : Wait) {candidate : Candidate} → HeldOrNot candidate → TakenFirst p wait candidate
+unfolding candidateFit waitFit
+taken-first p wait not-held = record { values = λ t. t; taken = tt; waits = λ t. t }
+taken-first p Free (is-held u) = record { values = λ t. t; taken = tt; waits = λ t. tt }
+taken-first p (Due w) (is-held u) = record { values = λ t. t; taken = tt; waits = λ t. t }
 
 -- all but the upper end of the age
 pub record Grown (candidate : Candidate) : Type 0 where
@@ -55,9 +80,9 @@ grown-fit (is-held u) g l = at-age 1 (u .age) (is-held u) (age-fit (u .age) (g .
 
 -- ---- after a match
 module _ (m : Correlation) {low high : Float} (facts : MatchFacts m low high) where
-  pub taken-grown : (kind : Kind) → Grown (heldAs (taken kind m))
+  pub taken-grown : (kind : Kind) (count : ℕ) → Grown (heldAs (taken kind m count))
   unfolding candidateFit
-  taken-grown kind =
+  taken-grown kind count =
       record {
         values =
             and-i (ageFit 1 && diffFit (m .diff) && gainFit (m .gain)) (shiftFit (m .shift))
@@ -68,19 +93,27 @@ module _ (m : Correlation) {low high : Float} (facts : MatchFacts m low high) wh
         born = λ h. omega arith;
       }
 
-pub held-grown : {candidate : Candidate} → HeldOrNot candidate → (new : TakenBurst) → Grown (heldAs new) → Grown candidate → Grown (heldAs (heldAfter (heldIn candidate) new))
-unfolding heldAfter
-held-grown not-held new young g = young
-held-grown (is-held t) new young g =
-    by-test (λ (u : TakenBurst). Grown (heldAs u)) (lt (t .diff) (new .diff)) (aged t) new (λ e. record { values = g .values; born = λ h. omega arith }) (λ e. young)
+pub aged-grown : (t : TakenBurst) → Grown (heldAs t) → Grown (heldAs (aged t))
+aged-grown t g = record { values = g .values; born = λ h. omega arith }
 
 -- ---- the wait
-pub due-fit : (p left : ℕ) (candidate : Candidate) → 1 ≤ left → left < 184 * p → T (held candidate) → T (waitFit p (Due (record { left = left })) candidate false)
+pub due-fit : (p : ℕ) (w : Waiting) (candidate : Candidate) → 1 ≤ w .left → w .left < 184 * p → T (held candidate) → T (waitFit p (Due w) candidate false)
 unfolding waitFit
-due-fit p left candidate a b h =
-    and-i (leb 1 left && ltb left (184 * p) && held candidate) true
-    (and-i (leb 1 left && ltb left (184 * p)) (held candidate) (and-i (leb 1 left) (ltb left (184 * p)) (le→leb 1 left a) (lt→ltb left (184 * p) b)) h)
+due-fit p w candidate a b h =
+    and-i (leb 1 (w .left) && ltb (w .left) (184 * p) && held candidate) true
+    (and-i (leb 1 (w .left) && ltb (w .left) (184 * p)) (held candidate) (and-i (leb 1 (w .left)) (ltb (w .left) (184 * p)) (le→leb 1 (w .left) a) (lt→ltb (w .left) (184 * p) b)) h)
     tt
+
+-- nor is its mark
+pub marked-fit : (p : ℕ) (wait : Wait) (candidate : Candidate) → T (waitFit p wait candidate false) → T (waitFit p (marked wait) candidate false)
+unfolding waitFit marked
+marked-fit p Free candidate t = tt
+marked-fit p (Due w) candidate t = t
+
+pub marked-kept : (wait : Wait) → T (keptFit wait) → T (keptFit (marked wait))
+unfolding marked
+marked-kept Free t = tt
+marked-kept (Due w) t = t
 
 -- which candidate is held is of no account to it
 pub wait-stays : (p : ℕ) (wait : Wait) (candidate other : Candidate) → T (held other) → T (waitFit p wait candidate false) → T (waitFit p wait other false)

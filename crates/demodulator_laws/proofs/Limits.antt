@@ -19,13 +19,14 @@ use Rattle.search.specs.Fit.{candidateFit, waitFit, controlFit}
 use Rattle.demodulator.specs.declared.SoftDemodulator.{SoftDemodulator}
 use Rattle.demodulator.specs.Record.{fresh, assembled}
 use Rattle.demodulator.specs.Fit.{recordFit, fitForSample, fitForReply}
-use Rattle.demodulator_laws.proofs.ExampleBurst.{burstAt}
+use Rattle.demodulator_laws.proofs.Grown.{takenAs}
+use Rattle.demodulator_laws.proofs.ExampleBurst.{burstAt, waitOf}
 
 -- ---- the control
 abbrev control : ℕ → ℕ → ℕ → Float → Float → Float → ℕ → Control
 control count end age diff gain shift left = record {
   candidate = heldAs (burstAt Packet age (record { diff = diff; gain = gain; shift = shift }));
-  wait = Due (record { left = left });
+  wait = Due (waitOf left);
   dcd = Until end;
   owed = false;
   sample = count;
@@ -52,7 +53,7 @@ highest : fits (control (2 ^ 63) (2 ^ 63 + 3840) 254 underHundred million millio
 unfolding controlFit candidateFit waitFit inRange ofBits le lt
 highest = refl
 
-lowest : fits (control 0 0 1 (ofBits binary32 0x8000_0000) sixteen (ofBits binary32 0xc974_2400) 1) true
+lowest : fits (control 1 0 1 (ofBits binary32 0x8000_0000) sixteen (ofBits binary32 0xc974_2400) 1) true
 unfolding controlFit candidateFit waitFit inRange ofBits le lt
 lowest = refl
 
@@ -71,7 +72,7 @@ age-past : fits (control (2 ^ 63) (2 ^ 63 + 3840) 255 underHundred million milli
 unfolding controlFit candidateFit
 age-past = refl
 
-age-none : fits (control 0 0 0 (ofBits binary32 0) sixteen million 1) false
+age-none : fits (control 1 0 0 (ofBits binary32 0) sixteen million 1) false
 unfolding controlFit candidateFit
 age-none = refl
 
@@ -80,7 +81,7 @@ diff-past : fits (control (2 ^ 63) (2 ^ 63 + 3840) 254 (ofBits binary32 0x42c8_0
 unfolding controlFit candidateFit ofBits le lt
 diff-past = refl
 
-diff-below : fits (control 0 0 1 (ofBits binary32 0x8000_0001) sixteen million 1) false
+diff-below : fits (control 1 0 1 (ofBits binary32 0x8000_0001) sixteen million 1) false
 unfolding controlFit candidateFit ofBits le lt
 diff-below = refl
 
@@ -89,7 +90,7 @@ gain-past : fits (control (2 ^ 63) (2 ^ 63 + 3840) 254 underHundred pastMillion 
 unfolding controlFit candidateFit ofBits le lt
 gain-past = refl
 
-gain-below : fits (control 0 0 1 (ofBits binary32 0) (ofBits binary32 0x417f_ffff) million 1) false
+gain-below : fits (control 1 0 1 (ofBits binary32 0) (ofBits binary32 0x417f_ffff) million 1) false
 unfolding controlFit candidateFit ofBits le lt
 gain-below = refl
 
@@ -98,12 +99,12 @@ shift-past : fits (control (2 ^ 63) (2 ^ 63 + 3840) 254 underHundred million pas
 unfolding controlFit candidateFit inRange ofBits le lt
 shift-past = refl
 
-shift-below : fits (control 0 0 1 (ofBits binary32 0) sixteen (ofBits binary32 0xc974_2401) 1) false
+shift-below : fits (control 1 0 1 (ofBits binary32 0) sixteen (ofBits binary32 0xc974_2401) 1) false
 unfolding controlFit candidateFit inRange ofBits le lt
 shift-below = refl
 
 -- "A not-a-number is never within."
-shift-nan : fits (control 0 0 1 (ofBits binary32 0) sixteen nan 1) false
+shift-nan : fits (control 1 0 1 (ofBits binary32 0) sixteen nan 1) false
 unfolding controlFit candidateFit inRange ofBits le lt
 shift-nan = refl
 
@@ -112,21 +113,21 @@ wait-past : fits (control (2 ^ 63) (2 ^ 63 + 3840) 254 underHundred million mill
 unfolding controlFit candidateFit waitFit inRange ofBits le lt
 wait-past = refl
 
-wait-none : fits (control 0 0 1 (ofBits binary32 0) sixteen million 0) false
+wait-none : fits (control 1 0 1 (ofBits binary32 0) sixteen million 0) false
 unfolding controlFit candidateFit waitFit inRange ofBits le lt
 wait-none = refl
 
 abbrev bare : Candidate → Wait → Bool → Control
-bare candidate wait owed = record { candidate = candidate; wait = wait; dcd = Off; owed = owed; sample = 0 }
+bare candidate wait owed = record { candidate = candidate; wait = wait; dcd = Off; owed = owed; sample = 1 }
 
 abbrev held : Candidate
 held = heldAs (burstAt Packet 1 (record { diff = ofBits binary32 0; gain = sixteen; shift = million }))
 
-wait-alone : fits (bare Nothing (Due (record { left = 1 })) false) false
+wait-alone : fits (bare Nothing (Due (waitOf 1)) false) false
 unfolding controlFit candidateFit waitFit
 wait-alone = refl
 
-wait-owing : fits (bare held (Due (record { left = 1 })) true) false
+wait-owing : fits (bare held (Due (waitOf 1)) true) false
 unfolding controlFit candidateFit waitFit inRange ofBits le lt
 wait-owing = refl
 
@@ -138,6 +139,44 @@ owed-alone = refl
 owed-held : fits (bare held Free true) false
 unfolding controlFit candidateFit waitFit inRange ofBits le lt
 owed-held = refl
+
+-- document 02 j): "a taken-at number above the count or 0"
+abbrev takenOn : ℕ → ℕ → Control
+takenOn number count = record {
+  candidate = heldAs (takenAs number (burstAt Packet 1 (record { diff = ofBits binary32 0; gain = sixteen; shift = million })));
+  wait = Free;
+  dcd = Off;
+  owed = false;
+  sample = count;
+}
+
+taken-last : fits (takenOn (2 ^ 63) (2 ^ 63)) true
+unfolding controlFit candidateFit waitFit inRange ofBits le lt
+taken-last = refl
+
+taken-past : fits (takenOn 8 7) false
+unfolding controlFit candidateFit waitFit inRange ofBits le lt
+taken-past = refl
+
+taken-at-first : fits (takenOn 1 7) true
+unfolding controlFit candidateFit waitFit inRange ofBits le lt
+taken-at-first = refl
+
+taken-none : fits (takenOn 0 7) false
+unfolding controlFit candidateFit waitFit inRange ofBits le lt
+taken-none = refl
+
+-- document 02 j): "a wait's kept age of 0"; any other is fit, whatever the candidate's own
+abbrev keptAt : ℕ → Bool → Control
+keptAt age mark = bare held (Due (record { left = 1; age = age; replaced = mark })) false
+
+kept-most : fits (keptAt 255 true) true
+unfolding controlFit candidateFit waitFit inRange ofBits le lt
+kept-most = refl
+
+kept-none : fits (keptAt 0 false) false
+unfolding controlFit candidateFit waitFit inRange ofBits le lt
+kept-none = refl
 
 -- ---- the cursors: "a cursor at or past its ring's length (81, 1,920)"
 abbrev placed : ℕ → ℕ → Bool → Type 0
@@ -157,7 +196,7 @@ ring-past = refl
 
 -- ---- the filtered values, at a cursor of 0
 abbrev waiting : ℕ → Control
-waiting left = bare held (Due (record { left = left })) false
+waiting left = bare held (Due (waitOf left)) false
 
 abbrev with-value : Control → ℕ → Float → SoftDemodulator
 with-value c place value = assembled (fresh .«filter_win») 0 (set (fresh .«rx_win») place value) 0 c

@@ -24,7 +24,7 @@ use Rattle.demodulator.specs.Parts.{TestsRecord}
 use Rattle.demodulator.proofs.StepInstances.{fresh-for-sample}
 use Rattle.demodulator.proofs.Readers.{stored-newest, stored-older, stored-symbols, eight-at}
 use Rattle.demodulator.proofs.Fitness.{RecordFacts, record-facts, sample-record, sample-seven, sample-window, reply-record, reply-eight, tested-unfit, tested-fit, tested-inside}
-use Rattle.demodulator_laws.proofs.ExampleBurst.{heldAt}
+use Rattle.demodulator_laws.proofs.ExampleBurst.{heldAt, waitOf}
 
 -- ---- the ring of a fresh record
 fresh-inside : fresh .«rx_cursor» < 1920
@@ -55,7 +55,7 @@ fresh-for-reply = refl
 abbrev dueNext : SoftDemodulator
 dueNext =
     withControl
-    (record { candidate = heldAt Lsf 254; wait = Due (record { left = 1 }); dcd = Until 3840; owed = false; sample = 1840 })
+    (record { candidate = heldAt Lsf 254; wait = Due (waitOf 1); dcd = Until 3840; owed = false; sample = 1840 })
     fresh
 
 due-for-sample : fitForSample 10 dueNext ≡ true
@@ -69,7 +69,7 @@ sample-seven-meets : T (inRange (back 10 fresh 69))
 sample-seven-meets = sample-seven 10 fresh fresh-for-sample 6 (lit< tt)
 
 sample-window-meets : T (inRange (back 10 dueNext 1909))
-sample-window-meets = sample-window 10 dueNext due-for-sample (record { left = 1 }) refl refl 190 (lit< tt)
+sample-window-meets = sample-window 10 dueNext due-for-sample (waitOf 1) refl refl 190 (lit< tt)
 
 reply-record-meets : recordFit 10 fresh ≡ true
 reply-record-meets = reply-record 10 fresh fresh-for-reply

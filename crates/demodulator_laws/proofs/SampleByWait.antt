@@ -1,6 +1,6 @@
 -- What a sample comes to, by the wait that the control holds, and that readers that agree at the eight places lead to the same. Assumes nothing.
 use mathlib.Core.Path.{_≡_, refl, ap}
-use Prim.Native.Nat.{ℕ, _+_, _-_, _≤_, _<_}
+use Prim.Native.Nat.{ℕ, _+_, _≤_, _<_}
 use lib.Ieee.{Float}
 use borrow.Author.Tests.{lt-ltb, le-ltb}
 use Rattle.search.specs.declared.Waiting.{Waiting}
@@ -10,7 +10,7 @@ use Rattle.search.specs.declared.Turn.{Turn}
 use Rattle.search.specs.declared.Turn.the-variants.{Rest, Offer, Look}
 use Rattle.search.specs.TakenBurst.{heldIn}
 use Rattle.search.specs.Search.{searched}
-use Rattle.search.specs.Turn.{quiet, counted, waitingOn, freed, dueTurn, waitedTurn, turnOf, comesTo, sampled}
+use Rattle.search.specs.Turn.{quiet, counted, nearer, waitingOn, freed, dueTurn, waitedTurn, turnOf, comesTo, sampled}
 use Rattle.search.proofs.SearchSame.{searched-same}
 
 -- ---- by the wait
@@ -20,11 +20,11 @@ module _ (p : ℕ) (v : ℕ → Float) (c : Control) where
   sampled-free e = rw e
 
   module _ (w : Waiting) (e : c .wait ≡ Due w) where
-    pub sampled-rest : 1 < w .left → sampled p v c ≡ quiet (waitingOn (w .left - 1) (counted c))
+    pub sampled-rest : 1 < w .left → sampled p v c ≡ quiet (waitingOn (nearer w) (counted c))
     unfolding sampled waitedTurn
     sampled-rest l = rw (e, lt-ltb 1 (w .left) l)
 
-    pub sampled-due : w .left ≤ 1 → sampled p v c ≡ comesTo p v (dueTurn (heldIn (c .candidate)) (freed (counted c)))
+    pub sampled-due : w .left ≤ 1 → sampled p v c ≡ comesTo p v (dueTurn (heldIn (c .candidate)) w (freed (counted c)))
     unfolding sampled waitedTurn
     sampled-due l = rw (e, le-ltb 1 (w .left) l)
 

@@ -22,8 +22,8 @@ use Rattle.search.specs.declared.Wait.the-variants.{Free}
 use Rattle.search.specs.declared.Timer.the-variants.{Off}
 use Rattle.search.specs.declared.Control.{Control}
 use Rattle.search.specs.declared.Reply.the-variants.{Rejected}
-use Rattle.search.specs.Search.{ageOf, heldAfter, carried, missed, tried, passed, searched}
-use Rattle.search.specs.Turn.{sampled, replied}
+use Rattle.search.specs.Search.{ageOf, carried, marked, matched, missed, tried, passed, searched}
+use Rattle.search.specs.Turn.{owing, sampled, replied}
 use Rattle.search.specs.Fit.{candidateFit, waitFit, controlFit}
 use Rattle.search.proofs.Fitness.{ControlFacts, control-facts}
 use Rattle.search.proofs.SearchSame.{searched-same, replied-same}
@@ -96,12 +96,17 @@ control-facts-meets : ControlFacts 10 oldest
 control-facts-meets = control-facts 10 oldest oldest-fit
 
 search-fits-meets : T (controlFit 10 (searched 10 (valuesOf sixth) oldest)) ⊎ Outgrown 10 oldest (searched 10 (valuesOf sixth) oldest)
-search-fits-meets = search-fits 10 (lit≤ tt) (valuesOf sixth) sixth-range oldest oldest-fit refl
+search-fits-meets = search-fits 10 (lit≤ tt) (valuesOf sixth) sixth-range oldest oldest-fit refl (lit≤ tt)
 
 -- "A made-up age of 254 may come back as 255."
 comes-back : ageOf (searched 10 (valuesOf sixth) oldest .candidate) ≡ 255
-unfolding searched passed tried missed heldAfter carried matches correlation diffOf summed sumTo anyBelow distanceOf symbolOf shiftOf gainOf highest lowest zeroUnsigned larger smaller sizeOf signsOf spelled wordOf signOf near high low add sub div lt eq ofInt ofBits
+unfolding searched passed tried missed matched carried matches correlation diffOf summed sumTo anyBelow distanceOf symbolOf shiftOf gainOf highest lowest zeroUnsigned larger smaller sizeOf signsOf spelled wordOf signOf near high low add sub div lt eq ofInt ofBits
 comes-back = refl
+
+-- a candidate that is taken where no sample was counted has 0 for its sample, and the control is unfit then: only a made-up one that owes a reply at count 0 comes there
+taken-uncounted : controlFit 10 (replied 10 (valuesOf sixth) Rejected (owing true freshControl)) ≡ false
+unfolding replied searched passed tried missed matched marked carried controlFit candidateFit waitFit matches correlation diffOf summed sumTo anyBelow distanceOf symbolOf shiftOf gainOf highest lowest zeroUnsigned larger smaller sizeOf signsOf spelled wordOf signOf inRange near high low add sub div lt le eq ofInt ofBits
+taken-uncounted = refl
 
 -- ---- nothing to do: no candidate, and silence
 abbrev zeros : List Float

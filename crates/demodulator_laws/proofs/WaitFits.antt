@@ -10,12 +10,12 @@ use Rattle.search.specs.declared.Waiting.{Waiting}
 use Rattle.search.specs.declared.Wait.{Wait}
 use Rattle.search.specs.declared.Wait.the-variants.{Free, Due}
 use Rattle.search.specs.declared.Control.{Control}
-use Rattle.search.specs.Turn.{waitingOn, owing}
-use Rattle.search.specs.Fit.{held, waitFit, controlFit}
+use Rattle.search.specs.Turn.{nearer, waitingOn, owing}
+use Rattle.search.specs.Fit.{held, waitFit, keptFit, controlFit}
 use Rattle.search.proofs.Clauses.{clauses, joined}
 
 -- ---- the wait
-sooner-fit : (p : ℕ) (w : Waiting) (candidate : Candidate) (owed : Bool) → 1 < w .left → T (waitFit p (Due w) candidate owed) → T (waitFit p (Due (record { left = w .left - 1 })) candidate owed)
+sooner-fit : (p : ℕ) (w : Waiting) (candidate : Candidate) (owed : Bool) → 1 < w .left → T (waitFit p (Due w) candidate owed) → T (waitFit p (Due (nearer w)) candidate owed)
 unfolding waitFit
 sooner-fit p w candidate owed l t =
     let three = and-l (leb 1 (w .left) && ltb (w .left) (184 * p) && held candidate) (not owed) t in
@@ -37,13 +37,21 @@ unowed-fit p (Due w) candidate owed t =
 
 -- ---- the control
 module _ (p : ℕ) (c : Control) (fit : T (controlFit p c)) where
-  pub waiting-fit : (w : Waiting) → c .wait ≡ Due w → 1 < w .left → T (controlFit p (waitingOn (w .left - 1) c))
+  pub waiting-fit : (w : Waiting) → c .wait ≡ Due w → 1 < w .left → T (controlFit p (waitingOn (nearer w) c))
   waiting-fit w e l =
       let s = clauses p c fit in
-      joined p (waitingOn (w .left - 1) c)
-      (record { count = s .count; timer = s .timer; candidate = s .candidate; wait = sooner-fit p w (c .candidate) (c .owed) l (subst (λ (o : Wait). T (waitFit p o (c .candidate) (c .owed))) e (s .wait)); reply = s .reply })
+      joined p (waitingOn (nearer w) c)
+      (record {
+        count = s .count;
+        timer = s .timer;
+        candidate = s .candidate;
+        wait = sooner-fit p w (c .candidate) (c .owed) l (subst (λ (o : Wait). T (waitFit p o (c .candidate) (c .owed))) e (s .wait));
+        reply = s .reply;
+        taken = s .taken;
+        kept = subst (λ (o : Wait). T (keptFit o)) e (s .kept);
+      })
 
   pub settled-fit : T (controlFit p (owing false c))
   settled-fit =
       let s = clauses p c fit in
-      joined p (owing false c) (record { count = s .count; timer = s .timer; candidate = s .candidate; wait = unowed-fit p (c .wait) (c .candidate) (c .owed) (s .wait); reply = tt })
+      joined p (owing false c) (record { count = s .count; timer = s .timer; candidate = s .candidate; wait = unowed-fit p (c .wait) (c .candidate) (c .owed) (s .wait); reply = tt; taken = s .taken; kept = s .kept })

@@ -7,7 +7,7 @@ use native.Mathlib.Omega.{arith}
 use Rattle.protocol.specs.declared.Kind.{Kind}
 use Rattle.search.specs.declared.Shown.{Shown}
 use Rattle.search.specs.Search.{rank}
-use Rattle.demodulator_run.specs.Marks.{Mark, FellDue}
+use Rattle.demodulator_run.specs.Marks.{Mark, Failed, FellDue}
 use Rattle.demodulator_run.specs.Demands.{Ear, Matches, In, Started, Taken, Standing, DueAt, Fails, DueBy}
 use Rattle.demodulator_run.proofs.Log.{more, sampleOf, Starts, Takes, Stands, Shows, takes-at, stands-at}
 use Rattle.demodulator_run.proofs.Log.{old, either, started-old, taken-old, standing-old, started-either, taken-either, standing-either, shown-either}
@@ -26,6 +26,7 @@ module _ (ear : Ear) (p : ℕ) where
     pub near : b < n + 4 * p
     pub all : (j : ℕ) → n ≤ j → j < s → SomeMatch j
     pub before : s < d
+    pub failed : In (Failed s k b) l
     -- no candidate whose failure could set a wait is taken from then until the frame is due
     pub quiet : (j : ℕ) (i : Kind) → Standing l j i → b < j → j < d → ⊥
 
@@ -89,6 +90,7 @@ module _ (ear : Ear) (p : ℕ) where
       near = E .near;
       all = E .all;
       before = E .before;
+      failed = old l y (E .failed);
       quiet = λ j i t u v. elim (standing-either l y t) [ inl q ↦ E .quiet j i q u v | inr q ↦ none j i q v ];
     }
 

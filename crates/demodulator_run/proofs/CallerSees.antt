@@ -8,7 +8,6 @@ use Rattle.machine.specs.Runs.{run, Each, answers}
 use Rattle.machine.proofs.Parts.{each-front}
 use Rattle.shaping.specs.Rate.{Rate}
 use Rattle.shaping.proofs.RateFacts.{Facts}
-use Rattle.protocol.specs.declared.Kind.{Kind}
 use Rattle.search.specs.declared.Waiting.{Waiting}
 use Rattle.search.specs.declared.Wait.the-variants.{Due}
 use Rattle.search.specs.declared.Shown.{Shown}
@@ -18,13 +17,13 @@ use Rattle.search.specs.Fit.{held}
 use Rattle.demodulator.specs.declared.SoftDemodulator.{SoftDemodulator}
 use Rattle.demodulator.specs.declared.Offer.{Offer}
 use Rattle.demodulator.specs.Record.{fresh}
-use Rattle.demodulator.specs.Calls.{frame}
+use Rattle.demodulator.specs.Calls.{frame, offerOf}
 use Rattle.demodulator.proofs.Fitness.{record-facts}
 use Rattle.demodulator_run.specs.Rules.{Single, Said, single, historyAll}
 use Rattle.demodulator_run.specs.Run.{left, saidBy, recordAfter, singleReceiver, Callable}
 use Rattle.demodulator_run.specs.Marks.{First, FellDue, isRefusal, logAll}
-use Rattle.demodulator_run.specs.Demands.{In, Started, AgeAtMost}
-use Rattle.demodulator_run.specs.Exact.{HeldOf}
+use Rattle.demodulator_run.specs.Demands.{In, Started, DueAt, AgeAtMost}
+use Rattle.demodulator_run.specs.Exact.{HeldOf, lastSample}
 use Rattle.demodulator_run.specs.Calls.{Call, receiver, Given, singlesFrom}
 use Rattle.demodulator_run.specs.CallerSees.{Moment, controlAt, leftAt, Admitted, TakenSeen, DueSeen, DemandThree}
 use Rattle.demodulator_run.proofs.DemandAt.{size-at, alone-at, again-at, due-span-at, due-once-at, age-limit-at, log-exact-at}
@@ -39,19 +38,19 @@ module _ (R : Rate) (F : Facts R) where
   module _ (ss : List Single) (sampled : Each Callable ss) where
     -- the record's moment, as the rules have it
     module _ (t : Moment ss) where
-      front : Each Callable (t .before)
+      pub front : Each Callable (t .before)
       front = each-front Callable (t .before) (t .call ∷ t .after) (subst (Each Callable) (t .split) sampled)
 
-      control-same : controlAt R t ≡ historyAll (R .taps) (R .p) (t .before) .control
+      pub control-same : controlAt R t ≡ historyAll (R .taps) (R .p) (t .before) .control
       control-same = singles-run R F (t .before) front .0 .control
 
-      said-same : saidBy (leftAt R t) ≡ single (R .taps) (R .p) (historyAll (R .taps) (R .p) (t .before)) (t .call) .said
+      pub said-same : saidBy (leftAt R t) ≡ single (R .taps) (R .p) (historyAll (R .taps) (R .p) (t .before)) (t .call) .said
       said-same = next-single R F (t .before) front (t .call)
 
-      admitted : Admitted R t → isRefusal (single (R .taps) (R .p) (historyAll (R .taps) (R .p) (t .before)) (t .call) .said .answer) ≡ false
+      pub admitted : Admitted R t → isRefusal (single (R .taps) (R .p) (historyAll (R .taps) (R .p) (t .before)) (t .call) .said .answer) ≡ false
       admitted e = sym (ap (λ (s : Said). isRefusal (s .answer)) said-same) ∙ e
 
-      left-same : leftAt R t .demodulator .control ≡ single (R .taps) (R .p) (historyAll (R .taps) (R .p) (t .before)) (t .call) .history .control
+      pub left-same : leftAt R t .demodulator .control ≡ single (R .taps) (R .p) (historyAll (R .taps) (R .p) (t .before)) (t .call) .history .control
       left-same = call-agrees R F _ _ (singles-run R F (t .before) front .0) (singles-fit R F (t .before) front) (t .call) .control
 
       -- a wait has its candidate
@@ -86,17 +85,19 @@ module _ (R : Rate) (F : Facts R) where
         }
 
     -- ---- what is due
-    abbrev Marked : ℕ → Kind → Type 0
-    Marked d kind = (x : Shown) × (x .kind ≡ kind) × In (FellDue d x) (logAll (R .taps) (R .p) ss)
+    abbrev Marked : Offer → Type 0
+    Marked o = (x : Shown) × (offerOf x (o .sample) ≡ o) × In (FellDue (o .sample) x) (logAll (R .taps) (R .p) ss)
 
-    due-in : (d : ℕ) (kind : Kind) → DueSeen R ss kind d → Marked d kind
-    due-in d kind s =
+    pub due-in : (o : Offer) → DueSeen R ss o → Marked o
+    due-in o s =
         let t = s .moment in
         let c = control-same t in
-        let h = subst (λ (e : Control). (t : TakenBurst) × HeldOf kind t (e .candidate)) c (s .awaited) in (
-          shownOf (h .0),
-          h .1 .1,
-          log-exact-at R F ss sampled (FellDue d (shownOf (h .0))) .1 (record {
+        let h = subst (λ (e : Control). (t : TakenBurst) × HeldOf (o .kind) t (e .candidate) × (t .«taken_at» ≡ o .«taken_at»)) c (s .awaited) in
+        let kinds : h .0 .kind ≡ o .kind = h .1 .1 in
+        let x : Shown = shownOf (h .0) (o .age) (o .replaced) in (
+          x,
+          rw (kinds, h .2),
+          log-exact-at R F ss sampled (FellDue (o .sample) x) .1 (record {
             before = t .before;
             call = t .call;
             after = t .after;
@@ -106,9 +107,9 @@ module _ (R : Rate) (F : Facts R) where
           }),
         )
 
-    due-out : (d : ℕ) (kind : Kind) → Marked d kind → DueSeen R ss kind d
-    due-out d kind (x, same, i) =
-        let m = log-exact-at R F ss sampled (FellDue d x) .0 i in
+    due-out : (o : Offer) → Marked o → DueSeen R ss o
+    due-out o (x, same, i) =
+        let m = log-exact-at R F ss sampled (FellDue (o .sample) x) .0 i in
         let t : Moment ss = record { before = m .before; call = m .call; after = m .after; split = m .split } in
         let c = control-same t in
         record {
@@ -117,13 +118,17 @@ module _ (R : Rate) (F : Facts R) where
           value = m .rules .0;
           room = m .rules .1;
           is-sample = m .rules .2;
-          last = ap (λ (e : Control). e .wait) c ∙ m .rules .4;
-          awaited = (m .rules .5 .0, (ap (λ (e : Control). e .candidate) c ∙ m .rules .5 .1, ap (λ (y : Shown). y .kind) (m .rules .5 .2) ∙ same));
+          last = ap (λ (e : Control). e .wait) c ∙ m .rules .4 ∙ ap (λ (q : Offer). lastSample (q .age) (q .replaced)) same;
+          awaited = (
+            m .rules .5 .0,
+            (ap (λ (e : Control). e .candidate) c ∙ m .rules .5 .1, ap (λ (y : Shown). y .kind) (m .rules .5 .2) ∙ ap (λ (q : Offer). q .kind) same),
+            ap (λ (y : Shown). y .«taken_at») (m .rules .5 .2) ∙ ap (λ (q : Offer). q .«taken_at») same,
+          );
           number = m .rules .3 ∙ sym (ap (λ (e : Control). e .sample + 1) c);
         }
 
     -- ---- what is offered
-    seen-due : (o : Offer) → List·Memᴰ o (offersSaid (answers (singleReceiver R) fresh ss)) → DueSeen R ss (o .kind) (o .sample)
+    seen-due : (o : Offer) → List·Memᴰ o (offersSaid (answers (singleReceiver R) fresh ss)) → DueSeen R ss o
     unfolding left
     seen-due o i =
         let (b, c, a, e, f) = offers-seen R ss fresh o i in
@@ -133,7 +138,7 @@ module _ (R : Rate) (F : Facts R) where
         let t : Moment ss = record { before = b; call = c; after = a; split = e } in
         record { moment = t; admitted = ap isRefusal f; value = x; room = room; is-sample = q; last = w .last; awaited = w .awaited; number = w .number }
 
-    due-seen : (o : Offer) → DueSeen R ss (o .kind) (o .sample) → List·Memᴰ o (offersSaid (answers (singleReceiver R) fresh ss))
+    due-seen : (o : Offer) → DueSeen R ss o → List·Memᴰ o (offersSaid (answers (singleReceiver R) fresh ss))
     unfolding left
     due-seen o s =
         let t = s .moment in
@@ -148,8 +153,8 @@ module _ (R : Rate) (F : Facts R) where
   taken-exactly ss s n = (started ss s n, seen ss s n)
 
   -- and so are its due frames
-  pub due-exactly : (ss : List Single) → Each Callable ss → (d : ℕ) (kind : Kind) → DueSeen R ss kind d ↔ ((x : Shown) × (x .kind ≡ kind) × In (FellDue d x) (logAll (R .taps) (R .p) ss))
-  due-exactly ss s d kind = (due-in ss s d kind, due-out ss s d kind)
+  pub due-exactly : (ss : List Single) → Each Callable ss → (o : Offer) → DueSeen R ss o ↔ ((x : Shown) × (offerOf x (o .sample) ≡ o) × In (FellDue (o .sample) x) (logAll (R .taps) (R .p) ss))
+  due-exactly ss s o = (due-in ss s o, due-out ss s o)
 
   -- ---- every list of calls
   pub demand-three : (cs : List Call) → Each Given cs → DemandThree R cs
@@ -161,9 +166,14 @@ module _ (R : Rate) (F : Facts R) where
       record {
         due-one = λ n t fed.
             let fed′ = subst (λ (m : SoftDemodulator). n + (188 * R .p - 1) ≤ m .control .sample) (sym same) fed in
-            let (d, due, lo, hi) = due-span-at R F ss s n (started ss s n t) (subst (λ (k : ℕ). n + (188 * R .p - 1) ≤ k) (r .count) fed′) in
-            (d, (due .0 .kind, due-out ss s d (due .0 .kind) (due .0, refl, due .1)), lo, hi, λ e f l u. due-once-at R F ss s n e d (let g = due-in ss s e (f .0) (f .1) in (g .0, g .2)) due l u lo hi);
+            let (d, due, lo, hi) = due-span-at R F ss s n (started ss s n t) (subst (λ (k : ℕ). n + (188 * R .p - 1) ≤ k) (r .count) fed′) in (
+              d,
+              (offerOf (due .0) d, due-out ss s (offerOf (due .0) d) (due .0, refl, due .1), refl),
+              lo,
+              hi,
+              λ e f l u. due-once-at R F ss s n e d (let g = due-in ss s (f .0) (f .1) in subst (DueAt (logAll (R .taps) (R .p) ss)) (f .2) (g .0, g .2)) due l u lo hi,
+            );
         offers = λ o.
-            subst (λ (l : List Offer). List·Memᴰ o l ↔ DueSeen R ss (o .kind) (o .sample)) (singles-offers R cs fresh) (seen-due ss s o, due-seen ss s o);
+            subst (λ (l : List Offer). List·Memᴰ o l ↔ DueSeen R ss o) (singles-offers R cs fresh) (seen-due ss s o, due-seen ss s o);
         ages = subst (λ (m : SoftDemodulator). AgeAtMost (R .p + 1) (m .control .candidate)) same (subst (λ (c : Control). AgeAtMost (R .p + 1) (c .candidate)) (sym (r .control)) (age-limit-at R F ss s));
       }

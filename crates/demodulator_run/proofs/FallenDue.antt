@@ -1,6 +1,7 @@
 -- The wait is over: the frame falls due, and nothing is open. Assumes nothing.
 use mathlib.Core.Path.{sym, subst}
 use mathlib.Core.Logic.{inl, inr}
+use mathlib.Core.Bool.{Bool}
 use mathlib.Core.List.{List}
 use Prim.Native.Nat.{ℕ, _+_, _*_, _≤_, _<_}
 use native.Mathlib.Omega.{arith}
@@ -11,15 +12,15 @@ use Rattle.demodulator_run.proofs.Log.{more, new, started-either, stand
 use Rattle.demodulator_run.proofs.Account.{Episode, Closed, due-low, episode-more, handed-more, past-more, over, closed-more, genuine-more}
 use Rattle.demodulator_run.proofs.Phase.{Idle, Awaiting}
 
-module _ (ear : Ear) (p : ℕ) (l : List Mark) (n : ℕ) (held : TakenBurst) (W : Awaiting ear p l n 1 held) where
+module _ (ear : Ear) (p : ℕ) (l : List Mark) (n : ℕ) (age : ℕ) (mark : Bool) (held : TakenBurst) (W : Awaiting ear p l n (record { left = 1; age = age; replaced = mark }) held) where
   abbrev falling : Mark
-  falling = FellDue (n + 1) (shownOf held)
+  falling = FellDue (n + 1) (shownOf held age mark)
 
-  ended : Episode ear p (more l falling) (W .first) (W .b) (W .kind) (W .s) (n + 1) (shownOf held)
+  ended : Episode ear p (more l falling) (W .first) (W .b) (W .kind) (W .s) (n + 1) (shownOf held age mark)
   ended = episode-more ear p l falling (let o = W .over in omega arith) (λ j i t. absurd t) (W .episode)
 
   closed : Closed ear p (more l falling) (W .first) (W .b) (W .kind)
-  closed = record { s = W .s; d = n + 1; x = shownOf held; fell = new l falling; episode = ended }
+  closed = record { s = W .s; d = n + 1; x = shownOf held age mark; fell = new l falling; episode = ended }
 
   -- frames are a whole wait apart, but for one sample
   earlier : (e : ℕ) → DueAt l e → e + 184 * p ≤ (n + 1) + 1

@@ -81,6 +81,16 @@ pub mod OfferSeen
 pub mod TakenSeen
 -- demand 3 at the caller's side
 pub mod CallerSees
+-- the wait that a search sets, and the candidate that it takes
+pub mod SearchSets
+-- a search as a caller sees it
+pub mod SearchMoment
+-- the wait that an offer ends
+pub mod OfferWait
+-- what an offer reports
+pub mod OfferReports
+-- the same at 48,000 samples in a second
+pub mod Offers48
 -- a refused call changes nothing
 pub mod Refused
 -- examples, computed

@@ -16,43 +16,43 @@ more l y = l ++ (y ∷ [])
 abbrev pub sampleOf : Mark → ℕ
 sampleOf (First n k) = n
 sampleOf (Anew n j k) = n
-sampleOf (Failed n k) = n
+sampleOf (Failed n k b) = n
 sampleOf (FellDue n z) = n
 
 abbrev pub Starts : Mark → ℕ → Type 0
 Starts (First n k) m = m ≡ n
 Starts (Anew n j k) m = ⊥
-Starts (Failed n k) m = ⊥
+Starts (Failed n k b) m = ⊥
 Starts (FellDue n z) m = ⊥
 
 abbrev pub Takes : Mark → ℕ → Kind → Type 0
 Takes (First n k) b i = (b ≡ n) × (i ≡ k)
 Takes (Anew n j k) b i = (b ≡ n) × (i ≡ k)
-Takes (Failed n k) b i = ⊥
+Takes (Failed n k a) b i = ⊥
 Takes (FellDue n z) b i = ⊥
 
 abbrev pub Stands : Mark → ℕ → Kind → Type 0
 Stands (First n k) b i = (b ≡ n) × (i ≡ k)
 Stands (Anew n j k) b i = (b ≡ n) × (i ≡ k) × (rank k ≤ rank j)
-Stands (Failed n k) b i = ⊥
+Stands (Failed n k a) b i = ⊥
 Stands (FellDue n z) b i = ⊥
 
 abbrev pub Shows : Mark → ℕ → Shown → Type 0
 Shows (First n k) d x = ⊥
 Shows (Anew n j k) d x = ⊥
-Shows (Failed n k) d x = ⊥
+Shows (Failed n k b) d x = ⊥
 Shows (FellDue n z) d x = (d ≡ n) × (x ≡ z)
 
 pub takes-at : (y : Mark) (b : ℕ) (i : Kind) → Takes y b i → b ≡ sampleOf y
 takes-at (First n k) b i t = t .0
 takes-at (Anew n j k) b i t = t .0
-takes-at (Failed n k) b i t = absurd t
+takes-at (Failed n k a) b i t = absurd t
 takes-at (FellDue n z) b i t = absurd t
 
 pub stands-at : (y : Mark) (b : ℕ) (i : Kind) → Stands y b i → b ≡ sampleOf y
 stands-at (First n k) b i t = t .0
 stands-at (Anew n j k) b i t = t .0
-stands-at (Failed n k) b i t = absurd t
+stands-at (Failed n k a) b i t = absurd t
 stands-at (FellDue n z) b i t = absurd t
 
 -- a standing candidate was taken

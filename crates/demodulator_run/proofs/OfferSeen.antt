@@ -14,6 +14,7 @@ use Rattle.machine.specs.Runs.{run, answers}
 use Rattle.shaping.specs.Rate.{Rate}
 use Rattle.protocol.specs.Refusals.{bare}
 use Rattle.search.specs.declared.Candidate.{Candidate}
+use Rattle.search.specs.declared.Waiting.{Waiting}
 use Rattle.search.specs.declared.Wait.{Wait}
 use Rattle.search.specs.declared.Wait.the-variants.{Free, Due}
 use Rattle.search.specs.declared.Control.{Control}
@@ -21,7 +22,7 @@ use Rattle.search.specs.declared.Turn.the-variants.{Rest}
 use Rattle.search.specs.declared.Reply.{Reply}
 use Rattle.search.specs.declared.Shown.{Shown}
 use Rattle.search.specs.TakenBurst.{TakenBurst, heldAs, heldIn, shownOf}
-use Rattle.search.specs.Turn.{Outcome, quiet, offer, counted, waitingOn, freed, owing, dueTurn, waitedTurn, comesTo, sampled}
+use Rattle.search.specs.Turn.{Outcome, quiet, offer, counted, nearer, waitingOn, freed, owing, dueTurn, waitedTurn, comesTo, sampled}
 use Rattle.search.proofs.AgeInPass.{by-test}
 use Rattle.search.proofs.HeldOrNot.{HeldOrNot, not-held, is-held, held-or-not}
 use Rattle.demodulator.specs.declared.SoftDemodulator.{SoftDemodulator}
@@ -44,33 +45,33 @@ module _ (R : Rate) where
   no-offer shown c d e = let z : _≡_ {A = ℕ} 0 1 = cc in absurd (omega arith)
 
   module _ (p : ℕ) (v : ℕ → Float) (shown : Shown) (d : Control) where
-    -- what was held is offered
-    abbrev Offered : Candidate → Type 0
-    Offered candidate = (held : TakenBurst) × (candidate ≡ heldAs held) × (shownOf held ≡ shown)
+    -- what was held is offered, with what was kept with the wait
+    abbrev Offered : Waiting → Candidate → Type 0
+    Offered w candidate = (held : TakenBurst) × (candidate ≡ heldAs held) × (shownOf held (w .age) (w .replaced) ≡ shown)
 
-    due-offer : {candidate : Candidate} → HeldOrNot candidate → (c : Control) → comesTo p v (dueTurn (heldIn candidate) c) ≡ offer shown d → Offered candidate × (d ≡ owing true c)
+    due-offer : {candidate : Candidate} → HeldOrNot candidate → (w : Waiting) (c : Control) → comesTo p v (dueTurn (heldIn candidate) w c) ≡ offer shown d → Offered w candidate × (d ≡ owing true c)
     unfolding dueTurn
-    due-offer not-held c e = no-offer shown _ d e
-    due-offer (is-held held) c e = ((held, refl, cc), cc)
+    due-offer not-held w c e = no-offer shown _ d e
+    due-offer (is-held held) w c e = ((held, refl, cc), cc)
 
     waited-offer : (c : Control) (wait : Wait) → comesTo p v (waitedTurn wait (counted c)) ≡ offer shown d
-        → (left : ℕ) × (wait ≡ Due (record { left = left })) × (left ≤ 1) × Offered (c .candidate) × (d .sample ≡ c .sample + 1)
+        → (w : Waiting) × (wait ≡ Due w) × (w .left ≤ 1) × Offered w (c .candidate) × (d .sample ≡ c .sample + 1)
     unfolding waitedTurn
     waited-offer c Free e = no-offer shown _ d e
     waited-offer c (Due u) e = go (ltb 1 (u .left)) refl e
       where
-        go : (b : Bool) → ltb 1 (u .left) ≡ b → comesTo p v (cond b (Rest (waitingOn (u .left - 1) (counted c))) (dueTurn (heldIn (c .candidate)) (freed (counted c)))) ≡ offer shown d
-            → (left : ℕ) × (Due u ≡ Due (record { left = left })) × (left ≤ 1) × Offered (c .candidate) × (d .sample ≡ c .sample + 1)
+        go : (b : Bool) → ltb 1 (u .left) ≡ b → comesTo p v (cond b (Rest (waitingOn (nearer u) (counted c))) (dueTurn (heldIn (c .candidate)) u (freed (counted c)))) ≡ offer shown d
+            → (w : Waiting) × (Due u ≡ Due w) × (w .left ≤ 1) × Offered w (c .candidate) × (d .sample ≡ c .sample + 1)
         go true l e = no-offer shown _ d e
         go false l e =
-            let f = due-offer (held-or-not (c .candidate)) (freed (counted c)) e in
-            (u .left, refl, ltb-false 1 (u .left) l, f .0, ap (λ (k : Control). k .sample) (f .1))
+            let f = due-offer (held-or-not (c .candidate)) u (freed (counted c)) e in
+            (u, refl, ltb-false 1 (u .left) l, f .0, ap (λ (k : Control). k .sample) (f .1))
 
   -- ---- a sample of a record
   module _ (m : SoftDemodulator) (x : ℤ) (room : List Float) (o : Offer) where
     pub record Offers : Type 0 where
-      pub last : m .control .wait ≡ lastSample
-      pub awaited : (held : TakenBurst) × HeldOf (o .kind) held (m .control .candidate)
+      pub last : m .control .wait ≡ lastSample (o .age) (o .replaced)
+      pub awaited : (held : TakenBurst) × HeldOf (o .kind) held (m .control .candidate) × (held .«taken_at» ≡ o .«taken_at»)
       pub number : o .sample ≡ m .control .sample + 1
 
     abbrev Out : Left → Type 0
@@ -85,12 +86,15 @@ module _ (R : Rate) where
     finished-out fit (offer shown c) e t =
         let same : offerOf shown (c .sample) ≡ o = cc in
         let f = waited-offer (R .p) (eight (R .p) (back (R .p) (stored R m x))) shown c (m .control) (m .control .wait) (sym e) in
-        let w = record-facts (R .p) m (sample-record (R .p) m fit) .control .wait (record { left = f .0 }) (f .1) in
-        let one : f .0 ≡ 1 = omega (arith, w .from, f .2) in
+        let w = record-facts (R .p) m (sample-record (R .p) m fit) .control .wait (f .0) (f .1) in
+        let one : f .0 .left ≡ 1 = omega (arith, w .from, f .2) in
         let kinds : f .3 .0 .kind ≡ o .kind = ap (λ (s : Shown). s .kind) (f .3 .2) ∙ ap (λ (q : Offer). q .kind) same in
+        let numbers : f .3 .0 .«taken_at» ≡ o .«taken_at» = ap (λ (s : Shown). s .«taken_at») (f .3 .2) ∙ ap (λ (q : Offer). q .«taken_at») same in
+        let ages : f .0 .age ≡ o .age = ap (λ (s : Shown). s .age) (f .3 .2) ∙ ap (λ (q : Offer). q .age) same in
+        let marks : f .0 .replaced ≡ o .replaced = ap (λ (s : Shown). s .replaced) (f .3 .2) ∙ ap (λ (q : Offer). q .replaced) same in
         record {
-          last = f .1 ∙ ap (λ (n : ℕ). Due (record { left = n })) one;
-          awaited = (f .3 .0, (f .3 .1, kinds));
+          last = f .1 ∙ ap (λ (n : ℕ). Due (record { left = n; age = f .0 .age; replaced = f .0 .replaced })) one ∙ ap (λ (n : ℕ). lastSample n (f .0 .replaced)) ages ∙ ap (lastSample (o .age)) marks;
+          awaited = (f .3 .0, (f .3 .1, kinds), numbers);
           number = sym (ap (λ (q : Offer). q .sample) same) ∙ f .4;
         }
 
@@ -110,8 +114,8 @@ module _ (R : Rate) where
     not-in : (number : ℕ) → In (refused number m room)
     not-in number e = absurd (true≢false e)
 
-    sampled-in : (c : Control) → c .wait ≡ lastSample → (held : TakenBurst) → c .candidate ≡ heldAs held → (v : ℕ → Float)
-        → sampled (R .p) v c ≡ offer (shownOf held) (owing true (freed (counted c)))
+    sampled-in : (c : Control) → c .wait ≡ lastSample (o .age) (o .replaced) → (held : TakenBurst) → c .candidate ≡ heldAs held → (v : ℕ → Float)
+        → sampled (R .p) v c ≡ offer (shownOf held (o .age) (o .replaced)) (owing true (freed (counted c)))
     unfolding sampled waitedTurn dueTurn
     sampled-in c w held h v = rw (w, h)
 
@@ -120,12 +124,13 @@ module _ (R : Rate) where
     offer-in f =
         let held : TakenBurst = f .awaited .0 in
         let kinds : f .awaited .0 .kind ≡ o .kind = f .awaited .1 .1 in
+        let numbers : f .awaited .0 .«taken_at» ≡ o .«taken_at» = f .awaited .2 in
         let s = sampled-in (m .control) (f .last) (f .awaited .0) (f .awaited .1 .0) (eight (R .p) (back (R .p) (stored R m x))) in
         by-test In (not (fitForSample (R .p) m)) _ _ (λ _. not-in 1)
         (λ _. by-test In (m .control .owed) _ _ (λ _. not-in 2)
         (λ _. by-test In (ltb (length room) 192) _ _ (λ _. not-in 4)
         (λ _. by-test In (eqb (m .control .sample) (2 ^ 63)) _ _ (λ _. not-in 5)
-        (λ _ _. rw (s, kinds, sym (f .number))))))
+        (λ _ _. rw (s, kinds, numbers, sym (f .number))))))
 
   -- ---- a single call
   -- only a sample brings an offer

@@ -2,7 +2,7 @@
 use mathlib.Core.Path.{_≡_, refl, ap, _∙_}
 use mathlib.Core.Bool.{Bool, true, false, cond}
 use mathlib.Core.List.{List, [], _∷_, _++_}
-use Prim.Native.Nat.{ℕ, _*_}
+use Prim.Native.Nat.{ℕ, _-_, _*_}
 use lib.Ieee.{Float, lt}
 use Rattle.protocol.specs.declared.Kind.{Kind}
 use Rattle.protocol.specs.declared.Kind.the-variants.{Lsf, Bert, Stream, Packet}
@@ -12,13 +12,14 @@ use Rattle.decode.specs.declared.Correlation.{Correlation}
 use Rattle.decode.specs.Correlator.{correlation, matches}
 use Rattle.search.specs.declared.Candidate.{Candidate}
 use Rattle.search.specs.declared.Candidate.the-variants.{Nothing}
+use Rattle.search.specs.declared.Waiting.{Waiting}
 use Rattle.search.specs.declared.Wait.{Wait}
-use Rattle.search.specs.declared.Wait.the-variants.{Free}
+use Rattle.search.specs.declared.Wait.the-variants.{Free, Due}
 use Rattle.search.specs.declared.Timer.{Timer}
 use Rattle.search.specs.declared.Timer.the-variants.{Until}
 use Rattle.search.specs.declared.Control.{Control}
 use Rattle.search.specs.TakenBurst.{TakenBurst, heldAs, heldIn, taken, older, atAge}
-use Rattle.search.specs.Search.{withTimer, withCandidate, carried, sameKind, endAfter, heldAfter, waitAfter, missed, tried, passed, searched}
+use Rattle.search.specs.Search.{withTimer, carried, sameKind, endAfter, marked, matched, waitAfter, missed, tried, passed, searched}
 use Rattle.demodulator_run.specs.Marks.{Mark, First, Anew, Failed, takenMarks, missedMarks, triedMarks, passedMarks, searchedMarks}
 use Rattle.demodulator_run.proofs.KindOrder.{Place, Before, Level, After, place}
 
@@ -35,10 +36,10 @@ searchStep p v c = record { control = searched p v c; marks = searchedMarks p v 
 
 -- ---- the same with the matches named apart from the values
 turn : ℕ → Bool → Correlation → Kind → Control → Control
-turn p hit m kind c = cond hit (withCandidate (heldAs (heldAfter (heldIn (c .candidate)) (taken kind m))) c) (missed p kind (heldIn (c .candidate)) c)
+turn p hit m kind c = cond hit (matched (heldIn (c .candidate)) (taken kind m (c .sample)) c) (missed p kind (heldIn (c .candidate)) c)
 
 turnMarks : Bool → Correlation → Kind → Control → List Mark
-turnMarks hit m kind c = cond hit (takenMarks (c .sample) (heldIn (c .candidate)) (taken kind m)) (missedMarks (c .sample) kind (heldIn (c .candidate)))
+turnMarks hit m kind c = cond hit (takenMarks (c .sample) (heldIn (c .candidate)) (taken kind m (c .sample))) (missedMarks (c .sample) kind (heldIn (c .candidate)))
 
 pub passBy : ℕ → (Kind → Bool) → (Kind → Correlation) → Control → Step
 unfolding turn turnMarks
@@ -75,18 +76,22 @@ module _ (p : ℕ) (v : ℕ → Float) where
       let both : carried p EndOfTransmission v (carried p Preamble v c) ≡ withTimer u c = ap (carried p EndOfTransmission v) e ∙ f in
       (u, ap (λ (k : Control). record { control = passed p v k; marks = passedMarks p v k }) both ∙ pass-by p v (withTimer u c))
 
+-- a wait that was set at the age, and marked or not
+abbrev pub waitFrom : ℕ → ℕ → Bool → Waiting
+waitFrom p age mark = record { left = 184 * p - age; age = age; replaced = mark }
+
 -- ---- the closed form
 module _ (p : ℕ) (m : Kind → Correlation) (t : Timer) (o : Bool) (n : ℕ) where
   -- what kind j would take
   abbrev new : Kind → TakenBurst
-  new j = taken j (m j)
+  new j = taken j (m j) n
 
   pub pass-quiet : passBy p (λ k. false) m (controlled Nothing Free t o n) ≡ record { control = controlled Nothing Free t o n; marks = [] }
   unfolding passBy turn turnMarks missed missedMarks
   pass-quiet = refl
 
   pub pass-first : (j : Kind) → passBy p (sameKind j) m (controlled Nothing Free t o n) ≡ record { control = controlled (heldAs (new j)) Free t o n; marks = First n j ∷ [] }
-  unfolding passBy turn turnMarks missed missedMarks heldAfter takenMarks
+  unfolding passBy turn turnMarks missed missedMarks marked matched takenMarks
   pass-first Lsf = refl
   pass-first Bert = refl
   pass-first Stream = refl
@@ -95,12 +100,12 @@ module _ (p : ℕ) (m : Kind → Correlation) (t : Timer) (o : Bool) (n : ℕ) w
   module _ (held : TakenBurst) where
     -- the held kind fails
     pub pass-lost : passBy p (λ k. false) m (controlled (heldAs held) Free t o n)
-        ≡ record { control = controlled (heldAs held) (waitAfter p (held .age)) (Until (endAfter n (384 * p))) o n; marks = Failed n (held .kind) ∷ [] }
+        ≡ record { control = controlled (heldAs held) (waitAfter p (held .age)) (Until (endAfter n (384 * p))) o n; marks = Failed n (held .kind) (held .«taken_at») ∷ [] }
     unfolding passBy turn turnMarks missed missedMarks
     pass-lost = lost (held .kind) refl
       where
         lost : (k : Kind) → held .kind ≡ k → passBy p (λ k. false) m (controlled (heldAs held) Free t o n)
-            ≡ record { control = controlled (heldAs held) (waitAfter p (held .age)) (Until (endAfter n (384 * p))) o n; marks = Failed n (held .kind) ∷ [] }
+            ≡ record { control = controlled (heldAs held) (waitAfter p (held .age)) (Until (endAfter n (384 * p))) o n; marks = Failed n (held .kind) (held .«taken_at») ∷ [] }
         lost Lsf f = rw f
         lost Bert f = rw f
         lost Stream f = rw f
@@ -108,16 +113,16 @@ module _ (p : ℕ) (m : Kind → Correlation) (t : Timer) (o : Bool) (n : ℕ) w
 
     -- kind j alone matches while one is held; `above`: its diff is above. The held one's age becomes `grown`
     abbrev pub struck : ℕ → Place → Bool → Kind → Step
-    struck grown Before true j = record { control = controlled (heldAs (atAge grown held)) (waitAfter p grown) (Until (endAfter n (384 * p))) o n; marks = Failed n (held .kind) ∷ [] }
+    struck grown Before true j = record { control = controlled (heldAs (atAge grown held)) (waitAfter p grown) (Until (endAfter n (384 * p))) o n; marks = Failed n (held .kind) (held .«taken_at») ∷ [] }
     struck grown Before false j = record { control = controlled (heldAs (new j)) Free t o n; marks = Anew n (held .kind) j ∷ [] }
     struck grown Level true j = record { control = controlled (heldAs (atAge grown held)) Free t o n; marks = [] }
     struck grown Level false j = record { control = controlled (heldAs (new j)) Free t o n; marks = Anew n (held .kind) j ∷ [] }
-    struck grown After true j = record { control = controlled (heldAs (atAge grown held)) (waitAfter p (held .age)) (Until (endAfter n (384 * p))) o n; marks = Failed n (held .kind) ∷ [] }
-    struck grown After false j = record { control = controlled (heldAs (new j)) (waitAfter p (held .age)) (Until (endAfter n (384 * p))) o n; marks = Failed n (held .kind) ∷ Anew n (held .kind) j ∷ [] }
+    struck grown After true j = record { control = controlled (heldAs (atAge grown held)) (waitAfter p (held .age)) (Until (endAfter n (384 * p))) o n; marks = Failed n (held .kind) (held .«taken_at») ∷ [] }
+    struck grown After false j = record { control = controlled (heldAs (new j)) (Due (waitFrom p (held .age) true)) (Until (endAfter n (384 * p))) o n; marks = Failed n (held .kind) (held .«taken_at») ∷ Anew n (held .kind) j ∷ [] }
 
     pub pass-hit : (j : Kind) (above : Bool) → lt (held .diff) (m j .diff) ≡ above
         → passBy p (sameKind j) m (controlled (heldAs held) Free t o n) ≡ struck (older (held .age)) (place j (held .kind)) above j
-    unfolding passBy turn turnMarks missed missedMarks heldAfter takenMarks
+    unfolding passBy turn turnMarks missed missedMarks marked matched takenMarks
     pass-hit j = hit j (held .kind) refl
       where
         hit : (j k : Kind) → held .kind ≡ k → (above : Bool) → lt (held .diff) (m j .diff) ≡ above

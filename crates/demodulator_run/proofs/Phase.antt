@@ -8,6 +8,7 @@ use Prim.Native.Nat.{ℕ, _+_, _*_, _≤_, _<_}
 use native.Mathlib.Nat.{lt-of-not-le, eq-or-lt-of-le}
 use native.Mathlib.Omega.{arith}
 use Rattle.protocol.specs.declared.Kind.{Kind}
+use Rattle.search.specs.declared.Waiting.{Waiting}
 use Rattle.search.specs.declared.Wait.{Wait}
 use Rattle.search.specs.declared.Wait.the-variants.{Free, Due}
 use Rattle.search.specs.declared.Shown.{Shown}
@@ -53,17 +54,17 @@ module _ (ear : Ear) (p : ℕ) where
     pub all : (j : ℕ) → first ≤ j → j ≤ n → SomeMatch ear p j
     pub values : TakenFrom held b
 
-  -- `left` samples after n the frame is due, and will show what is held
-  pub record Awaiting (l : List Mark) (n left : ℕ) (held : TakenBurst) : Type 0 where
+  -- once the wait is over the frame is due, and will show what is held
+  pub record Awaiting (l : List Mark) (n : ℕ) (w : Waiting) (held : TakenBurst) : Type 0 where
     pub first : ℕ
     pub b : ℕ
     pub kind : Kind
     pub s : ℕ
     pub busy : Busy l n first b kind
-    pub episode : Episode ear p l first b kind s (n + left) (shownOf held)
+    pub episode : Episode ear p l first b kind s (n + w .left) (shownOf held (w .age) (w .replaced))
     pub over : s ≤ n
-    pub some : 0 < left
-    pub short : left < 184 * p
+    pub some : 0 < w .left
+    pub short : w .left < 184 * p
     pub born : 0 < held .age
     pub aged : (held .age + b ≤ s) ⊎ ((held .age + b ≤ s + 1) × SomeMatch ear p s)
     pub source : ℕ
@@ -74,7 +75,7 @@ module _ (ear : Ear) (p : ℕ) where
   Phase l n none Free owed = Idle l n
   Phase l n none (Due w) owed = ⊥
   Phase l n (some held) Free owed = (owed ≡ false) × Holding l n held
-  Phase l n (some held) (Due w) owed = (owed ≡ false) × Awaiting l n (w .left) held
+  Phase l n (some held) (Due w) owed = (owed ≡ false) × Awaiting l n w held
 
   -- of a control, and of the log so far
   abbrev pub Kept : List Mark → Control → Type 0

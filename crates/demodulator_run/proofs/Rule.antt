@@ -35,30 +35,40 @@ module _ (ear : Ear) (p : ℕ) (alone : Alone ear) where
     one-due d e (inr u) (inl v) = absurd (u .0 (v .0))
     one-due d e (inr u) (inr v) = u .1 ∙ sym (v .1)
 
-    one-shown : (x y : Shown) → ((j : Kind) × Replaces ear b k s j × (x ≡ shownAt ear j s)) ⊎ (((j : Kind) → Replaces ear b k s j → ⊥) × (x ≡ shownAt ear k b))
-        → ((j : Kind) × Replaces ear b k s j × (y ≡ shownAt ear j s)) ⊎ (((j : Kind) → Replaces ear b k s j → ⊥) × (y ≡ shownAt ear k b)) → x ≡ y
-    one-shown x y (inl u) (inl v) = u .2 ∙ ap (λ (j : Kind). shownAt ear j s) (alone (u .0) (v .0) s (u .1 .1) (v .1 .1)) ∙ sym (v .2)
-    one-shown x y (inl u) (inr v) = absurd (v .0 (u .0) (u .1))
-    one-shown x y (inr u) (inl v) = absurd (u .0 (v .0) (v .1))
-    one-shown x y (inr u) (inr v) = u .1 ∙ sym (v .1)
+    -- what is shown, with the age at which the wait was set
+    abbrev Shows : Shown → ℕ → Type 0
+    Shows x age = ((j : Kind) × Replaces ear b k s j × (x ≡ shownAt ear j s age true)) ⊎ (((j : Kind) → Replaces ear b k s j → ⊥) × (x ≡ shownAt ear k b age false))
+
+    one-shown : (x y : Shown) (age : ℕ) → Shows x age → Shows y age → x ≡ y
+    one-shown x y age (inl u) (inl v) = u .2 ∙ ap (λ (j : Kind). shownAt ear j s age true) (alone (u .0) (v .0) s (u .1 .1) (v .1 .1)) ∙ sym (v .2)
+    one-shown x y age (inl u) (inr v) = absurd (v .0 (u .0) (u .1))
+    one-shown x y age (inr u) (inl v) = absurd (u .0 (v .0) (v .1))
+    one-shown x y age (inr u) (inr v) = u .1 ∙ sym (v .1)
 
     pub decided : (d e : ℕ) (x y : Shown) → DueBy ear p b k s d x → DueBy ear p b k s e y → (d ≡ e) × (x ≡ y)
-    decided d e x y D E = (one-due d e (D .sample) (E .sample), one-shown x y (D .shown) (E .shown))
+    decided d e x y D E =
+        let same : d ≡ e = one-due d e (D .sample) (E .sample) in
+        let ages : y .age ≡ x .age = omega (arith, D .waited, E .waited, same) in
+        (same, one-shown x y (x .age) (D .shown) (subst (Shows y) ages (E .shown)))
 
     -- .. and there is always one
     module _ (big : SymbolSize p) where
       abbrev Some : Type 0
       Some = (d : ℕ) × (x : Shown) × DueBy ear p b k s d x
 
+      -- the age at which a wait was set on s that ends on d
+      abbrev aged : ℕ → ℕ
+      aged d = (s + 184 * p) - d
+
       no-corner : (Corner ear b k s → ⊥) → ((j : Kind) × Replaces ear b k s j) ⊎ ((j : Kind) → Replaces ear b k s j → ⊥) → Some
-      no-corner c (inl r) = (b + 184 * p, shownAt ear (r .0) s, record { sample = inr (c, refl); shown = inl (r .0, r .1, refl) })
-      no-corner c (inr r) = (b + 184 * p, shownAt ear k b, record { sample = inr (c, refl); shown = inr (r, refl) })
+      no-corner c (inl r) = (b + 184 * p, shownAt ear (r .0) s (aged (b + 184 * p)) true, record { sample = inr (c, refl); waited = refl; shown = inl (r .0, r .1, refl) })
+      no-corner c (inr r) = (b + 184 * p, shownAt ear k b (aged (b + 184 * p)) false, record { sample = inr (c, refl); waited = refl; shown = inr (r, refl) })
 
       by-hit : (j : Kind) → Matches ear j s → ((i : Kind) → Matches ear i s → i ≡ j) → (o : Place) → Placed o j k → (a : Bool) → lt (at ear k b .diff) (at ear j s .diff) ≡ a → Some
       by-hit j hit only Before r true e = (
         b + (184 * p - 1),
-        shownAt ear k b,
-        record { sample = inl ((j, r, hit, holds e), omega arith); shown = inr (λ i q. omega (arith, q .0, ap rank (only i (q .1))), refl) },
+        shownAt ear k b (aged (b + (184 * p - 1))) false,
+        record { sample = inl ((j, r, hit, holds e), omega arith); waited = refl; shown = inr (λ i q. omega (arith, q .0, ap rank (only i (q .1))), refl) },
       )
       by-hit j hit only Before r false e =
           no-corner (λ c. no→⊥ e (subst (λ (i : Kind). Above ear i s k b) (only (c .0) (c .2)) (c .3))) (inr (λ i q. omega (arith, q .0, ap rank (only i (q .1)))))
@@ -139,7 +149,7 @@ module _ (ear : Ear) (p : ℕ) (alone : Alone ear) where
         let W = I .1 in
         let G : Fails ear l (W .b) (W .kind) s = subst (λ (i : Kind). Fails ear l (W .b) i s) (q .1) (subst (λ (c : ℕ). Fails ear l c k s) (q .0) F) in
         let D' : DueBy ear p (W .b) (W .kind) s d x = subst (λ (i : Kind). DueBy ear p (W .b) i s d x) (q .1) (subst (λ (c : ℕ). DueBy ear p c k s d x) (q .0) D) in
-        let y : Shown = shownOf held in
+        let y : Shown = shownOf held (w .age) (w .replaced) in
         let E : DueBy ear p (W .b) (W .kind) s (n + w .left) y = subst (λ (t : ℕ). DueBy ear p (W .b) (W .kind) t (n + w .left) y) (same-end (W .episode .fails) G) (W .episode .due) in
         let f : d ≡ n + w .left = decided (W .b) (W .kind) s d (n + w .left) x y D' E .0 in
         let u = W .some in
@@ -151,6 +161,7 @@ module _ (ear : Ear) (p : ℕ) (alone : Alone ear) where
       λ i. let (m, b, k, s, E) = kept-told ear p l c I d x i in (kept-past ear p l c I (FellDue d x) i, record { b = b; kind = k; s = s; fails = E .fails; due = E .due }),
       λ q. over d x (q .1) (q .0) .2,
     );
+    set = λ d x o A. over d x A o .1 .failed;
     only = only;
     settled = λ b k s. settled b k s big;
     decided = decided;

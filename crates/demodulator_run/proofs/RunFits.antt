@@ -1,7 +1,7 @@
 -- What the rules keep over a run: a fit control, and a count that is the number of admitted samples. Over p and the table. Assumes nothing.
 use mathlib.Core.Path.{_≡_, refl, sym, ap, subst, _∙_}
 use mathlib.Core.Logic.{_⊎_, inl, inr}
-use mathlib.Core.Bool.{false, not}
+use mathlib.Core.Bool.{true, false, not, false≢true}
 use mathlib.Core.List.{List, [], _∷_, _++_}
 use Prim.Native.Nat.{ℕ, _+_, _^_, _≤_, _<_}
 use native.Mathlib.Omega.{arith}
@@ -34,10 +34,12 @@ use Rattle.demodulator_run.proofs.Count.{sampled-count, replied-count}
 pub record HeardFit (p : ℕ) (h : History) : Type 0 where
   pub fit : T (controlFit p (h .control))
   pub count : h .control .sample ≡ length (h .samples)
+  -- a reply is owed to a sample that was counted
+  pub owing : h .control .owed ≡ true → 1 ≤ h .control .sample
 
 pub start-fit : (p : ℕ) → HeardFit p start
 unfolding candidateFit waitFit
-start-fit p = record { fit = joined p freshControl (record { count = tt; timer = tt; candidate = tt; wait = tt; reply = tt }); count = refl }
+start-fit p = record { fit = joined p freshControl (record { count = tt; timer = tt; candidate = tt; wait = tt; reply = tt; taken = tt; kept = tt }); count = refl; owing = λ e. absurd (false≢true e) }
 
 -- an age below 254 does not outgrow
 not-outgrown : (p : ℕ) (before after : Control) → ageOf (before .candidate) < 254 → T (controlFit p after) ⊎ Outgrown p before after → T (controlFit p after)
@@ -65,6 +67,7 @@ module _ (table : List Float) (p : ℕ) where
         (record {
           fit = not-outgrown p (h .control) _ young (sampled-fits p symbol v (λ i l. in-range table p bound xs t _) (h .control) (s .fit) (omega (arith, n)) e);
           count = sampled-count p v (h .control) ∙ ap (λ (k : ℕ). k + 1) (s .count) ∙ sym (length-append (h .samples) (x ∷ []));
+          owing = λ _. omega (arith, sampled-count p v (h .control));
         })
 
     given-fit : (x : ℤ) (room : List Float) → natAbs x ≤ 32768 → Next (given table p h x room)
@@ -83,8 +86,9 @@ module _ (table : List Float) (p : ℕ) where
         (λ e. record {
           fit =
               replied-fits p symbol v (λ i l. in-range table p bound (h .samples) small _) (h .control) (s .fit)
-              (control-facts p (h .control) (s .fit) .reply (not-false (h .control .owed) e)) r;
+              (control-facts p (h .control) (s .fit) .reply (not-false (h .control .owed) e)) (s .owing (not-false (h .control .owed) e)) r;
           count = replied-count p v r (h .control) ∙ s .count;
+          owing = λ _. omega (arith, replied-count p v r (h .control), s .owing (not-false (h .control .owed) e));
         })
 
     pub called-fit : (c : Single) → Callable c → Next (single table p h c)

@@ -44,7 +44,7 @@ module _ (ear : Ear) (p : ℕ) (alone : Alone ear) (n : ℕ) where
         back : (y : Mark) → Says y → In y []
         back (First m k) s = absurd (none k (subst (Matches ear k) (s .0) (s .2)))
         back (Anew m j k) s = absurd (none k (subst (Matches ear k) (s .0) (s .1)))
-        back (Failed m k) s = let e = s .2 .1 .0 in let z : _≡_ {A = ℕ} 0 1 = cc in absurd (omega arith)
+        back (Failed m k b) s = let e = s .2 .1 .0 in let z : _≡_ {A = ℕ} 0 1 = cc in absurd (omega arith)
         back (FellDue m x) s = absurd s
 
     first-exact : (j : Kind) → Matches ear j n → Exactly Says (First n j ∷ [])
@@ -57,7 +57,7 @@ module _ (ear : Ear) (p : ℕ) (alone : Alone ear) (n : ℕ) where
             let f : First m k ≡ First n j = cc in
             List·Memᴰ·head f
         back (Anew m i k) s = let e = s .2 .1 .0 in let z : _≡_ {A = ℕ} 0 1 = cc in absurd (omega arith)
-        back (Failed m k) s = let e = s .2 .1 .0 in let z : _≡_ {A = ℕ} 0 1 = cc in absurd (omega arith)
+        back (Failed m k b) s = let e = s .2 .1 .0 in let z : _≡_ {A = ℕ} 0 1 = cc in absurd (omega arith)
         back (FellDue m x) s = absurd s
 
   -- ---- one is held
@@ -72,13 +72,17 @@ module _ (ear : Ear) (p : ℕ) (alone : Alone ear) (n : ℕ) where
     abbrev Stays : Type 0
     Stays = (j : Kind) → rank j < rank k → Matches ear j n → lt (held .diff) (at ear j n .diff) ≡ true
 
-    tells-failed : Unmatched ear k n → Stays → (y : Mark) → y ≡ Failed n k → Tells y
-    tells-failed lost stays y e = subst Tells (sym e) (refl, lost, (held, (refl, refl), stays))
+    -- where it was taken
+    abbrev since : ℕ
+    since = held .«taken_at»
+
+    tells-failed : Unmatched ear k n → Stays → (y : Mark) → y ≡ Failed n k since → Tells y
+    tells-failed lost stays y e = subst Tells (sym e) (refl, lost, (held, (refl, refl), stays, refl))
 
     tells-anew : (j : Kind) → Matches ear j n → lt (held .diff) (at ear j n .diff) ≡ false → (y : Mark) → y ≡ Anew n k j → Tells y
     tells-anew j hit below y e = subst Tells (sym e) (refl, hit, (held, (refl, refl), below))
 
-    exactly : (m : List Mark) → ((y : Mark) → In y m → Tells y) → ((j : Kind) → Matches ear j n → lt (held .diff) (at ear j n .diff) ≡ false → In (Anew n k j) m) → (Unmatched ear k n → Stays → In (Failed n k) m)
+    exactly : (m : List Mark) → ((y : Mark) → In y m → Tells y) → ((j : Kind) → Matches ear j n → lt (held .diff) (at ear j n .diff) ≡ false → In (Anew n k j) m) → (Unmatched ear k n → Stays → In (Failed n k since) m)
         → Exactly Tells m
     exactly m forth anew failed y = (forth y, back y)
       where
@@ -91,7 +95,7 @@ module _ (ear : Ear) (p : ℕ) (alone : Alone ear) (n : ℕ) where
             let diffs : d ≡ held .diff = sym (ap (λ (t : TakenBurst). t .diff) same) in
             let q : lt (held .diff) (at ear j n .diff) ≡ false = subst (λ (x : Float). lt x (at ear j n .diff) ≡ false) diffs (subst (λ (x : ℕ). lt d (at ear j x .diff) ≡ false) (s .0) (s .2 .2)) in
             subst (λ (x : ℕ). In (Anew x h j) m) (sym (s .0)) (subst (λ (x : Kind). In (Anew n x j) m) kinds (anew j (subst (Matches ear j) (s .0) (s .1)) q))
-        back (Failed i h) s =
+        back (Failed i h b) s =
             let d : Float = s .2 .0 .diff in
             let same : held ≡ s .2 .0 = same-held held (s .2 .0) (s .2 .1 .0) in
             let kinds : k ≡ h = ap (λ (t : TakenBurst). t .kind) same ∙ s .2 .1 .1 in
@@ -100,12 +104,13 @@ module _ (ear : Ear) (p : ℕ) (alone : Alone ear) (n : ℕ) where
             let stays : Stays = λ j r q.
             subst (λ (x : Float). lt x (at ear j n .diff) ≡ true) diffs
             (subst (λ (x : ℕ). lt d (at ear j x .diff) ≡ true) (s .0) (s .2 .2 j (subst (λ (x : Kind). rank j < rank x) kinds r) (subst (Matches ear j) (sym (s .0)) q))) in
-            subst (λ (x : ℕ). In (Failed x h) m) (sym (s .0)) (subst (λ (x : Kind). In (Failed n x) m) kinds (failed lost stays))
+            let taken : held .«taken_at» ≡ b = ap (λ (t : TakenBurst). t .«taken_at») same ∙ s .2 .3 in
+            subst (λ (x : ℕ). In (Failed x h b) m) (sym (s .0)) (subst (λ (x : Kind). In (Failed n x b) m) kinds (subst (λ (x : ℕ). In (Failed n k x) m) taken (failed lost stays)))
         back (FellDue i x) s = absurd s
 
-    lost-exact : ((j : Kind) → Matches ear j n → ⊥) → Unmatched ear k n → Exactly Tells (Failed n k ∷ [])
+    lost-exact : ((j : Kind) → Matches ear j n → ⊥) → Unmatched ear k n → Exactly Tells (Failed n k since ∷ [])
     lost-exact none lost =
-        exactly (Failed n k ∷ []) (λ y i. tells-failed lost (λ j r q. absurd (none j q)) y (List·Memᴰ·eq-of-singleton i)) (λ j q b. absurd (none j q)) (λ l s. List·Memᴰ·head refl)
+        exactly (Failed n k since ∷ []) (λ y i. tells-failed lost (λ j r q. absurd (none j q)) y (List·Memᴰ·eq-of-singleton i)) (λ j q b. absurd (none j q)) (λ l s. List·Memᴰ·head refl)
 
     module _ (j : Kind) (hit : Matches ear j n) (only : (i : Kind) → Matches ear i n → i ≡ j) (missed : (j ≡ k → ⊥) → Unmatched ear k n) where
       -- the diff of whatever matches is j's
@@ -120,7 +125,7 @@ module _ (ear : Ear) (p : ℕ) (alone : Alone ear) (n : ℕ) where
 
       struck-exact : (u : Timer) (o' : Place) → Placed o' j k → (b : Bool) → lt (held .diff) (at ear j n .diff) ≡ b → Exactly Tells (struck p (λ i. at ear i n) u o n held (older (held .age)) o' b j .marks)
       struck-exact u Before r true e =
-          exactly (Failed n k ∷ []) (λ y i. tells-failed (missed (λ q. omega (arith, r, ap rank q))) (λ i r' q. moved true e i q) y (List·Memᴰ·eq-of-singleton i))
+          exactly (Failed n k since ∷ []) (λ y i. tells-failed (missed (λ q. omega (arith, r, ap rank q))) (λ i r' q. moved true e i q) y (List·Memᴰ·eq-of-singleton i))
           (λ i q f. absurd (above-below e i q f)) (λ l s. List·Memᴰ·head refl)
       struck-exact u Before r false e =
           exactly (Anew n k j ∷ []) (λ y i. tells-anew j hit e y (List·Memᴰ·eq-of-singleton i)) (taken-in (Anew n k j ∷ []) (List·Memᴰ·head refl)) (λ l s.
@@ -129,13 +134,13 @@ module _ (ear : Ear) (p : ℕ) (alone : Alone ear) (n : ℕ) where
       struck-exact u Level r false e =
           exactly (Anew n k j ∷ []) (λ y i. tells-anew j hit e y (List·Memᴰ·eq-of-singleton i)) (taken-in (Anew n k j ∷ []) (List·Memᴰ·head refl)) (λ l s. absurd (clash k (subst (λ (x : Kind). Matches ear x n) r hit) l))
       struck-exact u After r true e =
-          exactly (Failed n k ∷ []) (λ y i. tells-failed (missed (λ q. omega (arith, r, ap rank q))) (λ i r' q. moved true e i q) y (List·Memᴰ·eq-of-singleton i))
+          exactly (Failed n k since ∷ []) (λ y i. tells-failed (missed (λ q. omega (arith, r, ap rank q))) (λ i r' q. moved true e i q) y (List·Memᴰ·eq-of-singleton i))
           (λ i q f. absurd (above-below e i q f)) (λ l s. List·Memᴰ·head refl)
       struck-exact u After r false e =
-          exactly (Failed n k ∷ Anew n k j ∷ []) (λ y i. elim (List·Memᴰ·cases-cons i) [
+          exactly (Failed n k since ∷ Anew n k j ∷ []) (λ y i. elim (List·Memᴰ·cases-cons i) [
             | inl q ↦ tells-failed (missed (λ q. omega (arith, r, ap rank q))) (λ i r' q. absurd (omega (arith, r, r', ap rank (only i q)))) y q
             | inr q ↦ tells-anew j hit e y (List·Memᴰ·eq-of-singleton q)
-          ]) (taken-in (Failed n k ∷ Anew n k j ∷ []) (List·Memᴰ·tail (List·Memᴰ·head refl))) (λ l s. List·Memᴰ·head refl)
+          ]) (taken-in (Failed n k since ∷ Anew n k j ∷ []) (List·Memᴰ·tail (List·Memᴰ·head refl))) (λ l s. List·Memᴰ·head refl)
 
   -- ---- the search
   one-hit : (j : Kind) → OneHeard (ear n) (λ i j. alone i j n) j → Matches ear j n

@@ -20,7 +20,7 @@ use Rattle.search.specs.Search.{rank}
 use Rattle.demodulator_run.specs.Marks.{Mark, Anew, Failed}
 use Rattle.demodulator_run.specs.Demands.{SymbolSize, Ear, at, Matches, Above, Alone, NotAgain, takenAt}
 use Rattle.demodulator_run.proofs.KindOrder.{Place, Before, Level, After, place, Placed, placed, same-self, same→≡, no→⊥, heard, NoneHeard, OneHeard}
-use Rattle.demodulator_run.proofs.Pass.{Step, controlled, searchStep, passBy, search-pass, pass-quiet, pass-first, pass-lost, pass-hit, struck}
+use Rattle.demodulator_run.proofs.Pass.{Step, controlled, searchStep, waitFrom, passBy, search-pass, pass-quiet, pass-first, pass-lost, pass-hit, struck}
 use Rattle.demodulator_run.proofs.Log.{more}
 use Rattle.demodulator_run.proofs.Phase.{Idle, Holding, Awaiting, Kept}
 use Rattle.demodulator_run.proofs.Begin.{begun}
@@ -82,7 +82,7 @@ module _ (ear : Ear) (p : ℕ) (alone : Alone ear) (l : List Mark) where
       struck-kept After r true e = (refl, fails-aged ear p big again l n held H (missed (λ q. omega (arith, r, ap rank q))) j hit only r (holds (compared true e)))
       struck-kept After r false e = (
         refl,
-        subst (λ (m : List Mark). Awaiting ear p m (n + 1) (184 * p - held .age) (takenAt ear j (n + 1))) (append-assoc l (Failed (n + 1) k ∷ []) (Anew (n + 1) k j ∷ []))
+        subst (λ (m : List Mark). Awaiting ear p m (n + 1) (waitFrom p (held .age) true) (takenAt ear j (n + 1))) (append-assoc l (Failed (n + 1) k (held .«taken_at») ∷ []) (Anew (n + 1) k j ∷ []))
             (fails-replaced ear p big again l n held H (missed (λ q. omega (arith, r, ap rank q))) j hit only r (no→⊥ (compared false e))),
       )
 

@@ -9,6 +9,7 @@ use native.Mathlib.Nat.{lt-of-not-le, eq-or-lt-of-le}
 use native.Mathlib.Omega.{arith}
 use Rattle.protocol.specs.declared.Kind.{Kind}
 use Rattle.search.specs.declared.Candidate.{Candidate}
+use Rattle.search.specs.declared.Waiting.{Waiting}
 use Rattle.search.specs.declared.Wait.{Wait}
 use Rattle.search.specs.declared.Wait.the-variants.{Free, Due}
 use Rattle.search.specs.declared.Shown.{Shown}
@@ -70,11 +71,11 @@ module _ (ear : Ear) (p : ℕ) (big : SymbolSize p) (l : List Mark) where
 
   -- ---- the age, where a candidate's matches are few enough
   module _ (limit : ℕ) (holding : (n : ℕ) (held : TakenBurst) → Holding ear p l n held → held .age ≤ limit)
-      (awaiting : (n left : ℕ) (held : TakenBurst) → Awaiting ear p l n left held → held .age ≤ limit) where
+      (awaiting : (n : ℕ) (w : Waiting) (held : TakenBurst) → Awaiting ear p l n w held → held .age ≤ limit) where
     phase-age : (n : ℕ) {candidate : Candidate} → HeldOrNot candidate → (wait : Wait) (owed : Bool) → Phase ear p l n (heldIn candidate) wait owed → AgeAtMost limit candidate
     phase-age n not-held wait owed I = omega arith
     phase-age n (is-held held) Free owed I = holding n held (I .1)
-    phase-age n (is-held held) (Due w) owed I = awaiting n (w .left) held (I .1)
+    phase-age n (is-held held) (Due w) owed I = awaiting n w held (I .1)
 
     pub age-of : (c : Control) → Kept ear p l c → AgeAtMost limit (c .candidate)
     age-of c I = phase-age (c .sample) (held-or-not (c .candidate)) (c .wait) (c .owed) I
@@ -95,7 +96,7 @@ module _ (ear : Ear) (p : ℕ) (big : SymbolSize p) (l : List Mark) where
 
     pub age-again : AgeAtMost (p + 1) (c .candidate)
     age-again = age-of (p + 1) (λ n held H. let u = young ear p again l n held H in omega arith)
-        (λ n left held W.
+        (λ n w held W.
         let F = W .episode .fails in
         let o = F .later in
         let u = run-short ear p again (W .kind) (W .b) (W .s - 1) (omega arith) (λ j v w. F .matched j v (omega arith)) in
@@ -134,7 +135,7 @@ module _ (ear : Ear) (p : ℕ) (big : SymbolSize p) (l : List Mark) where
       pub age-apart : AgeAtMost p (c .candidate)
       age-apart = age-of p
           (λ n held H. let u = holding-apart n held H in let v = H .begun in let w = H .within in let x = H .aged in omega arith)
-          (λ n left held W.
+          (λ n w held W.
           let E = W .episode in
           let a = E .after in
           elim (W .aged) [

@@ -55,7 +55,7 @@ module _ (R : Rate) (F : Facts R) where
     ring = r .ring;
   }
 
-  eight-read : (m : SoftDemodulator) (xs : List ℤ) → Remembers R m xs → eight (R .p) (back (R .p) m) ≡ eight (R .p) (ago (R .taps) (R .p) xs)
+  pub eight-read : (m : SoftDemodulator) (xs : List ℤ) → Remembers R m xs → eight (R .p) (back (R .p) m) ≡ eight (R .p) (ago (R .taps) (R .p) xs)
   eight-read m xs r = eight-same (R .p) some (back (R .p) m) (ago (R .taps) (R .p) xs) (r .ring)
 
   finished-agrees : (m : SoftDemodulator) (xs : List ℤ) (room : List Float) (o : Outcome) → Remembers R m xs → Agrees (finished (R .p) m room o) (settled (R .taps) (R .p) xs room o)

@@ -17,6 +17,7 @@ use Rattle.search.specs.declared.Wait.{Wait}
 use Rattle.search.specs.declared.Wait.the-variants.{Free, Due}
 use Rattle.search.specs.declared.Timer.{Timer}
 use Rattle.search.specs.declared.Control.{Control}
+use Rattle.search.specs.declared.Shown.{Shown}
 use Rattle.search.specs.declared.Reply.{Reply}
 use Rattle.search.specs.declared.Reply.the-variants.{Accepted, Rejected}
 use Rattle.search.specs.TakenBurst.{TakenBurst, heldAs, heldIn, shownOf}
@@ -35,19 +36,19 @@ module _ (ear : Ear) (h : History) (call : Single) where
   abbrev pub DueHere : Mark → Type 0
   DueHere (First n k) = ⊥
   DueHere (Anew n j k) = ⊥
-  DueHere (Failed n k) = ⊥
+  DueHere (Failed n k b) = ⊥
   DueHere (FellDue d x) = ByRules ear (FellDue d x) h call
 
   by-search : (c : Control) → Searches h call c → (y : Mark) → BySearch ear c y → ByRules ear y h call
   by-search c r (First n k) s = (c, r, s)
   by-search c r (Anew n j k) s = (c, r, s)
-  by-search c r (Failed n k) s = (c, r, s)
+  by-search c r (Failed n k b) s = (c, r, s)
   by-search c r (FellDue d x) s = absurd s
 
   source : (y : Mark) → ByRules ear y h call → ((c : Control) × Searches h call c × BySearch ear c y) ⊎ DueHere y
   source (First n k) s = inl s
   source (Anew n j k) s = inl s
-  source (Failed n k) s = inl s
+  source (Failed n k b) s = inl s
   source (FellDue d x) s = inr s
 
   -- no search runs, and no frame falls due
@@ -63,25 +64,27 @@ module _ (ear : Ear) (h : History) (call : Single) where
   pub no-sample : ((x : ℤ) (room : List Float) → call ≡ sample x room → ⊥) → (y : Mark) → DueHere y → ⊥
   no-sample none (First n k) d = d
   no-sample none (Anew n j k) d = d
-  no-sample none (Failed n k) d = d
+  no-sample none (Failed n k b) d = d
   no-sample none (FellDue n x) d = none (d .0) (d .1) (d .2)
 
   -- and a wait of 1
-  no-wait : (h .control .wait ≡ lastSample → ⊥) → (y : Mark) → DueHere y → ⊥
+  no-wait : ((age : ℕ) (mark : Bool) → h .control .wait ≡ lastSample age mark → ⊥) → (y : Mark) → DueHere y → ⊥
   no-wait none (First n k) d = d
   no-wait none (Anew n j k) d = d
-  no-wait none (Failed n k) d = d
-  no-wait none (FellDue n x) d = none (d .4)
+  no-wait none (Failed n k b) d = d
+  no-wait none (FellDue n x) d = none (x .age) (x .replaced) (d .4)
 
 pub free-due : {w : Waiting} → Free ≡ Due w → ⊥
 free-due e = let z : _≡_ {A = ℕ} 0 1 = cc in omega arith
 
-pub due-one : (left : ℕ) → Due (record { left = left }) ≡ lastSample → left ≡ 1
-due-one left e = ap leftOf e
-  where
-    leftOf : Wait → ℕ
-    leftOf Free = 0
-    leftOf (Due w) = w .left
+-- a wait's own parts
+waiting : Wait → Waiting → Waiting
+waiting Free w = w
+waiting (Due w) v = w
+
+pub same-wait : (w v : Waiting) → Due w ≡ Due v → w ≡ v
+unfolding waiting
+same-wait w v e = ap (λ (u : Wait). waiting u w) e
 
 module _ (ear : Ear) (p : ℕ) (alone : Alone ear) (xs : List ℤ) (t : Timer) (o : Bool) (n : ℕ) where
   abbrev heardWith : Candidate → Wait → History
@@ -96,41 +99,49 @@ module _ (ear : Ear) (p : ℕ) (alone : Alone ear) (xs : List ℤ) (t : Timer) (
         → Exactly (λ (y : Mark). ByRules ear y (heardWith candidate Free) (sample x room)) (searchedMarks p (ear (n + 1)) (controlled candidate Free later o (n + 1)))
     free-exact {candidate} held =
         only-search ear (heardWith candidate Free) (sample x room) (controlled candidate Free later o (n + 1)) (refl, refl)
-        (λ d s. s .1) (no-wait ear (heardWith candidate Free) (sample x room) free-due) _ (search-exact ear p alone (n + 1) held later o)
+        (λ d s. s .1) (no-wait ear (heardWith candidate Free) (sample x room) (λ age mark. free-due)) _ (search-exact ear p alone (n + 1) held later o)
 
     module _ (held : TakenBurst) where
-      longer-exact : (left : ℕ) → 1 < left → Exactly (λ (y : Mark). ByRules ear y (heardWith (heldAs held) (Due (record { left = left }))) (sample x room)) []
-      longer-exact left more =
-          nothing-exact ear (heardWith (heldAs held) (Due (record { left = left }))) (sample x room)
+      longer-exact : (w : Waiting) → 1 < w .left → Exactly (λ (y : Mark). ByRules ear y (heardWith (heldAs held) (Due w)) (sample x room)) []
+      longer-exact w more =
+          nothing-exact ear (heardWith (heldAs held) (Due w)) (sample x room)
           (λ c s. free-due (sym (s .0)))
-          (no-wait ear (heardWith (heldAs held) (Due (record { left = left }))) (sample x room) (λ e. omega (arith, due-one left e)))
+          (no-wait ear (heardWith (heldAs held) (Due w)) (sample x room) (λ age mark e. omega (arith, ap (λ (u : Waiting). u .left) (same-wait w _ e))))
 
-      abbrev h : History
-      h = heardWith (heldAs held) lastSample
+      module _ (age : ℕ) (mark : Bool) where
+        abbrev h : History
+        h = heardWith (heldAs held) (lastSample age mark)
 
-      due-exact : Exactly (λ (y : Mark). ByRules ear y h (sample x room)) (FellDue (n + 1) (shownOf held) ∷ [])
-      due-exact y = (λ i. subst (λ (z : Mark). ByRules ear z h (sample x room)) (sym (List·Memᴰ·eq-of-singleton i)) (x, room, refl, refl, refl, (held, refl, refl)), back y)
-        where
-          here : (y : Mark) → DueHere ear h (sample x room) y → y ≡ FellDue (n + 1) (shownOf held)
-          here (First m j) d = absurd d
-          here (Anew m i j) d = absurd d
-          here (Failed m j) d = absurd d
-          here (FellDue m x) d =
-              let a : m ≡ n + 1 = d .3 in
-              let f : shownOf held ≡ x = ap shownOf (same-held held (d .5 .0) (d .5 .1)) ∙ d .5 .2 in
-              cc
+        abbrev shown : Shown
+        shown = shownOf held age mark
 
-          back : (y : Mark) → ByRules ear y h (sample x room) → In y (FellDue (n + 1) (shownOf held) ∷ [])
-          back y s = elim (source ear h (sample x room) y s) [ inl q ↦ absurd (free-due (sym (q .1 .0))) | inr d ↦ List·Memᴰ·head (here y d) ]
+        due-exact : Exactly (λ (y : Mark). ByRules ear y h (sample x room)) (FellDue (n + 1) shown ∷ [])
+        due-exact y = (λ i. subst (λ (z : Mark). ByRules ear z h (sample x room)) (sym (List·Memᴰ·eq-of-singleton i)) (x, room, refl, refl, refl, (held, refl, refl)), back y)
+          where
+            here : (y : Mark) → DueHere ear h (sample x room) y → y ≡ FellDue (n + 1) shown
+            here (First m j) d = absurd d
+            here (Anew m i j) d = absurd d
+            here (Failed m j b) d = absurd d
+            here (FellDue m z) d =
+                let a : m ≡ n + 1 = d .3 in
+                let w = same-wait (record { left = 1; age = age; replaced = mark }) _ (d .4) in
+                let ages : age ≡ z .age = ap (λ (u : Waiting). u .age) w in
+                let marks : mark ≡ z .replaced = ap (λ (u : Waiting). u .replaced) w in
+                let same : held ≡ d .5 .0 = same-held held (d .5 .0) (d .5 .1) in
+                let f : shown ≡ z = ap (λ (t : TakenBurst). shownOf t age mark) same ∙ ap (λ (i : ℕ). shownOf (d .5 .0) i mark) ages ∙ ap (shownOf (d .5 .0) (z .age)) marks ∙ d .5 .2 in
+                cc
 
-      wait-exact : (left : ℕ) → 0 < left → (b : Bool) → ltb 1 left ≡ b
-          → Exactly (λ (y : Mark). ByRules ear y (heardWith (heldAs held) (Due (record { left = left }))) (sample x room))
-          (cond b [] (dueMarks p (ear (n + 1)) (some held) (controlled Nothing Free later o (n + 1))))
-      wait-exact left more true e = longer-exact left (ltb-true 1 left e)
-      wait-exact left more false e =
-          let marks : List Mark = dueMarks p (ear (n + 1)) (some held) (controlled Nothing Free later o (n + 1)) in
-          subst (λ (m : ℕ). Exactly (λ (y : Mark). ByRules ear y (heardWith (heldAs held) (Due (record { left = m }))) (sample x room)) marks) {x = 1} {y = left}
-          (let u = ltb-false 1 left e in omega arith) (unfold dueMarks in due-exact)
+            back : (y : Mark) → ByRules ear y h (sample x room) → In y (FellDue (n + 1) shown ∷ [])
+            back y s = elim (source ear h (sample x room) y s) [ inl q ↦ absurd (free-due (sym (q .1 .0))) | inr d ↦ List·Memᴰ·head (here y d) ]
+
+      wait-exact : (w : Waiting) → 0 < w .left → (b : Bool) → ltb 1 (w .left) ≡ b
+          → Exactly (λ (y : Mark). ByRules ear y (heardWith (heldAs held) (Due w)) (sample x room))
+          (cond b [] (dueMarks p (ear (n + 1)) (some held) w (controlled Nothing Free later o (n + 1))))
+      wait-exact w more true e = longer-exact w (ltb-true 1 (w .left) e)
+      wait-exact w more false e =
+          let marks : List Mark = dueMarks p (ear (n + 1)) (some held) w (controlled Nothing Free later o (n + 1)) in
+          subst (λ (m : ℕ). Exactly (λ (y : Mark). ByRules ear y (heardWith (heldAs held) (Due (record { left = m; age = w .age; replaced = w .replaced }))) (sample x room)) marks) {x = 1} {y = w .left}
+          (let u = ltb-false 1 (w .left) e in omega arith) (unfold dueMarks in due-exact (w .age) (w .replaced))
 
     pub sample-exact : (l : List Mark) {candidate : Candidate} → HeldOrNot candidate → (wait : Wait) → Phase ear p l n (heldIn candidate) wait o
         → Exactly (λ (y : Mark). ByRules ear y (heardWith candidate wait) (sample x room)) (sampledMarks p (ear (n + 1)) (controlled candidate wait t o n))
@@ -138,7 +149,7 @@ module _ (ear : Ear) (p : ℕ) (alone : Alone ear) (xs : List ℤ) (t : Timer) (
     sample-exact l not-held Free I = free-exact not-held
     sample-exact l not-held (Due w) I = absurd I
     sample-exact l (is-held held) Free I = free-exact (is-held held)
-    sample-exact l (is-held held) (Due w) I = wait-exact held (w .left) (I .1 .some) (ltb 1 (w .left)) refl
+    sample-exact l (is-held held) (Due w) I = wait-exact held w (I .1 .some) (ltb 1 (w .left)) refl
 
   -- ---- a reply, while one is owed
   reply-sample : (r : Reply) (x : ℤ) (room : List Float) → reply r ≡ sample x room → ⊥

@@ -117,27 +117,29 @@ module _ (table : List Float) (p : ℕ) (big : SymbolSize p) (cs : List Single) 
   ear = earOf table p (historyAll table p cs .samples)
 
   -- kind k matched alone; where its turn comes after j's, j had failed before it
-  fails-first : (n : ℕ) (j k : Kind) → rank j < rank k → In (Anew n j k) (logAll table p cs) → In (Failed n j) (logAll table p cs)
+  fails-first : (n : ℕ) (j k : Kind) → rank j < rank k → In (Anew n j k) (logAll table p cs) → (b : ℕ) × In (Failed n j b) (logAll table p cs)
   fails-first n j k after i =
       let M : MarkedAt table p ear (Anew n j k) start cs = log-exact table p big cs alone again (Anew n j k) .0 i in
       let (c, S, B) = M .rules in
       let (e, hit, D) = B in
-      let (diff, held, below) = D in
-      let lost : Unmatched ear j n = not-T (matches (Frame j) (ear n)) (λ m. omega (arith, ap rank (alone j k n m hit))) in
-      log-exact table p big cs alone again (Failed n j) .1 (record {
-        before = M .before;
-        call = M .call;
-        after = M .after;
-        split = M .split;
-        admitted = M .admitted;
-        rules = (c, S, (e, lost, (diff, held, λ h r m. absurd (omega (arith, ap rank (alone h k n m hit))))));
-      })
+      let (t, held, below) = D in
+      let lost : Unmatched ear j n = not-T (matches (Frame j) (ear n)) (λ m. omega (arith, ap rank (alone j k n m hit))) in (
+        t .«taken_at»,
+        log-exact table p big cs alone again (Failed n j (t .«taken_at»)) .1 (record {
+          before = M .before;
+          call = M .call;
+          after = M .after;
+          split = M .split;
+          admitted = M .admitted;
+          rules = (c, S, (e, lost, (t, held, (λ h r m. absurd (omega (arith, ap rank (alone h k n m hit)))), refl)));
+        }),
+      )
 
   pub switch-earlier : SwitchEarlier (logAll table p cs)
   switch-earlier n j k s free = go (place j k) (placed j k)
     where
       go : (o : Place) → Placed o j k → rank k < rank j
-      go Before r = absurd (free (j, fails-first n j k r (s .0)))
+      go Before r = absurd (let f = fails-first n j k r (s .0) in free (j, f .0, f .1))
       go Level r = absurd (s .1 r)
       go After r = r
 

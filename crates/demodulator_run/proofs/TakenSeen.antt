@@ -8,12 +8,13 @@ use native.Mathlib.Omega.{arith}
 use lib.Dec.{T, eqb, ltb}
 use lib.IntN.{ℤ}
 use lib.ListN.{length, length-append}
-use lib.Ieee.{Float}
+use lib.Ieee.{Float, lt}
 use lib.Ieee.Bits.{is-true}
 use Rattle.protocol.specs.declared.Kind.{Kind}
 use Rattle.protocol.specs.declared.Kind.the-variants.{Lsf, Bert, Stream, Packet}
 use Rattle.protocol.specs.declared.SyncBurst.the-variants.{Frame, Preamble, EndOfTransmission}
 use Rattle.decode.specs.Correlator.{matches}
+use Rattle.search.specs.declared.Candidate.{Candidate}
 use Rattle.search.specs.declared.Candidate.the-variants.{Nothing}
 use Rattle.search.specs.declared.Waiting.{Waiting}
 use Rattle.search.specs.declared.Wait.{Wait}
@@ -21,10 +22,11 @@ use Rattle.search.specs.declared.Wait.the-variants.{Free, Due}
 use Rattle.search.specs.declared.Control.{Control}
 use Rattle.search.specs.declared.Reply.{Reply}
 use Rattle.search.specs.declared.Reply.the-variants.{Accepted, Rejected}
-use Rattle.search.specs.TakenBurst.{heldIn}
-use Rattle.search.specs.Search.{carried, tried, passed, searched}
+use Rattle.search.specs.TakenBurst.{TakenBurst, heldIn}
+use Rattle.search.specs.Search.{carried, matched as hits, tried, passed, searched}
 use Rattle.search.specs.Turn.{Outcome, quiet, offer, counted, owing, sampled, replied}
 use Rattle.search.specs.Fit.{held}
+use Rattle.search.proofs.HeldOrNot.{HeldOrNot, not-held, is-held, held-or-not}
 use Rattle.search.proofs.AgeInPass.{by-test, carried-candidate, missed-keeps}
 use Rattle.search.proofs.Silent.{passed-silent}
 use Rattle.demodulator.specs.Spans.{eight}
@@ -53,10 +55,15 @@ module _ (p : ℕ) (v : ℕ → Float) (alone : (j k : Kind) → T (matches (Fra
       ]
 
   -- and back: a kind that matches is held after the search
+  matched-holds : {candidate : Candidate} → HeldOrNot candidate → (new : TakenBurst) (c : Control) → T (held (hits (heldIn candidate) new c .candidate))
+  unfolding hits
+  matched-holds not-held new c = tt
+  matched-holds (is-held t) new c = by-test (λ (d : Control). T (held (d .candidate))) (lt (t .diff) (new .diff)) _ _ (λ e. tt) (λ e. tt)
+
   tried-holds : (kind : Kind) (c : Control) → T (matches (Frame kind) v) ⊎ T (held (c .candidate)) → T (held (tried p v kind c .candidate))
   unfolding tried
   tried-holds kind c h =
-      by-test (λ (d : Control). T (held (d .candidate))) (matches (Frame kind) v) _ _ (λ e. tt)
+      by-test (λ (d : Control). T (held (d .candidate))) (matches (Frame kind) v) _ _ (λ e. matched-holds (held-or-not (c .candidate)) _ c)
       (λ e. rw (missed-keeps p kind (heldIn (c .candidate)) c .candidate) (elim h [ inl m ↦ absurd (subst T e m) | inr i ↦ i ]))
 
   search-holds : (c : Control) (k : Kind) → T (matches (Frame k) v) → held (searched p v c .candidate) ≡ true
@@ -89,7 +96,7 @@ module _ (table : List Float) (p : ℕ) (big : SymbolSize p) (ss : List Single) 
     settled-control xs room (quiet c) = refl
     settled-control xs room (offer shown c) = refl
 
-    given-control : (x : ℤ) (room : List Float) → isRefusal (given table p h x room .said .answer) ≡ false
+    pub given-control : (x : ℤ) (room : List Float) → isRefusal (given table p h x room .said .answer) ≡ false
         → given table p h x room .history .control ≡ controlOf (sampled p (eight p (ago table p (h .samples ++ (x ∷ [])))) (h .control))
     unfolding given
     given-control x room =
@@ -101,7 +108,7 @@ module _ (table : List Float) (p : ℕ) (big : SymbolSize p) (ss : List Single) 
         not-refused table p h P (eqb (h .control .sample) (2 ^ 63)) 5 room (admitted table p h x room) λ m e.
         settled-control xs room (sampled p v (h .control))
 
-    answered-control : (r : Reply) → isRefusal (answered table p h r .said .answer) ≡ false → answered table p h r .history .control ≡ replied p (eight p (ago table p (h .samples))) r (h .control)
+    pub answered-control : (r : Reply) → isRefusal (answered table p h r .said .answer) ≡ false → answered table p h r .history .control ≡ replied p (eight p (ago table p (h .samples))) r (h .control)
     unfolding answered
     answered-control r =
         let P : After → Type 0 = λ a. a .history .control ≡ replied p (eight p (ago table p (h .samples))) r (h .control) in
@@ -113,7 +120,7 @@ module _ (table : List Float) (p : ℕ) (big : SymbolSize p) (ss : List Single) 
         (k, log-exact table p big ss alone again (First n k) .1 (record { before = before; call = call; after = after; split = e; admitted = admitted; rules = (c, s, (number, free, m)) }))
 
     -- what is heard at an admitted sample, and at a reply
-    heard-sample : (x : ℤ) (room : List Float) (after : List Single) → ss ≡ before ++ (sample x room ∷ after) → isRefusal (given table p h x room .said .answer) ≡ false
+    pub heard-sample : (x : ℤ) (room : List Float) (after : List Single) → ss ≡ before ++ (sample x room ∷ after) → isRefusal (given table p h x room .said .answer) ≡ false
         → ear (h .control .sample + 1) ≡ eight p (ago table p (h .samples ++ (x ∷ [])))
     unfolding single
     heard-sample x room after e admitted =
@@ -121,7 +128,7 @@ module _ (table : List Float) (p : ℕ) (big : SymbolSize p) (ss : List Single) 
         let n : h .control .sample + 1 ≡ length (h .samples ++ (x ∷ [])) = let c = O .counted in omega (arith, length-append (h .samples) (x ∷ [])) in
         ap ear n ∙ subst (λ (zs : List ℤ). ear (length zs) ≡ eight p (ago table p zs)) (admitted-given table p h x room admitted) (heard-now table p ear h (sample x room) after (O .hears))
 
-    heard-reply : (r : Reply) (after : List Single) → ss ≡ before ++ (reply r ∷ after) → isRefusal (answered table p h r .said .answer) ≡ false → ear (h .control .sample) ≡ eight p (ago table p (h .samples))
+    pub heard-reply : (r : Reply) (after : List Single) → ss ≡ before ++ (reply r ∷ after) → isRefusal (answered table p h r .said .answer) ≡ false → ear (h .control .sample) ≡ eight p (ago table p (h .samples))
     unfolding single
     heard-reply r after e admitted =
         let (m, O) = at-call table p big ss alone again (First 0 Bert) before (reply r) after e in

@@ -9,6 +9,7 @@ use lib.Dec.{ltb}
 use borrow.Author.Tests.{ltb-true, ltb-false}
 use Rattle.search.specs.declared.Candidate.{Candidate}
 use Rattle.search.specs.declared.Candidate.the-variants.{Nothing}
+use Rattle.search.specs.declared.Waiting.{Waiting}
 use Rattle.search.specs.declared.Wait.{Wait}
 use Rattle.search.specs.declared.Wait.the-variants.{Free, Due}
 use Rattle.search.specs.declared.Timer.{Timer}
@@ -17,7 +18,7 @@ use Rattle.search.specs.declared.Turn.the-variants.{Rest}
 use Rattle.search.specs.declared.Reply.{Reply}
 use Rattle.search.specs.declared.Reply.the-variants.{Accepted, Rejected}
 use Rattle.search.specs.TakenBurst.{TakenBurst, heldAs, heldIn, shownOf}
-use Rattle.search.specs.Turn.{cleared, dueTurn, waitedTurn, comesTo, sampled, replied}
+use Rattle.search.specs.Turn.{cleared, nearer, dueTurn, waitedTurn, comesTo, sampled, replied}
 use Rattle.search.proofs.HeldOrNot.{HeldOrNot, not-held, is-held, held-or-not}
 use Rattle.demodulator_laws.proofs.SampleFits.{controlOf}
 use Rattle.demodulator_run.specs.Marks.{Mark, dueMarks, waitedMarks, sampledMarks, repliedMarks}
@@ -34,23 +35,23 @@ atRest t n = controlled Nothing Free t false (n + 1)
 
 module _ (ear : Ear) (p : ℕ) (big : SymbolSize p) (alone : Alone ear) (again : NotAgain ear p) (l : List Mark) where
   -- the frame falls due, and is offered
-  kept-due : (n : ℕ) (t : Timer) (held : TakenBurst) → Awaiting ear p l n 1 held
+  kept-due : (n : ℕ) (t : Timer) (w : Waiting) (held : TakenBurst) → Awaiting ear p l n (record { left = 1; age = w .age; replaced = w .replaced }) held
       → KeptBy ear p l (record {
-        control = controlOf (comesTo p (ear (n + 1)) (dueTurn (some held) (atRest t n)));
-        marks = dueMarks p (ear (n + 1)) (some held) (atRest t n);
+        control = controlOf (comesTo p (ear (n + 1)) (dueTurn (some held) w (atRest t n)));
+        marks = dueMarks p (ear (n + 1)) (some held) w (atRest t n);
       })
   unfolding dueTurn dueMarks
-  kept-due n t held W = fallen ear p l n held W
+  kept-due n t w held W = fallen ear p l n (w .age) (w .replaced) held W
 
   -- one sample less to wait
-  later : (n left : ℕ) (held : TakenBurst) → 1 < left → Awaiting ear p l n left held → Awaiting ear p l (n + 1) (left - 1) held
-  later n left held o W = record {
+  later : (n : ℕ) (w : Waiting) (held : TakenBurst) → 1 < w .left → Awaiting ear p l n w held → Awaiting ear p l (n + 1) (nearer w) held
+  later n w held o W = record {
     first = W .first;
     b = W .b;
     kind = W .kind;
     s = W .s;
     busy = busy-later ear p (omega arith) (W .busy);
-    episode = subst (λ (d : ℕ). Episode ear p l (W .first) (W .b) (W .kind) (W .s) d (shownOf held)) {x = n + left} {y = (n + 1) + (left - 1)} (omega arith) (W .episode);
+    episode = subst (λ (d : ℕ). Episode ear p l (W .first) (W .b) (W .kind) (W .s) d (shownOf held (w .age) (w .replaced))) {x = n + w .left} {y = (n + 1) + (w .left - 1)} (omega arith) (W .episode);
     over = let u = W .over in omega arith;
     some = omega arith;
     short = let u = W .short in omega arith;
@@ -61,19 +62,20 @@ module _ (ear : Ear) (p : ℕ) (big : SymbolSize p) (alone : Alone ear) (again :
     values = W .values;
   }
 
-  kept-awaiting : (n left : ℕ) (t : Timer) (held : TakenBurst) → Awaiting ear p l n left held
+  kept-awaiting : (n : ℕ) (w : Waiting) (t : Timer) (held : TakenBurst) → Awaiting ear p l n w held
       → KeptBy ear p l (record {
-        control = controlOf (comesTo p (ear (n + 1)) (waitedTurn (Due (record { left = left })) (controlled (heldAs held) (Due (record { left = left })) t false (n + 1))));
-        marks = waitedMarks p (ear (n + 1)) (Due (record { left = left })) (controlled (heldAs held) (Due (record { left = left })) t false (n + 1));
+        control = controlOf (comesTo p (ear (n + 1)) (waitedTurn (Due w) (controlled (heldAs held) (Due w) t false (n + 1))));
+        marks = waitedMarks p (ear (n + 1)) (Due w) (controlled (heldAs held) (Due w) t false (n + 1));
       })
   unfolding waitedTurn waitedMarks
-  kept-awaiting n left t held W = go (ltb 1 left) refl
+  kept-awaiting n w t held W = go (ltb 1 (w .left)) refl
     where
-      go : (b : Bool) → ltb 1 left ≡ b
-          → Kept ear p (l ++ cond b [] (dueMarks p (ear (n + 1)) (some held) (atRest t n)))
-          (controlOf (comesTo p (ear (n + 1)) (cond b (Rest (controlled (heldAs held) (Due (record { left = left - 1 })) t false (n + 1))) (dueTurn (some held) (atRest t n)))))
-      go true e = (refl, subst (λ (m : List Mark). Awaiting ear p m (n + 1) (left - 1) held) (sym (append-nil l)) (later n left held (ltb-true 1 left e) W))
-      go false e = kept-due n t held (subst (λ (r : ℕ). Awaiting ear p l n r held) {x = left} {y = 1} (let u = W .some in let v = ltb-false 1 left e in omega arith) W)
+      go : (b : Bool) → ltb 1 (w .left) ≡ b
+          → Kept ear p (l ++ cond b [] (dueMarks p (ear (n + 1)) (some held) w (atRest t n)))
+          (controlOf (comesTo p (ear (n + 1)) (cond b (Rest (controlled (heldAs held) (Due (nearer w)) t false (n + 1))) (dueTurn (some held) w (atRest t n)))))
+      go true e = (refl, subst (λ (m : List Mark). Awaiting ear p m (n + 1) (nearer w) held) (sym (append-nil l)) (later n w held (ltb-true 1 (w .left) e) W))
+      go false e = kept-due n t w held
+          (subst (λ (r : ℕ). Awaiting ear p l n (record { left = r; age = w .age; replaced = w .replaced }) held) {x = w .left} {y = 1} (let u = W .some in let v = ltb-false 1 (w .left) e in omega arith) W)
 
   -- a sample, while no reply is owed
   turned : (n : ℕ) {candidate : Candidate} → HeldOrNot candidate → (wait : Wait) (t : Timer) → Phase ear p l n (heldIn candidate) wait false
@@ -81,7 +83,7 @@ module _ (ear : Ear) (p : ℕ) (big : SymbolSize p) (alone : Alone ear) (again :
   turned n not-held Free t I = unfold waitedTurn waitedMarks in search-idle ear p alone l (n + 1) t (account-later ear p (omega arith) I)
   turned n not-held (Due w) t I = absurd I
   turned n (is-held held) Free t I = unfold waitedTurn waitedMarks in search-held ear p alone l big again n held (I .1) t
-  turned n (is-held held) (Due w) t I = kept-awaiting n (w .left) t held (I .1)
+  turned n (is-held held) (Due w) t I = kept-awaiting n w t held (I .1)
 
   pub sampled-kept : (c : Control) → c .owed ≡ false → Kept ear p l c
       → KeptBy ear p l (record { control = controlOf (sampled p (ear (c .sample + 1)) c); marks = sampledMarks p (ear (c .sample + 1)) c })
@@ -94,7 +96,7 @@ module _ (ear : Ear) (p : ℕ) (big : SymbolSize p) (alone : Alone ear) (again :
       })) (sym e) (turned (c .sample) (held-or-not (c .candidate)) (c .wait) (cleared (c .sample + 1) (c .dcd)) J)
 
   -- a reply is owed only while nothing is open
-  owing-idle : (n : ℕ) {candidate : Candidate} → HeldOrNot candidate → (wait : Wait) → Phase ear p l n (heldIn candidate) wait true → (candidate ≡ Nothing) × (wait ≡ Free) × Idle ear p l n
+  pub owing-idle : (n : ℕ) {candidate : Candidate} → HeldOrNot candidate → (wait : Wait) → Phase ear p l n (heldIn candidate) wait true → (candidate ≡ Nothing) × (wait ≡ Free) × Idle ear p l n
   owing-idle n not-held Free I = (refl, refl, I)
   owing-idle n not-held (Due w) I = absurd I
   owing-idle n (is-held held) Free I = absurd (true≢false (I .0))

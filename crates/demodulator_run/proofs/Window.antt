@@ -57,25 +57,25 @@ module _ (table : List Float) (ear : Ear) (p b : ℕ) (k : Kind) (s d : ℕ) (x 
   ]
 
 -- ---- the window is given to the caller
-module _ (p : ℕ) (v : ℕ → Float) (held : TakenBurst) (t : Timer) (o : Bool) (n : ℕ) where
-  now-due : sampled p v (controlled (heldAs held) lastSample t o n) ≡ offer (shownOf held) (controlled Nothing Free (cleared (n + 1) t) true (n + 1))
+module _ (p : ℕ) (v : ℕ → Float) (held : TakenBurst) (age : ℕ) (mark : Bool) (t : Timer) (o : Bool) (n : ℕ) where
+  now-due : sampled p v (controlled (heldAs held) (lastSample age mark) t o n) ≡ offer (shownOf held age mark) (controlled Nothing Free (cleared (n + 1) t) true (n + 1))
   unfolding sampled waitedTurn dueTurn
   now-due = refl
 
-  outcome : (candidate : Candidate) (wait : Wait) → candidate ≡ heldAs held → wait ≡ lastSample
-      → sampled p v (controlled candidate wait t o n) ≡ offer (shownOf held) (controlled Nothing Free (cleared (n + 1) t) true (n + 1))
+  outcome : (candidate : Candidate) (wait : Wait) → candidate ≡ heldAs held → wait ≡ lastSample age mark
+      → sampled p v (controlled candidate wait t o n) ≡ offer (shownOf held age mark) (controlled Nothing Free (cleared (n + 1) t) true (n + 1))
   outcome candidate wait e f =
-      subst (λ (h : Candidate). sampled p v (controlled h wait t o n) ≡ offer (shownOf held) (controlled Nothing Free (cleared (n + 1) t) true (n + 1))) (sym e)
-      (subst (λ (w : Wait). sampled p v (controlled (heldAs held) w t o n) ≡ offer (shownOf held) (controlled Nothing Free (cleared (n + 1) t) true (n + 1))) (sym f) now-due)
+      subst (λ (h : Candidate). sampled p v (controlled h wait t o n) ≡ offer (shownOf held age mark) (controlled Nothing Free (cleared (n + 1) t) true (n + 1))) (sym e)
+      (subst (λ (w : Wait). sampled p v (controlled (heldAs held) w t o n) ≡ offer (shownOf held age mark) (controlled Nothing Free (cleared (n + 1) t) true (n + 1))) (sym f) now-due)
 
-module _ (table : List Float) (p : ℕ) (h : History) (value : ℤ) (room : List Float) (held : TakenBurst) where
+module _ (table : List Float) (p : ℕ) (h : History) (value : ℤ) (room : List Float) (held : TakenBurst) (age : ℕ) (mark : Bool) where
   abbrev Gives : After → Type 0
   Gives a = a .said ≡ record {
-    answer = frame (offerOf (shownOf held) (h .control .sample + 1));
-    room = written (symbolAt p (shownOf held) (ago table p (h .samples ++ (value ∷ [])))) 192 room;
+    answer = frame (offerOf (shownOf held age mark) (h .control .sample + 1));
+    room = written (symbolAt p (shownOf held age mark) (ago table p (h .samples ++ (value ∷ [])))) 192 room;
   }
 
-  given-window : h .control .candidate ≡ heldAs held → h .control .wait ≡ lastSample → isRefusal (given table p h value room .said .answer) ≡ false
+  given-window : h .control .candidate ≡ heldAs held → h .control .wait ≡ lastSample age mark → isRefusal (given table p h value room .said .answer) ≡ false
       → Gives (given table p h value room)
   unfolding given settled
   given-window e f =
@@ -83,10 +83,10 @@ module _ (table : List Float) (p : ℕ) (h : History) (value : ℤ) (room : List
       not-refused table p h Gives (ltb (length room) 192) 4 room _ λ b.
       not-refused table p h Gives (eqb (h .control .sample) (2 ^ 63)) 5 room (admitted table p h value room) λ c g.
       subst (λ (r : Outcome). Gives (settled table p (h .samples ++ (value ∷ [])) room r))
-      (sym (outcome p (eight p (ago table p (h .samples ++ (value ∷ [])))) held (h .control .dcd) (h .control .owed) (h .control .sample)
+      (sym (outcome p (eight p (ago table p (h .samples ++ (value ∷ [])))) held age mark (h .control .dcd) (h .control .owed) (h .control .sample)
       (h .control .candidate) (h .control .wait) e f)) refl
 
-  called-window : h .control .candidate ≡ heldAs held → h .control .wait ≡ lastSample
+  called-window : h .control .candidate ≡ heldAs held → h .control .wait ≡ lastSample age mark
       → isRefusal (single table p h (sample value room) .said .answer) ≡ false → Gives (single table p h (sample value room))
   unfolding single
   called-window = given-window
@@ -106,7 +106,7 @@ module _ (table : List Float) (p : ℕ) (big : SymbolSize p) (cs : List Single) 
           (subst (λ (l : List Single). On table p (earOf table p (historyAll table p cs .samples)) start l []) split (on-start table p cs)) in
           let number : d ≡ h .control .sample + 1 = M .rules .3 in
           let held : TakenBurst = M .rules .5 .0 in
-          let same : shownOf (M .rules .5 .0) ≡ x = M .rules .5 .2 in
+          let same : shownOf (M .rules .5 .0) (x .age) (x .replaced) ≡ x = M .rules .5 .2 in
           let passes : isRefusal (single table p h (sample value room) .said .answer) ≡ false = subst (λ (c : Single). isRefusal (single table p h c .said .answer) ≡ false) call (M .admitted) in
           record {
             before = M .before;
@@ -117,5 +117,5 @@ module _ (table : List Float) (p : ℕ) (big : SymbolSize p) (cs : List Single) 
             number = let c = O .counted in omega (arith, length-append (h .samples) (value ∷ []));
             said = subst (λ (n : ℕ). single table p h (sample value room) .said ≡ record { answer = frame (offerOf x n); room = written (symbolAt p x (ago table p (h .samples ++ (value ∷ [])))) 192 room }) (sym number)
                 (subst (λ (y : Shown). single table p h (sample value room) .said ≡ record { answer = frame (offerOf y (h .control .sample + 1)); room = written (symbolAt p y (ago table p (h .samples ++ (value ∷ [])))) 192 room }) same
-                (called-window table p h value room held (M .rules .5 .1) (M .rules .4) passes));
+                (called-window table p h value room held (x .age) (x .replaced) (M .rules .5 .1) (M .rules .4) passes));
           }

@@ -1,6 +1,6 @@
 -- Worked examples of the rules, computed: P1, the first sample, each refusal, the carrier and its timer, a wait that is set, a tie and an age. Assumes nothing.
 use mathlib.Core.Path.{_≡_, refl, sym, _∙_}
-use mathlib.Core.Bool.{true, false}
+use mathlib.Core.Bool.{Bool, true, false}
 use mathlib.Core.List.{List, [], _∷_}
 use mathlib.Core.Option.{some}
 use Prim.Native.Nat.{_^_}
@@ -19,11 +19,13 @@ use Rattle.protocol.specs.Refusals.{bare}
 use Rattle.decode.specs.declared.Correlation.{Correlation}
 use Rattle.decode.specs.Correlator.{zeroUnsigned, highest, lowest, gainOf, shiftOf, symbolOf, distanceOf, summed, diffOf, correlation, matches}
 use Rattle.search.specs.declared.Candidate.the-variants.{Nothing}
+use Rattle.search.specs.declared.Wait.{Wait}
 use Rattle.search.specs.declared.Wait.the-variants.{Free, Due}
 use Rattle.search.specs.declared.Timer.the-variants.{Off, Until}
+use Rattle.search.specs.declared.Control.{Control}
 use Rattle.search.specs.declared.Reply.the-variants.{Accepted}
-use Rattle.search.specs.TakenBurst.{TakenBurst, heldAs}
-use Rattle.search.specs.Search.{carried, heldAfter, missed, tried, passed, searched}
+use Rattle.search.specs.TakenBurst.{TakenBurst, heldAs, taken}
+use Rattle.search.specs.Search.{carried, marked, matched, missed, tried, passed, searched}
 use Rattle.search.specs.Turn.{cleared, waitedTurn, sampled}
 use Rattle.demodulator.specs.Calls.{refusal, nothing, done, carrier}
 use Rattle.demodulator_laws.proofs.ExampleBurst.{burstAt}
@@ -89,7 +91,7 @@ pub first : single taps 10 start (sample (pos 32767) room) ≡ record {
   said = record { answer = nothing; room = room };
   history = record { samples = pos 32767 ∷ []; control = record { candidate = Nothing; wait = Free; dcd = Off; owed = false; sample = 1 } };
 }
-unfolding single given settled sampled waitedTurn cleared searched passed tried carried missed heldAfter matches correlation diffOf summed sumTo distanceOf symbolOf shiftOf gainOf highest lowest zeroUnsigned larger smaller sizeOf add sub mul div lt eq neg ofInt ofBits filtered sampleNo dot taps signsOf anyBelow
+unfolding single given settled sampled waitedTurn cleared searched passed tried carried missed matched marked matches correlation diffOf summed sumTo distanceOf symbolOf shiftOf gainOf highest lowest zeroUnsigned larger smaller sizeOf add sub mul div lt eq neg ofInt ofBits filtered sampleNo dot taps signsOf anyBelow
 first = refl
 
 -- ---- "clear the carrier timer if the count is above its end"
@@ -108,18 +110,31 @@ zeros = record { diff = nought; gain = nought; shift = nought }
 abbrev third : TakenBurst
 third = burstAt Stream 3 zeros
 
--- ---- "the wait becomes 1,840 - age and the timer's end count + 3,840"
-fails : missed 10 Stream (some third) (record { candidate = heldAs third; wait = Free; dcd = Off; owed = false; sample = 100 })
-    ≡ record { candidate = heldAs third; wait = Due (record { left = 1837 }); dcd = Until 3940; owed = false; sample = 100 }
+abbrev holding : TakenBurst → Wait → Control
+holding t wait = record { candidate = heldAs t; wait = wait; dcd = Off; owed = false; sample = 100 }
+
+-- ---- "the wait becomes 1,840 - age and the timer's end count + 3,840": the age is kept
+abbrev set : Bool → Wait
+set mark = Due (record { left = 1837; age = 3; replaced = mark })
+
+fails : missed 10 Stream (some third) (holding third Free) ≡ record { candidate = heldAs third; wait = set false; dcd = Until 3940; owed = false; sample = 100 }
 unfolding missed
 fails = refl
 
--- ---- "Any other match, ties included, takes a new candidate: kind, age 1"
-tie-taken : heldAfter (some third) (burstAt Lsf 1 zeros) ≡ burstAt Lsf 1 zeros
-unfolding heldAfter lt ofBits
+-- ---- "Any other match, ties included, takes a new candidate: kind, age 1"; at the count's sample
+abbrev anew : TakenBurst
+anew = taken Lsf zeros 100
+
+tie-taken : matched (some third) anew (holding third Free) ≡ holding anew Free
+unfolding matched marked lt ofBits
 tie-taken = refl
 
--- ---- "A match whose diff is above the held candidate's adds one to its age, whatever its kind."
-aged : heldAfter (some third) (burstAt Lsf 1 (record { diff = ofBits binary32 0x3f80_0000; gain = nought; shift = nought })) ≡ burstAt Stream 4 zeros
-unfolding heldAfter lt ofBits
+-- document 02 j): a wait that is held is marked by it
+tie-marked : matched (some third) anew (holding third (set false)) ≡ holding anew (set true)
+unfolding matched marked lt ofBits
+tie-marked = refl
+
+-- ---- "A match whose diff is above the held candidate's adds one to its age, whatever its kind.": where it was taken and the wait stay
+aged : matched (some third) (taken Lsf (record { diff = ofBits binary32 0x3f80_0000; gain = nought; shift = nought }) 100) (holding third (set false)) ≡ holding (burstAt Stream 4 zeros) (set false)
+unfolding matched lt ofBits
 aged = refl

@@ -8,7 +8,6 @@ use lib.IntN.{ℤ}
 use lib.Ieee.{Float}
 use Rattle.machine.specs.Runs.{run, answers}
 use Rattle.shaping.specs.Rate.{Rate}
-use Rattle.protocol.specs.declared.Kind.{Kind}
 use Rattle.search.specs.declared.Candidate.the-variants.{Nothing}
 use Rattle.search.specs.declared.Control.{Control}
 use Rattle.search.specs.TakenBurst.{TakenBurst}
@@ -48,19 +47,21 @@ pub record TakenSeen (R : Rate) (ss : List Single) (n : ℕ) : Type 0 where
   pub holds : held (leftAt R moment .demodulator .control .candidate) ≡ true
   pub number : leftAt R moment .demodulator .control .sample ≡ n
 
--- a frame of the kind is due at sample d: one sample was left of its candidate's wait
-pub record DueSeen (R : Rate) (ss : List Single) (kind : Kind) (d : ℕ) : Type 0 where
+-- the frame that is offered is due: one sample was left of its candidate's wait
+pub record DueSeen (R : Rate) (ss : List Single) (o : Offer) : Type 0 where
   pub moment : Moment ss
   pub admitted : Admitted R moment
   pub value : ℤ
   pub room : List Float
   pub is-sample : moment .call ≡ sample value room
-  pub last : controlAt R moment .wait ≡ lastSample
-  pub awaited : (t : TakenBurst) × HeldOf kind t (controlAt R moment .candidate)
-  pub number : d ≡ controlAt R moment .sample + 1
+  -- which keeps the age at which it was set, and the mark
+  pub last : controlAt R moment .wait ≡ lastSample (o .age) (o .replaced)
+  pub awaited : (t : TakenBurst) × HeldOf (o .kind) t (controlAt R moment .candidate) × (t .«taken_at» ≡ o .«taken_at»)
+  pub number : o .sample ≡ controlAt R moment .sample + 1
 
+-- a frame is due at sample d
 abbrev pub SomeDue : Rate → List Single → ℕ → Type 0
-SomeDue R ss d = (kind : Kind) × DueSeen R ss kind d
+SomeDue R ss d = (o : Offer) × DueSeen R ss o × (o .sample ≡ d)
 
 -- ---- the offers among the answers
 unfoldable pub offerIn : Paper → List Offer
@@ -81,5 +82,5 @@ pub record DemandThree (R : Rate) (cs : List Call) : Type 0 where
       → (d : ℕ) × SomeDue R (singlesFrom R fresh cs) d × (n + (184 * R .p - 1) ≤ d) × (d ≤ n + (188 * R .p - 1))
       × ((e : ℕ) → SomeDue R (singlesFrom R fresh cs) e → n + (184 * R .p - 1) ≤ e → e ≤ n + (188 * R .p - 1) → e ≡ d)
   -- document 02 b): "a due sample is now always an offer", and no other is
-  pub offers : (o : Offer) → List·Memᴰ o (offersIn (answers (receiver R) fresh cs)) ↔ DueSeen R (singlesFrom R fresh cs) (o .kind) (o .sample)
+  pub offers : (o : Offer) → List·Memᴰ o (offersIn (answers (receiver R) fresh cs)) ↔ DueSeen R (singlesFrom R fresh cs) o
   pub ages : AgeAtMost (R .p + 1) (run (receiver R) fresh cs .control .candidate)

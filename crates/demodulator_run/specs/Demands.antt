@@ -2,7 +2,7 @@
 -- Assumes nothing.
 use mathlib.Core.Path.{_≡_}
 use mathlib.Core.Logic.{_⊎_, _↔_}
-use mathlib.Core.Bool.{not}
+use mathlib.Core.Bool.{Bool, true, false, not}
 use mathlib.Core.List.{List, List·Memᴰ}
 use mathlib.Core.Option.{Option, none, some}
 use Prim.Native.Nat.{ℕ, _+_, _-_, _*_, _≤_, _<_}
@@ -42,7 +42,7 @@ module _ (ear : Ear) where
 
   -- the candidate that the kind takes at sample k
   abbrev pub takenAt : Kind → ℕ → TakenBurst
-  takenAt kind k = taken kind (at kind k)
+  takenAt kind k = taken kind (at kind k) k
 
   -- the kind matches at sample k
   abbrev pub Matches : Kind → ℕ → Type 0
@@ -89,7 +89,7 @@ Switched l n j k = In (Anew n j k) l × (j ≡ k → ⊥)
 
 -- at sample n the wait was set
 abbrev pub WaitSet : List Mark → ℕ → Type 0
-WaitSet l n = (k : Kind) × In (Failed n k) l
+WaitSet l n = (k : Kind) × (b : ℕ) × In (Failed n k b) l
 
 -- a frame fell due at sample d
 abbrev pub DueAt : List Mark → ℕ → Type 0
@@ -149,14 +149,17 @@ Corner ear b k s = (j : Kind) × (rank j < rank k) × Matches ear j s × Above e
 abbrev pub Replaces : Ear → ℕ → Kind → ℕ → Kind → Type 0
 Replaces ear b k s j = (rank k < rank j) × Matches ear j s × (Above ear j s k b → ⊥)
 
--- what a due frame shows if its candidate was taken by kind k at sample n
-abbrev pub shownAt : Ear → Kind → ℕ → Shown
-shownAt ear k n = shownOf (takenAt ear k n)
+-- what a due frame shows if its candidate was taken by kind k at sample n, with the age at which the wait was set, and the mark
+abbrev pub shownAt : Ear → Kind → ℕ → ℕ → Bool → Shown
+shownAt ear k n age replaced = shownOf (takenAt ear k n) age replaced
 
 -- "The frame is due at b+1,840 .. One corner .. it is b+1,839. If a later-listed kind replaced the candidate there, kind, gain and shift are the new one's."
+-- Document 02 j): "the offer carries a mark and the new one's sample"
 pub record DueBy (ear : Ear) (p : ℕ) (b : ℕ) (k : Kind) (s : ℕ) (d : ℕ) (x : Shown) : Type 0 where
   pub sample : (Corner ear b k s × (d + 1 ≡ b + 184 * p)) ⊎ ((Corner ear b k s → ⊥) × (d ≡ b + 184 * p))
-  pub shown : ((j : Kind) × Replaces ear b k s j × (x ≡ shownAt ear j s)) ⊎ (((j : Kind) → Replaces ear b k s j → ⊥) × (x ≡ shownAt ear k b))
+  -- "the wait becomes 1,840 - age", on sample s: its age is what the wait was short of 1,840
+  pub waited : x .age ≡ (s + 184 * p) - d
+  pub shown : ((j : Kind) × Replaces ear b k s j × (x ≡ shownAt ear j s (x .age) true)) ⊎ (((j : Kind) → Replaces ear b k s j → ⊥) × (x ≡ shownAt ear k b (x .age) false))
 
 -- symbol i of the window that is given once xs are the samples is made of F(m)
 abbrev pub LiesAt : List Float → ℕ → List ℤ → Shown → ℕ → ℕ → Type 0
@@ -179,6 +182,8 @@ DueCause ear p up fed l =
 pub record DueRule (ear : Ear) (p : ℕ) (fed : ℕ) (l : List Mark) : Type 0 where
   -- both ways: a frame falls due exactly where there is such a candidate, once fed
   pub exact : (d : ℕ) (x : Shown) → In (FellDue d x) l ↔ ((d ≤ fed) × Cause ear p l d x)
+  -- and its failure set the wait
+  pub set : (d : ℕ) (x : Shown) → d ≤ fed → (A : Cause ear p l d x) → In (Failed (A .s) (A .kind) (A .b)) l
   -- one candidate alone
   pub only : (d : ℕ) (x y : Shown) → d ≤ fed → (A : Cause ear p l d x) (B : Cause ear p l d y) → (A .b ≡ B .b) × (A .kind ≡ B .kind) × (A .s ≡ B .s) × (x ≡ y)
   -- b, its kind and s leave no choice of d and of what is shown, and always leave one

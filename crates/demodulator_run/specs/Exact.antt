@@ -1,6 +1,6 @@
 -- When a mark stands in the log, by the rules: at which call, and with which control before the search. Assumes nothing.
 use mathlib.Core.Path.{_≡_}
-use mathlib.Core.Bool.{true, false}
+use mathlib.Core.Bool.{Bool, true, false}
 use mathlib.Core.List.{List, [], _∷_, _++_}
 use Prim.Native.Nat.{ℕ, _+_, _<_}
 use lib.IntN.{ℤ}
@@ -30,9 +30,9 @@ use Rattle.demodulator_run.specs.Demands.{Ear, at, Matches, Unmatched}
 abbrev pub HeldOf : Kind → TakenBurst → Candidate → Type 0
 HeldOf kind t c = (c ≡ heldAs t) × (t .kind ≡ kind)
 
--- one sample is left of the wait
-abbrev pub lastSample : Wait
-lastSample = Due (record { left = 1 })
+-- one sample is left of the wait, which was set at the age, and marked or not
+abbrev pub lastSample : ℕ → Bool → Wait
+lastSample age replaced = Due (record { left = 1; age = age; replaced = replaced })
 
 -- ---- the search runs in the call, and the control before it is c
 -- A sample: no wait is held. A reply: "Rejected: the search runs for that same sample."
@@ -48,20 +48,21 @@ abbrev pub BySearch : Ear → Control → Mark → Type 0
 BySearch ear c (First n k) = (n ≡ c .sample) × (c .candidate ≡ Nothing) × Matches ear k n
 -- one of kind j was held, and kind k matched, its diff not above
 BySearch ear c (Anew n j k) = (n ≡ c .sample) × Matches ear k n × ((t : TakenBurst) × HeldOf j t (c .candidate) × (lt (t .diff) (at ear k n .diff) ≡ false))
--- one of kind k was held, which did not match; no earlier-listed kind replaced it
-BySearch ear c (Failed n k) =
-    (n ≡ c .sample) × Unmatched ear k n × ((t : TakenBurst) × HeldOf k t (c .candidate) × ((j : Kind) → rank j < rank k → Matches ear j n → lt (t .diff) (at ear j n .diff) ≡ true))
+-- one of kind k, taken at b, was held, which did not match; no earlier-listed kind replaced it
+BySearch ear c (Failed n k b) =
+    (n ≡ c .sample) × Unmatched ear k n
+    × ((t : TakenBurst) × HeldOf k t (c .candidate) × ((j : Kind) → rank j < rank k → Matches ear j n → lt (t .diff) (at ear j n .diff) ≡ true) × (t .«taken_at» ≡ b))
 BySearch ear c (FellDue d x) = ⊥
 
 -- ---- what the call marks, from what came before it
 abbrev pub ByRules : Ear → Mark → History → Single → Type 0
 ByRules ear (First n k) h call = (c : Control) × Searches h call c × BySearch ear c (First n k)
 ByRules ear (Anew n j k) h call = (c : Control) × Searches h call c × BySearch ear c (Anew n j k)
-ByRules ear (Failed n k) h call = (c : Control) × Searches h call c × BySearch ear c (Failed n k)
+ByRules ear (Failed n k b) h call = (c : Control) × Searches h call c × BySearch ear c (Failed n k b)
 -- the wait before the sample was 1
 ByRules ear (FellDue d x) h call =
-    (value : ℤ) × (room : List Float) × (call ≡ sample value room) × (d ≡ h .control .sample + 1) × (h .control .wait ≡ lastSample)
-    × ((t : TakenBurst) × (h .control .candidate ≡ heldAs t) × (shownOf t ≡ x))
+    (value : ℤ) × (room : List Float) × (call ≡ sample value room) × (d ≡ h .control .sample + 1) × (h .control .wait ≡ lastSample (x .age) (x .replaced))
+    × ((t : TakenBurst) × (h .control .candidate ≡ heldAs t) × (shownOf t (x .age) (x .replaced) ≡ x))
 
 -- at one of the calls, which is admitted
 pub record MarkedAt (table : List Float) (p : ℕ) (ear : Ear) (y : Mark) (h : History) (cs : List Single) : Type 0 where

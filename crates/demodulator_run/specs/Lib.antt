@@ -12,3 +12,4 @@ pub mod Stretch
 pub mod Calls
 -- demand 3 at the caller's side
 pub mod CallerSees
+pub mod OfferReports

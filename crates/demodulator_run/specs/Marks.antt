@@ -9,6 +9,7 @@ use Rattle.protocol.specs.declared.Kind.{Kind}
 use Rattle.protocol.specs.declared.Kind.the-variants.{Lsf, Bert, Stream, Packet}
 use Rattle.protocol.specs.declared.SyncBurst.the-variants.{Frame, Preamble, EndOfTransmission}
 use Rattle.decode.specs.Correlator.{correlation, matches}
+use Rattle.search.specs.declared.Waiting.{Waiting}
 use Rattle.search.specs.declared.Wait.{Wait}
 use Rattle.search.specs.declared.Wait.the-variants.{Free, Due}
 use Rattle.search.specs.declared.Control.{Control}
@@ -29,8 +30,8 @@ pub data Mark : Type 0 where
   First : ℕ → Kind → Mark
   -- "takes a new candidate" while one was held: the held one's kind, and the new one's
   Anew : ℕ → Kind → Kind → Mark
-  -- "a kind does not match and the held candidate is of that kind": the wait is set
-  Failed : ℕ → Kind → Mark
+  -- "a kind does not match and the held candidate is of that kind": the wait is set. The kind, and the sample at which that candidate was taken
+  Failed : ℕ → Kind → ℕ → Mark
   -- "a frame is due": what it shows
   FellDue : ℕ → Shown → Mark
 
@@ -43,12 +44,12 @@ takenMarks n (some t) new = cond (lt (t .diff) (new .diff)) [] (Anew n (t .kind)
 -- "If a kind does not match and the held candidate is of that kind, the wait becomes .."
 unfoldable pub missedMarks : ℕ → Kind → Option TakenBurst → List Mark
 missedMarks n kind none = []
-missedMarks n kind (some t) = cond (sameKind (t .kind) kind) (Failed n kind ∷ []) []
+missedMarks n kind (some t) = cond (sameKind (t .kind) kind) (Failed n kind (t .«taken_at») ∷ []) []
 
 -- one kind's turn in the pass
 unfoldable pub triedMarks : (ℕ → Float) → Kind → Control → List Mark
 triedMarks v kind c =
-    cond (matches (Frame kind) v) (takenMarks (c .sample) (heldBy c) (taken kind (correlation (Frame kind) v))) (missedMarks (c .sample) kind (heldBy c))
+    cond (matches (Frame kind) v) (takenMarks (c .sample) (heldBy c) (taken kind (correlation (Frame kind) v) (c .sample))) (missedMarks (c .sample) kind (heldBy c))
 
 -- "LSF, BERT, Stream, Packet in that order": each from the control that the kinds before it left
 unfoldable pub passedMarks : ℕ → (ℕ → Float) → Control → List Mark
@@ -63,14 +64,14 @@ searchedMarks p v c = passedMarks p v (carried p EndOfTransmission v (carried p 
 
 -- ---- a sample
 -- "At 0 the wait and the candidate are removed and a frame is due." The control is the one after the removal.
-unfoldable pub dueMarks : ℕ → (ℕ → Float) → Option TakenBurst → Control → List Mark
-dueMarks p v none c = searchedMarks p v c
-dueMarks p v (some t) c = FellDue (c .sample) (shownOf t) ∷ []
+unfoldable pub dueMarks : ℕ → (ℕ → Float) → Option TakenBurst → Waiting → Control → List Mark
+dueMarks p v none w c = searchedMarks p v c
+dueMarks p v (some t) w c = FellDue (c .sample) (shownOf t (w .age) (w .replaced)) ∷ []
 
 -- "while more than 0 is left the sample is finished, with no search"
 unfoldable pub waitedMarks : ℕ → (ℕ → Float) → Wait → Control → List Mark
 waitedMarks p v Free c = searchedMarks p v c
-waitedMarks p v (Due w) c = cond (ltb 1 (w .left)) [] (dueMarks p v (heldBy c) (freed c))
+waitedMarks p v (Due w) c = cond (ltb 1 (w .left)) [] (dueMarks p v (heldBy c) w (freed c))
 
 unfoldable pub sampledMarks : ℕ → (ℕ → Float) → Control → List Mark
 sampledMarks p v c = waitedMarks p v (c .wait) (counted c)

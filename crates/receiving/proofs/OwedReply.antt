@@ -17,6 +17,7 @@ use Rattle.protocol.specs.declared.Kind.the-variants.{Lsf, Bert, Stream, Packet
 use Rattle.protocol.specs.declared.SyncBurst.{SyncBurst}
 use Rattle.protocol.specs.declared.SyncBurst.the-variants.{Frame, Preamble, EndOfTransmission}
 use Rattle.decode.specs.Correlator.{matches}
+use Rattle.search.specs.declared.Waiting.{Waiting}
 use Rattle.search.specs.declared.Wait.{Wait}
 use Rattle.search.specs.declared.Wait.the-variants.{Free, Due}
 use Rattle.search.specs.declared.Control.{Control}
@@ -27,7 +28,7 @@ use Rattle.search.specs.declared.Reply.the-variants.{Accepted, Rejected}
 use Rattle.search.specs.TakenBurst.{TakenBurst, heldIn}
 use Rattle.search.specs.Search.{carried, tried, passed, searched}
 use Rattle.search.specs.Turn.{Outcome, quiet, offer, counted, freed, owing, dueTurn, waitedTurn, comesTo, sampled, replied as settledBy}
-use Rattle.search.proofs.AgeInPass.{by-test, missed-keeps}
+use Rattle.search.proofs.AgeInPass.{by-test, missed-keeps, matched-keeps}
 use Rattle.demodulator.specs.Spans.{eight}
 use Rattle.demodulator.specs.Calls.{isRefusal}
 use Rattle.demodulator.specs.Singles.{sample, reply}
@@ -47,7 +48,7 @@ module _ (p : ℕ) (v : ℕ → Float) where
 
   tried-owed : (kind : Kind) (c : Control) → tried p v kind c .owed ≡ c .owed
   unfolding tried
-  tried-owed kind c = by-test (λ (d : Control). d .owed ≡ c .owed) (matches (Frame kind) v) _ _ (λ e. refl) (λ e. missed-keeps p kind (heldIn (c .candidate)) c .owed)
+  tried-owed kind c = by-test (λ (d : Control). d .owed ≡ c .owed) (matches (Frame kind) v) _ _ (λ e. matched-keeps (heldIn (c .candidate)) _ c .owed) (λ e. missed-keeps p kind (heldIn (c .candidate)) c .owed)
 
   searched-owed : (c : Control) → searched p v c .owed ≡ c .owed
   unfolding searched passed
@@ -62,15 +63,15 @@ module _ (p : ℕ) (v : ℕ → Float) where
   pick-owes true x y u w = u
   pick-owes false x y u w = w
 
-  due-owes : (o : Option TakenBurst) (c : Control) → c .owed ≡ false → Owes (comesTo p v (dueTurn o c))
+  due-owes : (o : Option TakenBurst) (w : Waiting) (c : Control) → c .owed ≡ false → Owes (comesTo p v (dueTurn o w c))
   unfolding dueTurn Owes
-  due-owes none c e = searched-owed c ∙ e
-  due-owes (some t) c e = refl
+  due-owes none w c e = searched-owed c ∙ e
+  due-owes (some t) w c e = refl
 
   waited-owes : (wait : Wait) (c : Control) → c .owed ≡ false → Owes (comesTo p v (waitedTurn wait c))
   unfolding waitedTurn Owes
   waited-owes Free c e = searched-owed c ∙ e
-  waited-owes (Due w) c e = pick-owes (ltb 1 (w .left)) (Rest _) (dueTurn (heldIn (c .candidate)) (freed c)) e (due-owes (heldIn (c .candidate)) (freed c) e)
+  waited-owes (Due w) c e = pick-owes (ltb 1 (w .left)) (Rest _) (dueTurn (heldIn (c .candidate)) w (freed c)) e (due-owes (heldIn (c .candidate)) w (freed c) e)
 
   sampled-owes : (c : Control) → c .owed ≡ false → Owes (sampled p v c)
   unfolding sampled

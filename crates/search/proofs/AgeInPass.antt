@@ -1,5 +1,5 @@
 -- What a pass over the four kinds leaves alone, and that it raises an age by one at most: at most one of the kinds matches eight values in range. Assumes nothing.
-use mathlib.Core.Path.{_≡_, refl, ap}
+use mathlib.Core.Path.{_≡_, refl, ap, _∙_}
 use mathlib.Core.Bool.{Bool, true, false, cond}
 use mathlib.Core.Option.{Option, none, some}
 use Prim.Native.Nat.{ℕ, _+_, _^_, _≤_, _<_}
@@ -9,14 +9,15 @@ use lib.Dec.{T}
 use lib.Ieee.{Float, lt}
 use Rattle.numbers.proofs.Tests.{holds}
 use Rattle.protocol.specs.declared.Kind.{Kind}
+use Rattle.protocol.specs.declared.Kind.the-variants.{Lsf, Bert, Stream, Packet}
 use Rattle.protocol.specs.declared.SyncBurst.{SyncBurst}
-use Rattle.protocol.specs.declared.SyncBurst.the-variants.{Frame}
-use Rattle.decode.specs.Correlator.{matches, inRange}
+use Rattle.protocol.specs.declared.SyncBurst.the-variants.{Frame, Preamble, EndOfTransmission}
+use Rattle.decode.specs.Correlator.{correlation, matches, inRange}
 use Rattle.decode.proofs.OneMatch.{one-match}
 use Rattle.search.specs.declared.Candidate.{Candidate}
 use Rattle.search.specs.declared.Control.{Control}
-use Rattle.search.specs.TakenBurst.{TakenBurst, heldIn}
-use Rattle.search.specs.Search.{rank, sameKind, ageOf, heldAfter, carried, missed, tried}
+use Rattle.search.specs.TakenBurst.{TakenBurst, heldIn, taken}
+use Rattle.search.specs.Search.{rank, sameKind, ageOf, carried, matched, missed, tried, passed, searched}
 use Rattle.search.proofs.HeldOrNot.{HeldOrNot, not-held, is-held, held-or-not}
 
 -- a property of what a test picks
@@ -44,11 +45,32 @@ missed-keeps p kind none c = record { candidate = refl; owed = refl; sample = re
 missed-keeps p kind (some t) c =
     by-test (Missed c) (sameKind (t .kind) kind) _ _ (λ e. record { candidate = refl; owed = refl; sample = refl }) (λ e. record { candidate = refl; owed = refl; sample = refl })
 
+pub record Hit (c d : Control) : Type 0 where
+  pub owed : d .owed ≡ c .owed
+  pub sample : d .sample ≡ c .sample
+
+pub matched-keeps : (held : Option TakenBurst) (new : TakenBurst) (c : Control) → Hit c (matched held new c)
+unfolding matched
+matched-keeps none new c = record { owed = refl; sample = refl }
+matched-keeps (some t) new c = by-test (Hit c) (lt (t .diff) (new .diff)) _ _ (λ e. record { owed = refl; sample = refl }) (λ e. record { owed = refl; sample = refl })
+
+tried-sample : (p : ℕ) (v : ℕ → Float) (kind : Kind) (c : Control) → tried p v kind c .sample ≡ c .sample
+unfolding tried
+tried-sample p v kind c =
+    by-test (λ (d : Control). d .sample ≡ c .sample) (matches (Frame kind) v) _ _
+    (λ e. matched-keeps (heldIn (c .candidate)) _ c .sample) (λ e. missed-keeps p kind (heldIn (c .candidate)) c .sample)
+
+pub searched-sample : (p : ℕ) (v : ℕ → Float) (c : Control) → searched p v c .sample ≡ c .sample
+unfolding searched passed
+searched-sample p v c =
+    tried-sample p v Packet _ ∙ tried-sample p v Stream _ ∙ tried-sample p v Bert _ ∙ tried-sample p v Lsf _
+    ∙ carried-sample p EndOfTransmission v _ ∙ carried-sample p Preamble v c
+
 -- ---- one match at most
-held-age : (n : ℕ) {candidate : Candidate} → HeldOrNot candidate → (new : TakenBurst) → new .age ≡ 1 → ageOf candidate ≤ n → heldAfter (heldIn candidate) new .age ≤ n + 1
-unfolding heldAfter
-held-age n not-held new one h = omega arith
-held-age n (is-held t) new one h = by-test (λ (d : TakenBurst). d .age ≤ n + 1) (lt (t .diff) (new .diff)) _ _ (λ e. omega arith) (λ e. omega arith)
+matched-age : (n : ℕ) {candidate : Candidate} → HeldOrNot candidate → (new : TakenBurst) → new .age ≡ 1 → ageOf candidate ≤ n → (c : Control) → ageOf (matched (heldIn candidate) new c .candidate) ≤ n + 1
+unfolding matched
+matched-age n not-held new one h c = omega arith
+matched-age n (is-held t) new one h c = by-test (λ (d : Control). ageOf (d .candidate) ≤ n + 1) (lt (t .diff) (new .diff)) _ _ (λ e. omega arith) (λ e. omega arith)
 
 same-frame : (j k : Kind) → Frame j ≡ Frame k → j ≡ k
 same-frame j k e = cc
@@ -71,9 +93,9 @@ module _ (p : ℕ) (v : ℕ → Float) (range : (i : ℕ) → i < 8 → T (inRan
   tried-passing kind c s =
       by-test (Passing v n (rank kind + 1)) (matches (Frame kind) v) _ _
       (λ e. record {
-        most = held-age n (held-or-not (c .candidate)) _ refl (s .room kind (le-refl _) (holds e));
+        most = matched-age n (held-or-not (c .candidate)) _ refl (s .room kind (le-refl _) (holds e)) c;
         room = λ k l t. absurd (later-silent kind k l (holds e) t);
-        count = s .count;
+        count = rw (matched-keeps (heldIn (c .candidate)) (taken kind (correlation (Frame kind) v) (c .sample)) c .sample) (s .count);
       })
       (λ e.
       let kept = missed-keeps p kind (heldIn (c .candidate)) c in

@@ -4,7 +4,7 @@ use Prim.Native.Nat.{ℕ}
 use lib.Dec.{T}
 use lib.Ieee.Fits.{and-i, and-l, and-r}
 use Rattle.search.specs.declared.Control.{Control}
-use Rattle.search.specs.Fit.{countFit, timerFit, candidateFit, waitFit, replyFit, controlFit}
+use Rattle.search.specs.Fit.{countFit, timerFit, candidateFit, waitFit, replyFit, takenFit, keptFit, controlFit}
 
 pub record Clauses (p : ℕ) (c : Control) : Type 0 where
   pub count : T (countFit c)
@@ -12,6 +12,8 @@ pub record Clauses (p : ℕ) (c : Control) : Type 0 where
   pub candidate : T (candidateFit (c .candidate))
   pub wait : T (waitFit p (c .wait) (c .candidate) (c .owed))
   pub reply : T (replyFit (c .owed) (c .candidate))
+  pub taken : T (takenFit (c .sample) (c .candidate))
+  pub kept : T (keptFit (c .wait))
 
 module _ (p : ℕ) (c : Control) where
   abbrev timers : Bool
@@ -26,10 +28,15 @@ module _ (p : ℕ) (c : Control) where
   abbrev replies : Bool
   replies = replyFit (c .owed) (c .candidate)
 
+  abbrev takes : Bool
+  takes = takenFit (c .sample) (c .candidate)
+
   pub clauses : T (controlFit p c) → Clauses p c
   unfolding controlFit
   clauses t =
-      let four = and-l (countFit c && timers && candidates && waits) replies t in
+      let six = and-l (countFit c && timers && candidates && waits && replies && takes) (keptFit (c .wait)) t in
+      let five = and-l (countFit c && timers && candidates && waits && replies) takes six in
+      let four = and-l (countFit c && timers && candidates && waits) replies five in
       let three = and-l (countFit c && timers && candidates) waits four in
       let two = and-l (countFit c && timers) candidates three in
       record {
@@ -37,13 +44,17 @@ module _ (p : ℕ) (c : Control) where
         timer = and-r (countFit c) timers two;
         candidate = and-r (countFit c && timers) candidates three;
         wait = and-r (countFit c && timers && candidates) waits four;
-        reply = and-r (countFit c && timers && candidates && waits) replies t;
+        reply = and-r (countFit c && timers && candidates && waits) replies five;
+        taken = and-r (countFit c && timers && candidates && waits && replies) takes six;
+        kept = and-r (countFit c && timers && candidates && waits && replies && takes) (keptFit (c .wait)) t;
       }
 
   pub joined : Clauses p c → T (controlFit p c)
   unfolding controlFit
   joined s =
-      and-i (countFit c && timers && candidates && waits) replies
+      and-i (countFit c && timers && candidates && waits && replies && takes) (keptFit (c .wait))
+      (and-i (countFit c && timers && candidates && waits && replies) takes
+      (and-i (countFit c && timers && candidates && waits) replies
       (and-i (countFit c && timers && candidates) waits
       (and-i (countFit c && timers) candidates
-      (and-i (countFit c) timers (s .count) (s .timer)) (s .candidate)) (s .wait)) (s .reply)
+      (and-i (countFit c) timers (s .count) (s .timer)) (s .candidate)) (s .wait)) (s .reply)) (s .taken)) (s .kept)

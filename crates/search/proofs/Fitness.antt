@@ -16,7 +16,7 @@ use Rattle.search.specs.declared.Timer.the-variants.{Until}
 use Rattle.search.specs.declared.Control.{Control}
 use Rattle.search.specs.TakenBurst.{TakenBurst, heldAs}
 use Rattle.search.specs.Search.{ageOf}
-use Rattle.search.specs.Fit.{timerFit, ageFit, diffFit, gainFit, shiftFit, candidateFit, held, waitFit, replyFit, controlFit}
+use Rattle.search.specs.Fit.{timerFit, ageFit, diffFit, gainFit, shiftFit, candidateFit, held, waitFit, replyFit, takenFit, keptFit, controlFit}
 use Rattle.search.proofs.HeldOrNot.{HeldOrNot, not-held, is-held, held-or-not}
 use Rattle.search.proofs.Clauses.{clauses}
 
@@ -37,6 +37,8 @@ pub record ControlFacts (p : ℕ) (c : Control) : Type 0 where
   pub candidate : (t : TakenBurst) → c .candidate ≡ heldAs t → HeldFacts t
   pub wait : (w : Waiting) → c .wait ≡ Due w → WaitFacts p (w .left) (c .candidate) (c .owed)
   pub reply : c .owed ≡ true → c .candidate ≡ Nothing
+  pub taken : (t : TakenBurst) → c .candidate ≡ heldAs t → (1 ≤ t .«taken_at») × (t .«taken_at» ≤ c .sample)
+  pub kept : (w : Waiting) → c .wait ≡ Due w → 1 ≤ w .age
 
 -- ---- tests
 pub both : (a b : Bool) → T (a && b) → T a × T b
@@ -69,6 +71,11 @@ reply-fact true not-held t e = refl
 reply-fact true (is-held u) t e = absurd t
 reply-fact false held t e = absurd (holds e)
 
+pub taken-fact : (count : ℕ) (t : TakenBurst) → T (takenFit count (heldAs t)) → (1 ≤ t .«taken_at») × (t .«taken_at» ≤ count)
+taken-fact count t fit =
+    let numbers = both (leb 1 (t .«taken_at»)) (leb (t .«taken_at») count) fit in
+    (leb→le 1 (t .«taken_at») (numbers .0), leb→le (t .«taken_at») count (numbers .1))
+
 -- ---- all of them
 pub control-facts : (p : ℕ) (c : Control) → T (controlFit p c) → ControlFacts p c
 control-facts p c t =
@@ -79,6 +86,8 @@ control-facts p c t =
       candidate = λ t e. held-facts t (subst (λ (o : Candidate). T (candidateFit o)) e (s .candidate));
       wait = λ w e. wait-facts p w (c .candidate) (c .owed) (subst (λ (o : Wait). T (waitFit p o (c .candidate) (c .owed))) e (s .wait));
       reply = reply-fact (c .owed) (held-or-not (c .candidate)) (s .reply);
+      taken = λ t e. taken-fact (c .sample) t (subst (λ (o : Candidate). T (takenFit (c .sample) o)) e (s .taken));
+      kept = λ w e. leb→le 1 (w .age) (subst (λ (o : Wait). T (keptFit o)) e (s .kept));
     }
 
 pub age-most : {candidate : Candidate} → HeldOrNot candidate → T (candidateFit candidate) → ageOf candidate ≤ 254

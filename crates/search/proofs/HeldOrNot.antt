@@ -11,7 +11,7 @@ pub data HeldOrNot : Candidate → Type 0 where
 
 pub held-or-not : (candidate : Candidate) → HeldOrNot candidate
 held-or-not Nothing = not-held
-held-or-not (Held kind age diff gain shift) = is-held (record { kind = kind; age = age; diff = diff; gain = gain; shift = shift })
+held-or-not (Held kind age diff gain shift since) = is-held (record { kind = kind; age = age; diff = diff; gain = gain; shift = shift; «taken_at» = since })
 
 pub same-held : (t u : TakenBurst) → heldAs t ≡ heldAs u → t ≡ u
 same-held t u e = ap (λ (c : Candidate). Option·getD (heldIn c) t) e

@@ -1,4 +1,4 @@
--- Document 01's 'Unfit receiver', phrase by phrase in its order, but for the phrases of the rings: a control is fit where none applies. Over p, the samples in a symbol, where a limit
+-- Document 01's 'Unfit receiver', phrase by phrase in its order, but for the phrases of the rings, then document 02 j)'s: a control is fit where none applies. Over p, the samples in a symbol, where a limit
 -- is a multiple of it. Assumes nothing.
 use mathlib.Core.Bool.{Bool, true, false, not, _&&_}
 use mathlib.Core.Option.{none, some}
@@ -54,6 +54,15 @@ waitFit p (Due w) candidate owed = leb 1 (w .left) && ltb (w .left) (184 * p) &&
 abbrev pub replyFit : Bool → Candidate → Bool
 replyFit owed candidate = not (owed && held candidate)
 
+-- document 02 j): "a taken-at number above the count or 0"
+abbrev pub takenFit : ℕ → Candidate → Bool
+takenFit count candidate = elim (heldIn candidate) [ none ↦ true | some t ↦ leb 1 (t .«taken_at») && leb (t .«taken_at») count ]
+
+-- document 02 j): "a wait's kept age of 0"
+abbrev pub keptFit : Wait → Bool
+keptFit Free = true
+keptFit (Due w) = leb 1 (w .age)
+
 unfoldable pub controlFit : ℕ → Control → Bool
 controlFit p c =
     countFit c
@@ -61,3 +70,5 @@ controlFit p c =
     && candidateFit (c .candidate)
     && waitFit p (c .wait) (c .candidate) (c .owed)
     && replyFit (c .owed) (c .candidate)
+    && takenFit (c .sample) (c .candidate)
+    && keptFit (c .wait)

@@ -1,6 +1,6 @@
 -- Document 01, 'The receiver': the search, over p, the samples in a symbol, and over the eight values that the correlator is given, `v i` for the value i, the oldest 0.
 -- Assumes nothing.
-use mathlib.Core.Bool.{Bool, cond}
+use mathlib.Core.Bool.{Bool, true, false, cond}
 use mathlib.Core.Option.{Option, none, some}
 use Prim.Native.Nat.{ℕ, _+_, _-_, _*_, min}
 use lib.Dec.{eqb}
@@ -12,7 +12,7 @@ use Rattle.protocol.specs.declared.SyncBurst.the-variants.{Frame, Preamble, End
 use Rattle.decode.specs.Correlator.{correlation, matches}
 use Rattle.search.specs.declared.Candidate.{Candidate}
 use Rattle.search.specs.declared.Wait.{Wait}
-use Rattle.search.specs.declared.Wait.the-variants.{Due}
+use Rattle.search.specs.declared.Wait.the-variants.{Free, Due}
 use Rattle.search.specs.declared.Timer.{Timer}
 use Rattle.search.specs.declared.Timer.the-variants.{Until}
 use Rattle.search.specs.declared.Control.{Control}
@@ -49,14 +49,23 @@ sameKind j k = eqb (rank j) (rank k)
 abbrev pub ageOf : Candidate → ℕ
 ageOf candidate = elim (heldIn candidate) [ none ↦ 0 | some t ↦ t .age ]
 
--- "A match whose diff is above the held candidate's adds one to its age, whatever its kind. Any other match, ties included, takes a new candidate"
-unfoldable pub heldAfter : Option TakenBurst → TakenBurst → TakenBurst
-heldAfter none new = new
-heldAfter (some t) new = cond (lt (t .diff) (new .diff)) (aged t) new
-
--- "the wait becomes 1,840 - age"
+-- "the wait becomes 1,840 - age": the age is kept with it, since the candidate's own can still rise
 abbrev pub waitAfter : ℕ → ℕ → Wait
-waitAfter p age = Due (record { left = 184 * p - age })
+waitAfter p age = Due (record { left = 184 * p - age; age = age; replaced = false })
+
+-- document 02 j): "Where a later-listed kind replaced the candidate on the sample that set the wait, the offer carries a mark": it is kept with the wait,
+-- and set by a take while one is held
+unfoldable pub marked : Wait → Wait
+marked Free = Free
+marked (Due w) = Due (record { left = w .left; age = w .age; replaced = true })
+
+abbrev pub taking : TakenBurst → Control → Control
+taking new c = record { candidate = heldAs new; wait = marked (c .wait); dcd = c .dcd; owed = c .owed; sample = c .sample }
+
+-- "A match whose diff is above the held candidate's adds one to its age, whatever its kind. Any other match, ties included, takes a new candidate"
+unfoldable pub matched : Option TakenBurst → TakenBurst → Control → Control
+matched none new c = taking new c
+matched (some t) new c = cond (lt (t .diff) (new .diff)) (withCandidate (heldAs (aged t)) c) (taking new c)
 
 -- "If a kind does not match and the held candidate is of that kind, the wait becomes 1,840 - age and the timer's end count + 3,840."
 unfoldable pub missed : ℕ → Kind → Option TakenBurst → Control → Control
@@ -69,7 +78,7 @@ missed p kind (some t) c =
 -- one kind's turn in the pass
 unfoldable pub tried : ℕ → (ℕ → Float) → Kind → Control → Control
 tried p v kind c =
-    cond (matches (Frame kind) v) (withCandidate (heldAs (heldAfter (heldBy c) (taken kind (correlation (Frame kind) v)))) c) (missed p kind (heldBy c) c)
+    cond (matches (Frame kind) v) (matched (heldBy c) (taken kind (correlation (Frame kind) v) (c .sample)) c) (missed p kind (heldBy c) c)
 
 -- "LSF, BERT, Stream, Packet in that order .. Later kinds in the same pass can still replace the candidate or add to its age; the wait stays."
 unfoldable pub passed : ℕ → (ℕ → Float) → Control → Control

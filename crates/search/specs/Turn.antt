@@ -6,6 +6,7 @@ use Prim.Native.Nat.{ℕ, _+_, _-_}
 use lib.Dec.{ltb}
 use lib.Ieee.{Float}
 use Rattle.search.specs.declared.Candidate.the-variants.{Nothing}
+use Rattle.search.specs.declared.Waiting.{Waiting}
 use Rattle.search.specs.declared.Wait.{Wait}
 use Rattle.search.specs.declared.Wait.the-variants.{Free, Due}
 use Rattle.search.specs.declared.Timer.{Timer}
@@ -32,8 +33,12 @@ abbrev pub counted : Control → Control
 counted c = countedTo (c .sample + 1) c
 
 -- ---- the wait
-abbrev pub waitingOn : ℕ → Control → Control
-waitingOn left c = record { candidate = c .candidate; wait = Due (record { left = left }); dcd = c .dcd; owed = c .owed; sample = c .sample }
+-- "take one from it"
+abbrev pub nearer : Waiting → Waiting
+nearer w = record { left = w .left - 1; age = w .age; replaced = w .replaced }
+
+abbrev pub waitingOn : Waiting → Control → Control
+waitingOn w c = record { candidate = c .candidate; wait = Due w; dcd = c .dcd; owed = c .owed; sample = c .sample }
 
 abbrev pub freed : Control → Control
 freed c = record { candidate = Nothing; wait = Free; dcd = c .dcd; owed = c .owed; sample = c .sample }
@@ -43,14 +48,14 @@ owing owed c = record { candidate = c .candidate; wait = c .wait; dcd = c .dcd; 
 
 -- ---- the turn of a sample: it rests, its frame is offered, or it is searched
 -- "At 0 the wait and the candidate are removed and a frame is due."; document 02 b): "a due sample is now always an offer"
-unfoldable pub dueTurn : Option TakenBurst → Control → Turn
-dueTurn none c = Look c
-dueTurn (some t) c = Offer (shownOf t) (owing true c)
+unfoldable pub dueTurn : Option TakenBurst → Waiting → Control → Turn
+dueTurn none w c = Look c
+dueTurn (some t) w c = Offer (shownOf t (w .age) (w .replaced)) (owing true c)
 
 -- "If a wait is held, take one from it; while more than 0 is left the sample is finished, with no search."
 unfoldable pub waitedTurn : Wait → Control → Turn
 waitedTurn Free c = Look c
-waitedTurn (Due w) c = cond (ltb 1 (w .left)) (Rest (waitingOn (w .left - 1) c)) (dueTurn (heldBy c) (freed c))
+waitedTurn (Due w) c = cond (ltb 1 (w .left)) (Rest (waitingOn (nearer w) c)) (dueTurn (heldBy c) w (freed c))
 
 -- of the sample whose number is n
 abbrev pub turnOf : ℕ → Control → Turn

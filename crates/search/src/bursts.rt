@@ -12,8 +12,8 @@ use protocol::SyncBurst;
 ghost use mathlib.Core.Path.{_≡_};
 ghost use lib.Ieee.{lt};
 ghost use Rattle.decode.specs.Correlator.{threshold};
-ghost use Rattle.search.specs.TakenBurst.{heldAs, heldIn, taken, older};
-ghost use Rattle.search.specs.Search.{rank, endAfter, heldAfter, missed};
+ghost use Rattle.search.specs.TakenBurst.{heldIn, heldBy, taken, older};
+ghost use Rattle.search.specs.Search.{rank, endAfter, marked, matched, missed};
 ghost use Rattle.search.specs.Parts.{Carries, Tries};
 ghost use Rattle.search.specs.Promises.{searched-says};
 
@@ -83,34 +83,67 @@ fn rank(kind: Kind) -> u8
     }
 }
 
-// The candidate after a match: the held one, a sample older, or a new one.
-fn age_or_take(candidate: Candidate, kind: Kind, m: Correlation) -> Candidate
-    ensures { λ r. ⌜ r ≡ heldAs (heldAfter (heldIn candidate) (taken kind m)) ⌝ }
+// A candidate is taken while a wait is held: the wait is marked.
+fn mark_wait(wait: Wait) -> Wait
+    ensures { λ r. ⌜ r ≡ marked wait ⌝ }
 {
+    match wait {
+        Wait::Free => wait,
+        Wait::Due(w) => Wait::Due(Waiting {
+            left: w.left,
+            age: w.age,
+            replaced: true,
+        }),
+    }
+}
+
+// A match: the held candidate is a sample older, or a new one is taken.
+fn age_or_take(control: Control, kind: Kind, m: Correlation) -> Control
+    ensures { λ r. ⌜ r ≡ matched (heldBy control) (taken kind m (control .sample)) control ⌝ }
+{
+    let candidate = control.candidate;
+    let wait = control.wait;
+    let marked = mark_wait(wait);
+    let dcd = control.dcd;
     if let Candidate::Held {
         kind: k,
         age,
         diff,
         gain,
         shift,
+        taken_at,
     } = candidate {
         if diff < m.diff {
             let aged = older(age);
-            return Candidate::Held {
-                kind: k,
-                age: aged,
-                diff,
-                gain,
-                shift,
+            return Control {
+                candidate: Candidate::Held {
+                    kind: k,
+                    age: aged,
+                    diff,
+                    gain,
+                    shift,
+                    taken_at,
+                },
+                wait,
+                dcd,
+                owed: control.owed,
+                sample: control.sample,
             };
         }
     }
-    Candidate::Held {
-        kind,
-        age: 1,
-        diff: m.diff,
-        gain: m.gain,
-        shift: m.shift,
+    Control {
+        candidate: Candidate::Held {
+            kind,
+            age: 1,
+            diff: m.diff,
+            gain: m.gain,
+            shift: m.shift,
+            taken_at: control.sample,
+        },
+        wait: marked,
+        dcd,
+        owed: control.owed,
+        sample: control.sample,
     }
 }
 
@@ -125,13 +158,18 @@ fn await_frame(kind: Kind, control: Control) -> Control
         diff: _,
         gain: _,
         shift: _,
+        taken_at: _,
     } = candidate {
         if rank(k) == rank(kind) {
             let left = FRAME_REST - (age as u16);
             let end = end_after(control.sample, FRAME_CARRIER);
             return Control {
                 candidate,
-                wait: Wait::Due(Waiting { left }),
+                wait: Wait::Due(Waiting {
+                    left,
+                    age,
+                    replaced: false,
+                }),
                 dcd: Timer::Until(end),
                 owed: control.owed,
                 sample: control.sample,
@@ -146,17 +184,7 @@ fn try_kind(control: Control, kind: Kind, m: Correlation) -> Control
     ensures { λ r. ⌜ Tries kind m control r ⌝ }
 {
     if is_match(m) {
-        let before = control.candidate;
-        let candidate = age_or_take(before, kind, m);
-        let wait = control.wait;
-        let dcd = control.dcd;
-        return Control {
-            candidate,
-            wait,
-            dcd,
-            owed: control.owed,
-            sample: control.sample,
-        };
+        return age_or_take(control, kind, m);
     }
     await_frame(kind, control)
 }

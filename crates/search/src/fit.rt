@@ -5,7 +5,7 @@ use crate::LAST_COUNT;
 use crate::Timer;
 use crate::Wait;
 ghost use mathlib.Core.Path.{_≡_};
-ghost use Rattle.search.specs.Fit.{timerFit, candidateFit, held, waitFit};
+ghost use Rattle.search.specs.Fit.{timerFit, candidateFit, held, waitFit, takenFit, keptFit};
 ghost use Rattle.search.specs.Promises.{control-fit-says};
 
 // The latest end of the carrier timer: 3,840 samples after the largest count.
@@ -31,6 +31,7 @@ fn candidate_fit(candidate: Candidate) -> bool
             diff,
             gain,
             shift,
+            taken_at: _,
         } => {
             let age_fit = (1 <= age) & (age <= 254);
             let diff_fit = (0.0 <= diff) & (diff < 100.0);
@@ -51,6 +52,7 @@ pub(crate) fn is_held(candidate: Candidate) -> bool
             diff: _,
             gain: _,
             shift: _,
+            taken_at: _,
         } => true,
     }
 }
@@ -68,6 +70,34 @@ fn wait_fit(wait: Wait, candidate: Candidate, owed: bool) -> bool
     }
 }
 
+fn taken_fit(candidate: Candidate, count: u64) -> bool
+    ensures { λ r. ⌜ r ≡ takenFit count candidate ⌝ }
+{
+    match candidate {
+        Candidate::Nothing => true,
+        Candidate::Held {
+            kind: _,
+            age: _,
+            diff: _,
+            gain: _,
+            shift: _,
+            taken_at,
+        } => (1 <= taken_at) & (taken_at <= count),
+    }
+}
+
+fn kept_fit(wait: Wait) -> bool
+    ensures { λ r. ⌜ r ≡ keptFit wait ⌝ }
+{
+    match wait {
+        Wait::Free => true,
+        Wait::Due(w) => {
+            let age = w.age;
+            1 <= age
+        }
+    }
+}
+
 pub fn control_fit(control: Control) -> bool
     ensures { λ r. ⌜ control-fit-says control r ⌝ }
 {
@@ -81,4 +111,6 @@ pub fn control_fit(control: Control) -> bool
         & candidate_fit(candidate)
         & wait_fit(wait, candidate, owed)
         & !owed_with_candidate
+        & taken_fit(candidate, control.sample)
+        & kept_fit(wait)
 }

@@ -13,7 +13,7 @@ pub use turns::turn_of;
 // The largest count.
 pub const LAST_COUNT: u64 = 9223372036854775808;
 
-// A place that may be decoded, or none.
+// A place that may be decoded, or none. `taken_at` is the number of the sample at which it was taken.
 pub enum Candidate {
     Nothing,
     Held {
@@ -22,12 +22,16 @@ pub enum Candidate {
         diff: f32,
         gain: f32,
         shift: f32,
+        taken_at: u64,
     },
 }
 
-// How many samples are still to come before a frame is due.
+// How many samples are still to come before a frame is due, the candidate's age when the wait was set,
+// and whether a later-listed kind replaced the candidate on that sample.
 pub struct Waiting {
     pub left: u16,
+    pub age: u8,
+    pub replaced: bool,
 }
 
 // No frame is awaited, or one is.
@@ -51,11 +55,15 @@ pub struct Control {
     pub sample: u64,
 }
 
-// What a due frame shows: its kind, and the gain and the shift of its symbols.
+// What a due frame shows: its kind, the gain and the shift of its symbols, the sample at which it was taken,
+// and what was kept with the wait.
 pub struct Shown {
     pub kind: Kind,
     pub gain: f32,
     pub shift: f32,
+    pub taken_at: u64,
+    pub age: u8,
+    pub replaced: bool,
 }
 
 // What is left to do once a sample is stored and counted: nothing, an offer, or a search.

@@ -23,8 +23,8 @@ fn clear_timer(timer: Timer, count: u64) -> Timer
 }
 
 // A frame is due: the candidate that awaited it is offered, whatever its kind.
-fn fall_due(candidate: Candidate, control: Control) -> Turn
-    ensures { λ r. ⌜ r ≡ dueTurn (heldIn candidate) control ⌝ }
+fn fall_due(candidate: Candidate, waited: Waiting, control: Control) -> Turn
+    ensures { λ r. ⌜ r ≡ dueTurn (heldIn candidate) waited control ⌝ }
 {
     match candidate {
         Candidate::Nothing => Turn::Look(control),
@@ -34,11 +34,19 @@ fn fall_due(candidate: Candidate, control: Control) -> Turn
             diff: _,
             gain,
             shift,
+            taken_at,
         } => {
             let mut owing = control;
             owing.owed = true;
             Turn::Offer {
-                shown: Shown { kind, gain, shift },
+                shown: Shown {
+                    kind,
+                    gain,
+                    shift,
+                    taken_at,
+                    age: waited.age,
+                    replaced: waited.replaced,
+                },
                 control: owing,
             }
         }
@@ -68,7 +76,11 @@ pub fn turn_of(control: Control, sample: u64) -> Turn
                 let fewer = left - 1;
                 return Turn::Rest(Control {
                     candidate,
-                    wait: Wait::Due(Waiting { left: fewer }),
+                    wait: Wait::Due(Waiting {
+                        left: fewer,
+                        age: w.age,
+                        replaced: w.replaced,
+                    }),
                     dcd,
                     owed,
                     sample,
@@ -76,6 +88,7 @@ pub fn turn_of(control: Control, sample: u64) -> Turn
             }
             fall_due(
                 candidate,
+                w,
                 Control {
                     candidate: Candidate::Nothing,
                     wait: Wait::Free,

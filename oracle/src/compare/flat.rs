@@ -4,6 +4,7 @@
 
 use super::wire;
 use crate::decode::KINDS;
+use crate::modem::found::Found;
 use crate::modem::kept::{Control, Held, Sending};
 use crate::modem::{lay, peek, SoftDemodulator, SoftModulator};
 
@@ -13,17 +14,23 @@ pub const RX_CURSOR: usize = 1;
 pub const COUNT: usize = 2;
 pub const KIND: usize = 3;
 pub const AGE: usize = 4;
-pub const WAIT_HELD: usize = 5;
-pub const WAIT_LEFT: usize = 6;
-pub const TIMER_HELD: usize = 7;
-pub const TIMER_END: usize = 8;
-pub const OWED: usize = 9;
-pub const REFUSAL: usize = 10;
-pub const ANSWER: usize = 11;
-pub const OFFERED_AT: usize = 12;
-pub const CARRIER: usize = 13;
-pub const GIVEN: usize = 14;
-pub const NUMBERS: usize = 15;
+pub const TAKEN_AT: usize = 5;
+pub const WAIT_HELD: usize = 6;
+pub const WAIT_LEFT: usize = 7;
+pub const WAIT_AGE: usize = 8;
+pub const WAIT_MARK: usize = 9;
+pub const TIMER_HELD: usize = 10;
+pub const TIMER_END: usize = 11;
+pub const OWED: usize = 12;
+pub const REFUSAL: usize = 13;
+pub const ANSWER: usize = 14;
+pub const OFFERED_AT: usize = 15;
+pub const OFFER_TAKEN: usize = 16;
+pub const OFFER_AGE: usize = 17;
+pub const OFFER_MARK: usize = 18;
+pub const CARRIER: usize = 19;
+pub const GIVEN: usize = 20;
+pub const NUMBERS: usize = 21;
 
 /// What stands for no kind.
 pub const NO_KIND: u64 = 4;
@@ -45,8 +52,11 @@ const RECEIVER_NAMES: [&str; OWED + 1] = [
     "count",
     "kind",
     "age",
+    "taken at",
     "a wait held",
     "wait left",
+    "the wait's age",
+    "the wait's mark",
     "a timer held",
     "timer end",
     "a reply owed",
@@ -113,14 +123,23 @@ impl Receiver {
         }
     }
 
-    pub fn set_control(&mut self, control: Control, owed: bool) {
-        let laid = numbers(self.cursors(), control, owed);
+    /// What is kept besides, of a fit record.
+    pub fn found(&self) -> Found {
+        Found {
+            taken_at: self.numbers[TAKEN_AT],
+            age: self.numbers[WAIT_AGE] as u8,
+            replaced: self.numbers[WAIT_MARK] == 1,
+        }
+    }
+
+    pub fn set_control(&mut self, control: Control, found: Found, owed: bool) {
+        let laid = numbers(self.cursors(), control, found, owed);
         self.numbers[..=OWED].copy_from_slice(&laid);
         self.floats[DIFF..].copy_from_slice(&three(control));
     }
 }
 
-fn numbers(cursors: (usize, usize), control: Control, owed: bool) -> [u64; OWED + 1] {
+fn numbers(cursors: (usize, usize), control: Control, found: Found, owed: bool) -> [u64; OWED + 1] {
     let kind = |held: Held| KINDS.iter().position(|&kind| kind == held.burst);
     [
         cursors.0 as u64,
@@ -131,8 +150,11 @@ fn numbers(cursors: (usize, usize), control: Control, owed: bool) -> [u64; OWED 
             .and_then(kind)
             .map_or(NO_KIND, |place| place as u64),
         control.candidate.map_or(0, |held| u64::from(held.age)),
+        found.taken_at,
         u64::from(control.wait.is_some()),
         control.wait.map_or(0, u64::from),
+        u64::from(found.age),
+        u64::from(found.replaced),
         u64::from(control.timer.is_some()),
         control.timer.unwrap_or(0),
         u64::from(owed),
@@ -154,8 +176,8 @@ pub fn room_after(numbers: &[u64], mut before: Vec<f32>, symbols: &[f32]) -> Vec
     before
 }
 
-/// The record of the old modem.
-pub fn receiver(old: &SoftDemodulator) -> Receiver {
+/// The record of the old modem, with what it does not keep itself.
+pub fn receiver(old: &SoftDemodulator, found: Found) -> Receiver {
     let (window, ring) = lay::rings(old);
     let mut flat = Receiver::empty();
     flat.window = *window;
@@ -163,7 +185,7 @@ pub fn receiver(old: &SoftDemodulator) -> Receiver {
     let (filter, rx) = peek::cursors(old);
     flat.numbers[FILTER_CURSOR] = filter as u64;
     flat.numbers[RX_CURSOR] = rx as u64;
-    flat.set_control(peek::control(old), false);
+    flat.set_control(peek::control(old), found, false);
     flat
 }
 
@@ -174,9 +196,14 @@ pub fn old_receiver(flat: &Receiver) -> SoftDemodulator {
 
 /// What differs after a sample, but for the rings: the record's numbers, the new filtered value, the
 /// candidate's floats.
-pub fn scalars_differ(old: &SoftDemodulator, port: &[u64], values: &[f32]) -> Option<String> {
+pub fn scalars_differ(
+    old: &SoftDemodulator,
+    found: Found,
+    port: &[u64],
+    values: &[f32],
+) -> Option<String> {
     let control = peek::control(old);
-    let ours = numbers(peek::cursors(old), control, false);
+    let ours = numbers(peek::cursors(old), control, found, false);
     if let Some(i) = (0..=OWED).find(|&i| ours[i] != port[i]) {
         return Some(say(RECEIVER_NAMES[i], ours[i], port[i]));
     }
@@ -186,6 +213,23 @@ pub fn scalars_differ(old: &SoftDemodulator, port: &[u64], values: &[f32]) -> Op
     (0..4)
         .find(|&i| !same(ours[i], values[i]))
         .map(|i| say(names[i], pattern(ours[i]), pattern(values[i])))
+}
+
+/// What differs between an offer's own report and what was kept for it.
+pub fn reports_differ(found: Found, port: &[u64]) -> Option<String> {
+    let names = [
+        "the offer's taken-at",
+        "the offer's age",
+        "the offer's mark",
+    ];
+    let ours = [
+        found.taken_at,
+        u64::from(found.age),
+        u64::from(found.replaced),
+    ];
+    (0..3)
+        .find(|&i| ours[i] != port[OFFER_TAKEN + i])
+        .map(|i| say(names[i], ours[i], port[OFFER_TAKEN + i]))
 }
 
 pub fn receivers_differ(old: &Receiver, port: &Receiver) -> Option<String> {

@@ -1,7 +1,7 @@
 //! Recordings: both receivers from fresh, sample by sample.
 
 use super::flat::{self, floats_differ, receivers_differ, room_after, say, Receiver};
-use super::flat::{ANSWER, CARRIER, GIVEN, NO_KIND, OFFERED_AT, REFUSAL};
+use super::flat::{ANSWER, CARRIER, GIVEN, NO_KIND, OFFERED_AT, OFFER_MARK, REFUSAL};
 use super::port::{Hearing, Note, Program};
 use super::recordings::{recording, Recording};
 use super::smallest::{from_the_front, plainer};
@@ -10,6 +10,7 @@ use super::values::numbered;
 use super::{caught, Difference};
 use crate::decode::{name, KINDS};
 use crate::harness::{lay_replies, take_offer, Offer};
+use crate::modem::found::{is_taken, Found};
 use crate::modem::kept::Control;
 use crate::modem::peek::control;
 use crate::modem::{Demodulator, SoftDemodulator};
@@ -74,7 +75,7 @@ fn difference(
     lay_replies(replies);
     take_offer();
     let mut sides = Sides::new(program);
-    if let Some(what) = receivers_differ(&flat::receiver(&sides.old), &sides.port) {
+    if let Some(what) = receivers_differ(&flat::receiver(&sides.old, sides.found), &sides.port) {
         return Some((0, what));
     }
     let mut at = 0;
@@ -91,6 +92,8 @@ fn difference(
 struct Sides<'a> {
     program: &'a mut Program,
     old: SoftDemodulator,
+    /// What it does not keep itself.
+    found: Found,
     port: Receiver,
     room: [f32; ROOM],
     notes: Vec<Note>,
@@ -105,6 +108,7 @@ impl<'a> Sides<'a> {
         Sides {
             program,
             old: SoftDemodulator::new(),
+            found: Found::default(),
             port,
             room: numbered(ROOM).try_into().expect("as many places"),
             notes: vec![],
@@ -134,7 +138,7 @@ impl<'a> Sides<'a> {
         let kept = floats_differ("room, place", &room[written..], &self.room[written..]);
         unequal(kept).map_err(|what| (last, what))?;
         self.room = room;
-        match receivers_differ(&flat::receiver(&self.old), &self.port) {
+        match receivers_differ(&flat::receiver(&self.old, self.found), &self.port) {
             Some(what) => Err((last, what)),
             None => {
                 tally.whole += 1;
@@ -157,9 +161,13 @@ impl<'a> Sides<'a> {
             return Err("the old modem's frame is not the reply's".to_string());
         }
         tally.samples += 1;
+        let kept = self.found;
+        let accepted = offer.as_ref().is_some_and(|offer| offer.accepted);
+        self.found = kept.next(before, after, accepted);
         count(before, after, offer.as_ref(), tally);
         if let Some(offer) = offer {
-            self.offer(i, &offer)?;
+            self.offer(i, &offer, kept)?;
+            tally.marked += u64::from(kept.replaced);
             return self.reply(i, offer.accepted, tally);
         }
         if numbers[ANSWER] != NO_KIND {
@@ -168,6 +176,7 @@ impl<'a> Sides<'a> {
         carrier(&self.old, numbers[CARRIER], tally)?;
         unequal(flat::scalars_differ(
             &self.old,
+            self.found,
             numbers,
             &self.notes[i].values,
         ))
@@ -185,10 +194,15 @@ impl<'a> Sides<'a> {
         carrier(&self.old, self.port.numbers[ANSWER], tally)?;
         let floats = &self.port.floats[flat::DIFF..];
         let values = [floats[0], floats[1], floats[2], self.notes[i].values[3]];
-        unequal(flat::scalars_differ(&self.old, &self.port.numbers, &values))
+        unequal(flat::scalars_differ(
+            &self.old,
+            self.found,
+            &self.port.numbers,
+            &values,
+        ))
     }
 
-    fn offer(&self, i: usize, offer: &Offer) -> Result<(), String> {
+    fn offer(&self, i: usize, offer: &Offer, kept: Found) -> Result<(), String> {
         let numbers = &self.notes[i].numbers;
         let kind = KINDS
             .get(numbers[ANSWER] as usize)
@@ -200,6 +214,7 @@ impl<'a> Sides<'a> {
         if numbers[OFFERED_AT] != count {
             return Err(say("the offer's sample number", count, numbers[OFFERED_AT]));
         }
+        unequal(flat::reports_differ(kept, numbers))?;
         unequal(floats_differ("symbol", &offer.symbols, &self.room[..192]))
     }
 
@@ -209,8 +224,8 @@ impl<'a> Sides<'a> {
         let mut room = numbered(ROOM);
         program.hear(Hearing::Feed(samples), &mut record, &mut room);
         let fed = record.numbers[GIVEN] as usize;
-        let noted = &self.notes[given - 1].numbers[REFUSAL..=OFFERED_AT];
-        if fed != given || record.numbers[REFUSAL..=OFFERED_AT] != *noted {
+        let noted = &self.notes[given - 1].numbers[REFUSAL..=OFFER_MARK];
+        if fed != given || record.numbers[REFUSAL..=OFFER_MARK] != *noted {
             return Err(format!(
                 "{fed} samples go in by `feed`, {given} by `demod`, or it answers otherwise"
             ));
@@ -253,14 +268,18 @@ fn count(before: Control, after: Control, offer: Option<&Offer>, tally: &mut Tal
     let older = held.zip(after.candidate);
     let aged = older.is_some_and(|(held, now)| held.burst == now.burst && now.age == held.age + 1);
     let changed = held != after.candidate;
-    let took = changed && !aged && after.candidate.is_some();
+    let searched = match before.wait {
+        None => true,
+        Some(left) => left == 1 && !offer.is_some_and(|offer| offer.accepted),
+    };
+    let took = searched && is_taken(before, after);
     tally.ages += u64::from(changed && aged);
     tally.takes += u64::from(took);
     tally.replaced += u64::from(took && older.is_some_and(|(held, now)| held.burst != now.burst));
     tally.ties += u64::from(took && older.is_some_and(|(held, now)| held.diff == now.diff));
     if after.wait.is_some() && before.wait.is_none_or(|left| left == 1) {
         tally.waits += 1;
-        tally.waits_kept += u64::from(changed);
+        tally.waits_kept += u64::from(changed || took);
     }
     if let Some(offer) = offer {
         count_offer(offer, took, tally);

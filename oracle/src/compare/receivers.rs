@@ -5,6 +5,7 @@ use super::refusals::tested;
 use super::steps::{Case, Step};
 use super::values::{in_range, nan, numbered, out_of_range};
 use crate::decode::{signs, sync_burst_correlation, SyncBurst, KINDS};
+use crate::modem::found::Found;
 use crate::modem::kept::{Control, Held};
 use crate::random::Random;
 use crate::shaping::RRC_48K;
@@ -34,7 +35,8 @@ pub fn made_up(random: &mut Random) -> Case {
     let owed = matches!(step, Step::Reply { .. }) || random.below(60) == 0;
     let eight = burst(random, &mut record, &step);
     let control = control(random, owed, eight);
-    record.set_control(control, owed && random.below(40) > 0);
+    let found = found(random, control);
+    record.set_control(control, found, owed && random.below(40) > 0);
     if random.below(3) > 0 {
         lay_not_numbers(random, &mut record, &step);
     }
@@ -134,6 +136,10 @@ fn control(random: &mut Random, owed: bool, eight: [f32; 8]) -> Control {
         count = count.max(1);
     }
     let candidate = (!owed && random.below(5) > 0).then(|| held(random, eight));
+    if candidate.is_some() {
+        // It was taken at a sample.
+        count = count.max(1);
+    }
     let wait = (candidate.is_some() && random.below(2) == 0).then(|| match random.below(4) {
         0 => 2,
         1 => 1 + random.below(1839) as u16,
@@ -156,13 +162,42 @@ fn control(random: &mut Random, owed: bool, eight: [f32; 8]) -> Control {
     }
 }
 
-/// A candidate; its diff is often that of the match at hand, or a step from it.
+/// What is kept besides: from the first sample to the last one a candidate may be taken, and a wait's age and mark may
+/// be anything but an age of 0.
+fn found(random: &mut Random, control: Control) -> Found {
+    let mut found = Found::default();
+    if control.candidate.is_some() {
+        found.taken_at = match random.below(4) {
+            0 => 1,
+            1 => control.count,
+            _ => 1 + u64::from(random.word()) % control.count,
+        };
+    }
+    if control.wait.is_some() {
+        found.age = *random.pick(&[1, 2, 10, 11, 254, 255]);
+        found.replaced = random.below(2) == 0;
+    }
+    found
+}
+
+/// A candidate; its diff is often that of the match at hand, or a step from it, and now and then it is what that match
+/// would take.
 fn held(random: &mut Random, eight: [f32; 8]) -> Held {
     let kind = *random.pick(&KINDS);
-    let found = KINDS
+    let taken = KINDS
         .iter()
-        .map(|kind| sync_burst_correlation(kind.target(), &eight).0)
-        .find(|&diff| diff < 100.0);
+        .map(|&burst| (burst, sync_burst_correlation(burst.target(), &eight)))
+        .find(|(_, (diff, _, _))| *diff < 100.0);
+    if let (Some((burst, (diff, gain, shift))), 0) = (taken, random.below(12)) {
+        return Held {
+            burst,
+            age: 1,
+            diff,
+            gain,
+            shift,
+        };
+    }
+    let found = taken.map(|(_, (diff, _, _))| diff);
     let diff = match (found, random.below(5)) {
         (Some(diff), 0) => diff,
         (Some(diff), 1) => f32::from_bits(diff.to_bits() + 1),
@@ -198,7 +233,7 @@ fn spoil(random: &mut Random, record: &mut Receiver, step: &Step) {
     for _ in 0..1 + random.below(2) {
         let places: Vec<usize> = tested(record, step).collect();
         let (n, f) = (&mut record.numbers, &mut record.floats);
-        match random.below(13) {
+        match random.below(15) {
             0 => n[FILTER_CURSOR] = *random.pick(&[81, 82, u64::MAX]),
             // A cursor this large is tested no further.
             1 => {
@@ -221,15 +256,23 @@ fn spoil(random: &mut Random, record: &mut Receiver, step: &Step) {
             7 => hold(n, f, 1, 1.0, 20.0, out_of_range(random)),
             8 => {
                 hold(n, f, 1, 1.0, 20.0, 0.0);
-                (n[WAIT_HELD], n[WAIT_LEFT]) = (1, *random.pick(&[0, 1840, 65_535]));
+                wait(n, *random.pick(&[0, 1840, 65_535]));
             }
             9 => {
                 let_go(n, f);
-                (n[WAIT_HELD], n[WAIT_LEFT]) = (1, 1 + random.below(1839) as u64);
+                wait(n, 1 + random.below(1839) as u64);
             }
             10 => {
                 hold(n, f, 1, 1.0, 20.0, 0.0);
                 n[OWED] = 1;
+            }
+            11 => {
+                hold(n, f, 1, 1.0, 20.0, 0.0);
+                n[TAKEN_AT] = *random.pick(&[0, n[COUNT].saturating_add(1), u64::MAX]);
+            }
+            12 => {
+                hold(n, f, 1, 1.0, 20.0, 0.0);
+                (n[WAIT_HELD], n[WAIT_LEFT], n[WAIT_AGE]) = (1, 1 + random.below(1839) as u64, 0);
             }
             _ if places.is_empty() => {}
             _ => f[*random.pick(&places)] = out_of_range(random),
@@ -238,11 +281,15 @@ fn spoil(random: &mut Random, record: &mut Receiver, step: &Step) {
 }
 
 fn hold(n: &mut [u64; NUMBERS], f: &mut [f32; 1923], age: u64, diff: f32, gain: f32, shift: f32) {
-    (n[KIND], n[AGE]) = (2, age);
+    (n[KIND], n[AGE], n[TAKEN_AT]) = (2, age, n[COUNT]);
     f[DIFF..].copy_from_slice(&[diff, gain, shift]);
 }
 
+fn wait(n: &mut [u64; NUMBERS], left: u64) {
+    (n[WAIT_HELD], n[WAIT_LEFT], n[WAIT_AGE]) = (1, left, 1);
+}
+
 fn let_go(n: &mut [u64; NUMBERS], f: &mut [f32; 1923]) {
-    (n[KIND], n[AGE]) = (NO_KIND, 0);
+    (n[KIND], n[AGE], n[TAKEN_AT]) = (NO_KIND, 0, 0);
     f[DIFF..].copy_from_slice(&[0.0; 3]);
 }

@@ -1,5 +1,5 @@
 //! Which refusal documents 01 and 02 give for a call: 'Refusal numbers', the two unfit lists with request a's limit of
-//! a reported end, and request c, the smallest number first; 0 for none. The old modem has none of them.
+//! a reported end and request j's of a candidate and a wait, and request c, the smallest number first; 0 for none. The old modem has none of them.
 
 use super::calls::{Call, Frame};
 use super::flat::*;
@@ -33,11 +33,16 @@ fn candidate_fit(record: &Receiver) -> bool {
             && f[DIFF] < 100.0
             && (16.0..=LIMIT).contains(&f[GAIN])
             && within(f[SHIFT], LIMIT)
+            && (1..=record.numbers[COUNT]).contains(&record.numbers[TAKEN_AT])
 }
 
 fn wait_fit(record: &Receiver) -> bool {
     let n = &record.numbers;
-    n[WAIT_HELD] == 0 || (1..=1839).contains(&n[WAIT_LEFT]) && n[KIND] != NO_KIND && n[OWED] == 0
+    n[WAIT_HELD] == 0
+        || (1..=1839).contains(&n[WAIT_LEFT])
+            && n[KIND] != NO_KIND
+            && n[OWED] == 0
+            && n[WAIT_AGE] != 0
 }
 
 fn receiver_fit(record: &Receiver, step: &Step) -> bool {

@@ -12,6 +12,7 @@ use super::{caught, Difference};
 use crate::bits::row;
 use crate::decode::{name, KINDS};
 use crate::harness::{lay_replies, take_offer, Offer};
+use crate::modem::found::Found;
 use crate::modem::kept::{Control, Held};
 use crate::modem::peek::control;
 use crate::modem::{lay, Demodulator, SoftDemodulator};
@@ -142,7 +143,7 @@ fn fed(
 ) -> Result<(), String> {
     let (mut record, mut lent) = (case.record.clone(), numbered(case.room.len()));
     program.hear(Hearing::Feed(&[sample]), &mut record, &mut lent);
-    if record.numbers[REFUSAL..=OFFERED_AT] != port.numbers[REFUSAL..=OFFERED_AT] {
+    if record.numbers[REFUSAL..=OFFER_MARK] != port.numbers[REFUSAL..=OFFER_MARK] {
         return Err("`feed` answers otherwise than `demod`".to_string());
     }
     if record.numbers[GIVEN] != u64::from(record.numbers[REFUSAL] == 0) {
@@ -171,7 +172,11 @@ fn sampled(
     room: &[f32],
     tally: &mut Tally,
 ) -> Result<(), String> {
-    let (old, offer) = old_demod(old_receiver(&case.record), sample, accepted)?;
+    let before = old_receiver(&case.record);
+    let kept = case.record.found();
+    let start = control(&before);
+    let (old, offer) = old_demod(before, sample, accepted)?;
+    let found = kept.next(start, control(&old), offer.is_some() && accepted);
     let kind = KINDS
         .get(port.numbers[ANSWER] as usize)
         .map(|&kind| name(kind));
@@ -195,13 +200,14 @@ fn sampled(
                 port.numbers[OFFERED_AT],
             ));
         }
+        same(reports_differ(kept, &port.numbers))?;
         program.hear(Hearing::Reply(accepted), &mut port, &mut []);
         if port.numbers[REFUSAL] != 0 {
             return Err(say("refusal of the reply", 0, port.numbers[REFUSAL]));
         }
         tally.record_offers += 1;
     }
-    let expected = receiver(&old);
+    let expected = receiver(&old, found);
     same(receivers_differ(&expected, &port))?;
     same(floats_differ("room, place", &expected_room, room))?;
     tally.record_samples += 1;
@@ -211,9 +217,12 @@ fn sampled(
     tally.record_searches += u64::from(changed && port.numbers[KIND] != NO_KIND);
     let tie = case.record.floats[DIFF] == port.floats[DIFF] && port.numbers[KIND] != NO_KIND;
     let three = DIFF..=SHIFT;
-    tally.record_ties += u64::from(tie && case.record.floats[three.clone()] != port.floats[three]);
+    let alike = case.record.floats[three.clone()] == port.floats[three];
+    tally.record_ties += u64::from(tie && !alike);
+    let renewed = !changed && found.taken_at == control(&old).count;
+    tally.record_alike += u64::from(tie && alike && renewed);
     if port.numbers[AGE] == 255 {
-        refused_at_255(program, &mut port, &old, tally)?;
+        refused_at_255(program, &mut port, &expected, tally)?;
     }
     Ok(())
 }
@@ -222,7 +231,7 @@ fn sampled(
 fn refused_at_255(
     program: &mut Program,
     port: &mut Receiver,
-    old: &SoftDemodulator,
+    expected: &Receiver,
     tally: &mut Tally,
 ) -> Result<(), String> {
     let notes = program.hear(Hearing::Listen(&[0]), port, &mut [0.0; 192]);
@@ -230,7 +239,7 @@ fn refused_at_255(
     if refusal != 1 {
         return Err(say("refusal at age 255, by document 01", 1, refusal));
     }
-    same(receivers_differ(&receiver(old), port))?;
+    same(receivers_differ(expected, port))?;
     tally.aged_255 += 1;
     Ok(())
 }
@@ -261,7 +270,8 @@ fn replied(case: &Case, accepted: bool, port: &Receiver, tally: &mut Tally) -> R
     if offer.is_none() {
         return Err("the old modem does not ask for the frame".to_string());
     }
-    let mut expected = receiver(&old);
+    let found = Found::default().next(before, control(&old), accepted);
+    let mut expected = receiver(&old, found);
     if stale && expected.numbers[TIMER_HELD] == 0 {
         expected.numbers[TIMER_HELD] = 1;
         expected.numbers[TIMER_END] = case.record.numbers[TIMER_END];

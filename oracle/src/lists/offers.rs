@@ -5,6 +5,7 @@ use crate::bits::{hex, row};
 use crate::decode::name;
 use crate::harness::{lay_replies, replies_left, take_offer};
 use crate::lists::streams::{streams, Script};
+use crate::modem::found::{is_taken, Found};
 use crate::modem::kept::{Control, Held};
 use crate::modem::peek::{control, cursors};
 use crate::modem::{Demodulator, SoftDemodulator};
@@ -26,13 +27,14 @@ pub fn write() -> String {
 fn run(list: &mut String, stream: &Script) {
     lay_replies(&stream.replies);
     let mut receiver = SoftDemodulator::new();
+    let mut found = Found::default();
     let mut rest = &stream.samples[..];
     while !rest.is_empty() {
         let (line, samples) = portion(rest);
         rest = &rest[samples.len()..];
         list.push_str(&line);
         for &sample in samples {
-            feed(list, &mut receiver, sample);
+            found = feed(list, &mut receiver, sample, found);
         }
     }
     assert_eq!(
@@ -59,7 +61,8 @@ fn portion(rest: &[i16]) -> (String, &[i16]) {
     (format!("samples {digits}\n"), samples)
 }
 
-fn feed(list: &mut String, receiver: &mut SoftDemodulator, sample: i16) {
+/// Gives what is kept besides, after the sample.
+fn feed(list: &mut String, receiver: &mut SoftDemodulator, sample: i16, found: Found) -> Found {
     let before = control(receiver);
     let frame = receiver.demod(sample);
     let after = control(receiver);
@@ -72,14 +75,20 @@ fn feed(list: &mut String, receiver: &mut SoftDemodulator, sample: i16) {
             let reply = if offer.accepted { "accept" } else { "reject" };
             let symbols = row(&offer.symbols);
             say(format!(
-                "offer {} {} {symbols} {reply}",
-                offer.kind, after.count
+                "offer {} {} {} {} {} {symbols} {reply}",
+                offer.kind,
+                after.count,
+                found.taken_at,
+                found.age,
+                u8::from(found.replaced)
             ));
         }
         (Some(_), None) => panic!("a due frame that was not offered"),
         (None, offer) => assert!(offer.is_none(), "an offer that was not due"),
     }
-    assert_eq!(frame.is_some(), offer.is_some_and(|offer| offer.accepted));
+    let accepted = offer.is_some_and(|offer| offer.accepted);
+    assert_eq!(frame.is_some(), accepted);
+    let now = found.next(before, after, accepted);
     // The listed difference: the Rust never says yes, though it holds the timer.
     assert!(!receiver.data_carrier_detect());
 
@@ -94,16 +103,23 @@ fn feed(list: &mut String, receiver: &mut SoftDemodulator, sample: i16) {
     } else {
         before.candidate
     };
-    if let Some(event) = candidate_event(held, after.candidate) {
+    let searched = before.wait.is_none_or(|left| left == 1) && !accepted;
+    let taken = searched && is_taken(before, after);
+    if let Some(event) = candidate_event(held, after.candidate, taken.then_some(now.taken_at)) {
         say(event);
     }
-    if let Some(event) = wait_event(before, after) {
+    if let Some(event) = wait_event(before, after, now) {
         say(event);
     }
+    now
 }
 
-fn candidate_event(before: Option<Held>, after: Option<Held>) -> Option<String> {
-    if after == before {
+fn candidate_event(
+    before: Option<Held>,
+    after: Option<Held>,
+    taken_at: Option<u64>,
+) -> Option<String> {
+    if after == before && taken_at.is_none() {
         return None;
     }
     let after = after.expect("a candidate goes only with its frame");
@@ -112,21 +128,27 @@ fn candidate_event(before: Option<Held>, after: Option<Held>) -> Option<String> 
         ..held
     });
     let kind = name(after.burst);
-    if aged == Some(after) {
+    let Some(taken_at) = taken_at else {
+        assert!(aged == Some(after), "a candidate that is not taken ages");
         return Some(format!("age {kind} {}", after.age));
-    }
+    };
     let [diff, gain, shift] = [after.diff, after.gain, after.shift].map(hex);
-    Some(format!("take {kind} {} {diff} {gain} {shift}", after.age))
+    Some(format!(
+        "take {kind} {} {diff} {gain} {shift} {taken_at}",
+        after.age
+    ))
 }
 
 /// A wait that was set; that it runs down is no event.
-fn wait_event(before: Control, after: Control) -> Option<String> {
+fn wait_event(before: Control, after: Control, now: Found) -> Option<String> {
     let run_down = before.wait.map(|left| left - 1).filter(|&left| left > 0);
     if after.wait == run_down {
         return None;
     }
+    let left = after.wait.expect("a wait ends only by running down");
     Some(format!(
-        "wait {}",
-        after.wait.expect("a wait ends only by running down")
+        "wait {left} {} {}",
+        now.age,
+        u8::from(now.replaced)
     ))
 }

@@ -5,6 +5,7 @@
 
 include!(concat!(env!("OUT_DIR"), "/modem.rs"));
 
+pub mod found;
 pub mod kept;
 pub mod peek;
 

@@ -1,8 +1,11 @@
--- `age_or_take` meets its contract: the held candidate where its diff is below the match's, and else a new one. Assumes nothing.
-use Rattle.search.specs.Search.{heldAfter}
+-- `age_or_take` meets its contract: the held candidate is older where its diff is below the match's, and else a new one is taken. Assumes nothing.
+use Rattle.search.specs.Search.{matched}
 use borrow.Author.Needs.{needs}
 use Rattle.search.proofs.bursts.age_or_take.Statement.{statement}
 use Rattle.search.proofs.bursts.age_or_take.Tie as tie
+
+mark-wait-requires : tie.Need-mark-wait-requires
+mark-wait-requires c κs = search needs
 
 enum-known-candidate : tie.Need-enum-known-candidate
 enum-known-candidate c = search needs
@@ -11,19 +14,19 @@ older-requires : tie.Need-older-requires
 older-requires c κs = search needs
 
 returns : tie.Need-returns
-unfolding heldAfter
+unfolding matched
 returns c = rw (c .before .before .before .before .candidate .given .1, c .before .if1 .taken, c .older .ensures)
 
 enum-told : tie.Need-enum-told
 enum-told c = search needs
 
 returns-2 : tie.Need-returns-2
-unfolding heldAfter
-returns-2 c = rw (c .before .before .before .candidate .given .1, c .if1 .left)
+unfolding matched
+returns-2 c = rw (c .before .before .before .candidate .given .1, c .if1 .left, c .before .before .before .before .before .mark-wait .ensures)
 
 returns-3 : tie.Need-returns-3
-unfolding heldAfter
-returns-3 c = rw (c .enum-told .given .1)
+unfolding matched
+returns-3 c = rw (c .enum-told .given .1, c .before .before .mark-wait .ensures)
 
 pub age-or-take-spec : {M : Type 1} → statement M
-age-or-take-spec = tie.close (tie.spec enum-known-candidate older-requires returns enum-told returns-2 returns-3)
+age-or-take-spec = tie.close (tie.spec mark-wait-requires enum-known-candidate older-requires returns enum-told returns-2 returns-3)

@@ -16,7 +16,7 @@ returns : tie.Need-returns
 unfolding tried
 returns c =
     let tested = c .before .before in
-    λ v e. rw (match-own _ v _ e ∙ sym (tested .is-match .ensures) ∙ c .before .if1 .taken, sym e, c .age-or-take .ensures)
+    λ v e. rw (match-own _ v _ e ∙ sym (tested .is-match .ensures) ∙ c .before .if1 .taken, sym e) (c .age-or-take .ensures)
 
 await-frame-requires : tie.Need-await-frame-requires
 await-frame-requires c κs = search needs

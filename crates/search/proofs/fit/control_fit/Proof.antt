@@ -16,12 +16,19 @@ candidate-fit-requires c κs = search needs
 wait-fit-requires : tie.Need-wait-fit-requires
 wait-fit-requires c κs = search needs
 
+taken-fit-requires : tie.Need-taken-fit-requires
+taken-fit-requires c κs = search needs
+
+kept-fit-requires : tie.Need-kept-fit-requires
+kept-fit-requires c κs = search needs
+
 returns : tie.Need-returns
 unfolding controlFit
 returns c =
-    rw (c .before .before .timer-fit .ensures, c .before .candidate-fit .ensures, c .wait-fit .ensures, c .before .before .before .before .is-held .ensures)
+    let waits = c .before .before in
+    rw (waits .before .before .timer-fit .ensures, waits .before .candidate-fit .ensures, waits .wait-fit .ensures, waits .before .before .before .before .is-held .ensures, c .before .taken-fit .ensures, c .kept-fit .ensures)
 
 pub control-fit-spec : {M : Type 1} → statement M
 control-fit-spec =
     tie.close
-    (tie.spec is-held-requires timer-fit-requires candidate-fit-requires wait-fit-requires returns)
+    (tie.spec is-held-requires timer-fit-requires candidate-fit-requires wait-fit-requires taken-fit-requires kept-fit-requires returns)
