@@ -1,7 +1,7 @@
-// The receiver's record in bytes: 21 numbers; the candidate's diff, gain and shift and the newest filtered value; the ring's 1,920 values; the window's 81 samples. The numbers are both
+// The receiver's record in bytes: 21 numbers; the candidate's diff, gain and shift and the newest filtered value; the ring's 1,920 values; the window's 162 samples, each twice. The numbers are both
 // cursors, the count, the candidate's kind (4 for none), age and taken-at, whether a wait is held, what is left of it, its age and its mark, whether a timer is held and its end, whether a
 // reply is owed; then an answer: the refusal's number or 0, the offered kind or what the carrier query says, the offer's sample, taken-at, age and mark, the carrier after a sample, and how
-// many samples were given, by `feed` how many went in. The numbers end at byte 168, the four floats at 184, the ring at 7,864 and the window at 8,026.
+// many samples were given, by `feed` how many went in. The numbers end at byte 168, the four floats at 184, the ring at 7,864 and the window at 8,188.
 use demodulator::Candidate;
 use demodulator::Control;
 use demodulator::SoftDemodulator;
@@ -96,7 +96,7 @@ fn control_of(n: [u64; 21], four: [f32; 4]) -> Control {
 }
 
 pub(crate) fn record_of(from: &[u8]) -> SoftDemodulator
-    requires { ⌜ 8026 ≤ length (now from) ⌝ }
+    requires { ⌜ 8188 ≤ length (now from) ⌝ }
 {
     let mut n = [0u64; 21];
     wire::numbers(from, &mut n);
@@ -104,7 +104,7 @@ pub(crate) fn record_of(from: &[u8]) -> SoftDemodulator
     wire::floats(&from[168..], &mut four);
     let mut rx_win = [0.0f32; 1920];
     wire::floats(&from[184..], &mut rx_win);
-    let mut filter_win = [0i16; 81];
+    let mut filter_win = [0i16; 162];
     wire::samples(&from[7864..], &mut filter_win);
     SoftDemodulator {
         filter_win,
@@ -257,8 +257,8 @@ fn lay_front(to: &mut [u8], m: SoftDemodulator, told: Words)
     wire::put_floats(&mut to[168..], &four);
 }
 
-fn lay_rings(to: &mut [u8], rx_win: [f32; 1920], filter_win: [i16; 81])
-    requires { ⌜ 8026 ≤ length (now to) ⌝ }
+fn lay_rings(to: &mut [u8], rx_win: [f32; 1920], filter_win: [i16; 162])
+    requires { ⌜ 8188 ≤ length (now to) ⌝ }
     ensures { λ _. ⌜ length (now (to .exit)) ≡ length (now (to .entry)) ⌝ }
 {
     wire::put_floats(&mut to[184..], &rx_win);
@@ -268,7 +268,7 @@ fn lay_rings(to: &mut [u8], rx_win: [f32; 1920], filter_win: [i16; 81])
 pub(crate) fn put_record(m: SoftDemodulator, told: Words) {
     let rx_win = m.rx_win;
     let filter_win = m.filter_win;
-    let mut bytes = [0u8; 8026];
+    let mut bytes = [0u8; 8188];
     lay_front(&mut bytes, m, told);
     lay_rings(&mut bytes, rx_win, filter_win);
     io::write_all(STDOUT_FILENO, &bytes);

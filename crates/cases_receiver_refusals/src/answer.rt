@@ -19,7 +19,10 @@ fn same_found(a: Found, b: Found) -> bool {
     (a.at == b.at) & (a.kept == b.kept) & (a.marked == b.marked)
 }
 
-// Its word; the refusal's number; whether record or room is not as it was; how many samples went in or bytes were taken, with the text that says which; how many of the ring's values are new; how many of the room's first places are written, as many as an offer or a line has, and of those past them; the age of the candidate that is held then, 256 where none is; whether a byte waits; and what an offer reports.
+// Its word; the refusal's number; whether record or room is not as it was; how many samples went in or bytes were taken,
+// with the text that says which; how many of the ring's values are new; how many of the room's first places are written,
+// as many as an offer or a line has, and of those past them; the age of the candidate that is held then, 256 where none is;
+// whether a byte waits; and what an offer reports.
 pub(crate) struct Answer {
     pub word: usize,
     pub number: u32,
@@ -106,11 +109,11 @@ pub(crate) fn put_text(k: usize) {
     io::write_all(1, cases_text::cell(texts, k));
 }
 
-fn put_part(yes: bool, before: usize, n: u64, behind: usize) {
+fn put_part(yes: bool, before: usize, n: u64, after: usize) {
     if yes {
         put_text(before);
         cases_text::put_count(n);
-        put_text(behind);
+        put_text(after);
     }
 }
 

@@ -64,13 +64,24 @@ fn ring(burst: bool, plain: [f32; 1920]) -> [f32; 1920] {
     ring
 }
 
-// Beside the LSF's seven values the middle tap brings the eighth.
-fn window(burst: bool) -> [i16; 81] {
-    let mut window = [0i16; 81];
+// Each sample twice. Beside the LSF's seven values the middle tap brings the eighth.
+fn window(burst: bool) -> [i16; 162] {
+    let mut window = [0i16; 162];
     if burst {
         window[41] = -89;
+        window[122] = -89;
     } else {
         window[7] = 12345;
+        window[88] = 12345;
+    }
+    window
+}
+
+// One sample more in this place, but not in that of its other half; past the window there is none.
+fn unlike(plain: [i16; 162], place: u64) -> [i16; 162] {
+    let mut window = plain;
+    if place < 162 {
+        window[place as usize] = 1;
     }
     window
 }
@@ -138,7 +149,10 @@ pub(crate) fn record(words: &[u8], place: usize) -> SoftDemodulator {
     let burst = cases_text::names(words, b"burst");
     let word = cases_text::names(words, b"word");
     SoftDemodulator {
-        filter_win: window(burst),
+        filter_win: unlike(
+            window(burst),
+            cases_text::count_behind(words, b"unlike", 162),
+        ),
         filter_cursor: cases_text::count_behind(words, b"filter_cursor", 0) as usize,
         rx_win: ring(burst, headed(word, plain_ring(words, place))),
         rx_cursor: cases_text::count_behind(words, b"ring_cursor", 0) as usize,

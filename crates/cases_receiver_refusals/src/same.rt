@@ -19,10 +19,10 @@ pub(crate) fn new_values(a: [f32; 1920], b: [f32; 1920]) -> u64 {
     count
 }
 
-fn same_window(a: [i16; 81], b: [i16; 81]) -> bool {
+fn same_window(a: [i16; 162], b: [i16; 162]) -> bool {
     let mut all = true;
     let mut i: usize = 0;
-    while i < 81 {
+    while i < 162 {
         all = all & (a[i] == b[i]);
         i += 1;
     }

@@ -1,12 +1,12 @@
 -- What a fit record is known to be, clause by clause. Assumes nothing.
-use mathlib.Core.List.{List, []}
-use mathlib.Core.Path.{_≡_, sym, _∙_}
+use mathlib.Core.List.{List, [], _∷_}
+use mathlib.Core.Path.{_≡_, refl, sym, _∙_}
 use mathlib.Core.Bool.{Bool, true, false, not, cond}
 use Prim.Native.Nat.{ℕ, _+_, _-_, _*_, _≤_, _<_}
 use native.Mathlib.Nat.{lt-of-lt-of-le}
 use lib.Dec.{T, ltb, eqb, ltb→lt, lit≤}
 use borrow.Author.Tests.{not-true, not-false}
-use lib.IntN.{ℤ}
+use lib.IntN.{ℤ, pos}
 use lib.Ieee.{Float}
 use lib.Ieee.Bits.{is-true}
 use Rattle.numbers.specs.Below.{allBelow}
@@ -22,11 +22,12 @@ use Rattle.search.specs.Fit.{controlFit}
 use Rattle.search.proofs.Fitness.{both, ControlFacts, control-facts}
 use Rattle.demodulator.specs.declared.SoftDemodulator.{SoftDemodulator}
 use Rattle.demodulator.specs.Record.{back, assembled}
-use Rattle.demodulator.specs.Fit.{cursorsFit, recordFit, placesRead, fitForSample, fitForReply}
+use Rattle.demodulator.specs.Fit.{halvesAgree, cursorsFit, ringsFit, recordFit, placesRead, fitForSample, fitForReply}
 use Rattle.demodulator.specs.Parts.{TestsRecord}
 
 -- ---- the facts
 pub record RecordFacts (p : ℕ) (m : SoftDemodulator) : Type 0 where
+  pub halves : halvesAgree p (m .«filter_win») ≡ true
   pub window-cursor : m .«filter_cursor» < tapCount p
   pub ring-cursor : m .«rx_cursor» < ringPlaces p
   pub control : ControlFacts p (m .control)
@@ -34,24 +35,33 @@ pub record RecordFacts (p : ℕ) (m : SoftDemodulator) : Type 0 where
 pub record-facts : (p : ℕ) (m : SoftDemodulator) → recordFit p m ≡ true → RecordFacts p m
 unfolding recordFit
 record-facts p m e =
-    let all = both (cursorsFit p m) (controlFit p (m .control)) (holds e) in
-    let cursors = both (ltb (m .«filter_cursor») (tapCount p)) (ltb (m .«rx_cursor») (ringPlaces p)) (all .0) in
+    let all = both (ringsFit p m) (controlFit p (m .control)) (holds e) in
+    let rings = both (halvesAgree p (m .«filter_win»)) (cursorsFit p m) (all .0) in
+    let cursors = both (ltb (m .«filter_cursor») (tapCount p)) (ltb (m .«rx_cursor») (ringPlaces p)) (rings .1) in
     record {
+      halves = is-true (halvesAgree p (m .«filter_win»)) (rings .0);
       window-cursor = ltb→lt (m .«filter_cursor») (tapCount p) (cursors .0);
       ring-cursor = ltb→lt (m .«rx_cursor») (ringPlaces p) (cursors .1);
       control = control-facts p (m .control) (all .1);
     }
 
 -- ---- what code knows once it has tested a record by its parts
-module _ (windowCursor ringCursor : ℕ) (c : Control) (r : Bool) (tests : TestsRecord windowCursor ringCursor c r) where
-  pub tested-unfit : not r ≡ true → (window : List ℤ) (ring : List Float) → recordFit 10 (assembled window windowCursor ring ringCursor c) ≡ false
-  tested-unfit e window ring = sym (tests window ring) ∙ not-true r e
+-- either outcome of the halves' test is some window's
+window-for : (b : Bool) → (w : List ℤ) × (b ≡ halvesAgree 10 w)
+unfolding halvesAgree allBelow
+window-for true = ([], refl)
+window-for false = (pos 1 ∷ [], refl)
 
-  pub tested-fit : not r ≡ false → (window : List ℤ) (ring : List Float) → recordFit 10 (assembled window windowCursor ring ringCursor c) ≡ true
-  tested-fit e window ring = sym (tests window ring) ∙ not-false r e
+module _ (halves : Bool) (windowCursor ringCursor : ℕ) (c : Control) (r : Bool) (tests : TestsRecord halves windowCursor ringCursor c r) where
+  module _ (window : List ℤ) (ring : List Float) (same : halves ≡ halvesAgree 10 window) where
+    pub tested-unfit : not r ≡ true → recordFit 10 (assembled window windowCursor ring ringCursor c) ≡ false
+    tested-unfit e = sym (tests window ring same) ∙ not-true r e
+
+    pub tested-fit : not r ≡ false → recordFit 10 (assembled window windowCursor ring ringCursor c) ≡ true
+    tested-fit e = sym (tests window ring same) ∙ not-false r e
 
   pub tested-inside : not r ≡ false → ringCursor < 1920
-  tested-inside e = record-facts 10 (assembled [] windowCursor [] ringCursor c) (tested-fit e [] []) .ring-cursor
+  tested-inside e = let w = window-for halves in record-facts 10 (assembled (w .0) windowCursor [] ringCursor c) (tested-fit (w .0) [] (w .1) e) .ring-cursor
 
 -- ---- the values that a call would read
 either : (b : Bool) → (7 ≤ cond b 191 7) × (cond b 191 7 ≤ 191)

@@ -1,8 +1,12 @@
 -- The laws of the receiver's record and of its calls. Assumes nothing.
 -- the ring's reader, and what a store does to it
 pub mod Readers
+-- the window that keeps each sample twice
+pub mod Halves
 -- what a fit record is known to be
 pub mod Fitness
+-- what a sample leaves of the window's halves
+pub mod HalvesKept
 -- a call by what applies
 pub mod CallCases
 -- what a step leaves

@@ -10,7 +10,7 @@ use lib.ListN.{length, replicate, length-replicate}
 use lib.Ieee.{Float, nan, ofBits, lt, le}
 use Rattle.numbers.specs.Below.{allBelow}
 use Rattle.numbers.specs.Firsts.{firsts}
-use Rattle.shaping.specs.Rate.{at48}
+use Rattle.shaping.specs.Rate.{at48, windowPlaces}
 use Rattle.decode.specs.Correlator.{inRange}
 use Rattle.decode.specs.Parts.{valuesOf}
 use Rattle.search.specs.declared.Turn.the-variants.{Look}
@@ -23,15 +23,16 @@ use Rattle.demodulator.specs.declared.Heard.the-variants.{Quiet}
 use Rattle.demodulator.specs.declared.step.Places.{Places}
 use Rattle.demodulator.specs.Spans.{eight}
 use Rattle.demodulator.specs.Record.{freshControl, fresh, assembled, back, stored}
-use Rattle.demodulator.specs.Fit.{recordFit, fitForSample}
+use Rattle.demodulator.specs.Fit.{halvesAgree, recordFit, fitForSample}
 use Rattle.demodulator.specs.Calls.{demod-says}
 use Rattle.demodulator.specs.Parts.{Stores}
 use Rattle.demodulator.specs.Steps.{Accepts}
+use Rattle.demodulator.proofs.HalvesKept.{KeepsHalves, step-kept}
 use Rattle.demodulator.proofs.StepTurn.{accepts-inside, seen, looks}
 
 -- ---- a fresh record, a room and a sample
 pub fresh-for-sample : fitForSample 10 fresh ≡ true
-unfolding fresh fitForSample recordFit controlFit candidateFit waitFit allBelow inRange ofBits le lt
+unfolding fresh fitForSample recordFit halvesAgree controlFit candidateFit waitFit allBelow inRange ofBits le lt
 fresh-for-sample = refl
 
 abbrev pub room : List Float
@@ -79,3 +80,11 @@ looks-meets :
     room
 unfolding fresh
 looks-meets = looks (fresh .«filter_win») (after .«filter_win») (fresh .«rx_win») (after .«rx_win») start freshControl (pos 1) fresh-stores room fresh-accepts (Look (counted freshControl)) fresh-turns (counted freshControl) refl values values-held (searched 10 (valuesOf values) (counted freshControl)) refl
+
+-- ---- the halves
+fresh-long : windowPlaces 10 ≤ length (fresh .«filter_win»)
+unfolding fresh
+fresh-long = omega (arith, length-replicate 162 (pos 0))
+
+step-kept-meets : KeepsHalves fresh (assembled (after .«filter_win») 1 (after .«rx_win») 1 (searched 10 (valuesOf values) (counted freshControl)))
+step-kept-meets = step-kept fresh fresh-long (pos 1) room Quiet _ room looks-meets

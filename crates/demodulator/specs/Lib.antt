@@ -1,4 +1,4 @@
--- The receiver's rules for one call: how the rings are read, what makes a record fit, and what each call answers and leaves.
+-- The receiver's rules for one call: how window and ring are read, what makes a record fit, and what each call answers and leaves.
 pub mod Spans
 pub mod Record
 pub mod Fit

@@ -1,4 +1,4 @@
-// Many samples in one call: the rings are copied once for the stretch, and lent to each of its steps.
+// Many samples in one call: window and ring are copied, and the window's halves compared, once for the stretch.
 use crate::AfterStretch;
 use crate::Heard;
 use crate::SoftDemodulator;
@@ -48,7 +48,13 @@ fn feed_nothing(demodulator: SoftDemodulator) -> AfterStretch
     ensures { λ r. ⌜ FeedsNothing demodulator r ⌝ }
 {
     let control = demodulator.control;
-    if !fit::record_fit(demodulator.filter_cursor, demodulator.rx_cursor, control) {
+    let halves = fit::halves_agree(&demodulator.filter_win);
+    if !fit::record_fit(
+        halves,
+        demodulator.filter_cursor,
+        demodulator.rx_cursor,
+        control,
+    ) {
         return AfterStretch {
             answer: Heard::Refused(Refusal::RecordUnfit),
             fed: 0,
@@ -63,7 +69,7 @@ fn feed_nothing(demodulator: SoftDemodulator) -> AfterStretch
 }
 
 fn rebuild(
-    filter_win: [i16; 81],
+    filter_win: [i16; 162],
     rx_win: [f32; 1920],
     places: Places,
     control: Control,
@@ -88,6 +94,7 @@ impl SoftDemodulator {
         if samples.len() == 0 {
             return feed_nothing(self);
         }
+        let halves = fit::halves_agree(&self.filter_win);
         let mut filter_win = self.filter_win;
         let mut rx_win = self.rx_win;
         let mut control = self.control;
@@ -98,7 +105,15 @@ impl SoftDemodulator {
         let mut fed: usize = 0;
         while fed < samples.len() {
             let sample = samples[fed];
-            let stepped = step::step(&mut filter_win, &mut rx_win, places, control, sample, room);
+            let stepped = step::step(
+                &mut filter_win,
+                &mut rx_win,
+                places,
+                control,
+                halves,
+                sample,
+                room,
+            );
             places = stepped.places;
             control = stepped.control;
             let answer = stepped.answer;

@@ -3,14 +3,33 @@ use crate::ring;
 use search::Control;
 use search::Wait;
 ghost use mathlib.Core.Path.{_≡_};
-ghost use Rattle.demodulator.specs.Fit.{placesRead};
+ghost use Rattle.demodulator.specs.Fit.{halvesAgree, placesRead};
 ghost use Rattle.demodulator.specs.Parts.{TestsRecord, TestsForSample, TestsForReply};
 
-// All but the filtered values.
-pub(crate) fn record_fit(filter_cursor: usize, rx_cursor: usize, control: Control) -> bool
-    ensures { λ r. ⌜ TestsRecord «filter_cursor» «rx_cursor» control r ⌝ }
+// Whether the window's two halves are the same. All 81 pairs are compared, whatever the first ones are: so several are compared at a time.
+pub(crate) fn halves_agree(filter_win: &[i16; 162]) -> bool
+    ensures { λ r. ⌜ r ≡ halvesAgree 10 (now («filter_win» .entry)) ⌝ }
 {
-    (filter_cursor < 81) & (rx_cursor < 1920) & search::control_fit(control)
+    let mut all = true;
+    let mut i: usize = 0;
+    while i < 81 {
+        let again = i + 81;
+        all = all & (filter_win[i] == filter_win[again]);
+        i += 1;
+    }
+    all
+}
+
+// All but the filtered values.
+pub(crate) fn record_fit(
+    halves: bool,
+    filter_cursor: usize,
+    rx_cursor: usize,
+    control: Control,
+) -> bool
+    ensures { λ r. ⌜ TestsRecord halves «filter_cursor» «rx_cursor» control r ⌝ }
+{
+    halves & ((filter_cursor < 81) & (rx_cursor < 1920)) & search::control_fit(control)
 }
 
 // How many filtered values a sample could read besides its own: those of a search, or of a window that is due.
@@ -24,14 +43,15 @@ fn places_read(wait: Wait) -> usize
 }
 
 pub(crate) fn fit_for_sample(
+    halves: bool,
     rx_win: &[f32; 1920],
     filter_cursor: usize,
     rx_cursor: usize,
     control: Control,
 ) -> bool
-    ensures { λ r. ⌜ TestsForSample (now («rx_win» .entry)) «filter_cursor» «rx_cursor» control r ⌝ }
+    ensures { λ r. ⌜ TestsForSample halves (now («rx_win» .entry)) «filter_cursor» «rx_cursor» control r ⌝ }
 {
-    if !record_fit(filter_cursor, rx_cursor, control) {
+    if !record_fit(halves, filter_cursor, rx_cursor, control) {
         return false;
     }
     let wait = control.wait;
@@ -40,14 +60,15 @@ pub(crate) fn fit_for_sample(
 }
 
 pub(crate) fn fit_for_reply(
+    halves: bool,
     rx_win: &[f32; 1920],
     filter_cursor: usize,
     rx_cursor: usize,
     control: Control,
 ) -> bool
-    ensures { λ r. ⌜ TestsForReply (now («rx_win» .entry)) «filter_cursor» «rx_cursor» control r ⌝ }
+    ensures { λ r. ⌜ TestsForReply halves (now («rx_win» .entry)) «filter_cursor» «rx_cursor» control r ⌝ }
 {
-    if !record_fit(filter_cursor, rx_cursor, control) {
+    if !record_fit(halves, filter_cursor, rx_cursor, control) {
         return false;
     }
     ring::places_in_range(rx_win, rx_cursor, 0, 8)

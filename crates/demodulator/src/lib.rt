@@ -17,7 +17,7 @@ pub use search::Wait;
 pub use search::Waiting;
 
 pub struct SoftDemodulator {
-    pub filter_win: [i16; 81],
+    pub filter_win: [i16; 162],
     pub filter_cursor: usize,
     pub rx_win: [f32; 1920],
     pub rx_cursor: usize,
@@ -77,7 +77,7 @@ impl SoftDemodulator {
         ensures { λ r. ⌜ new-says r ⌝ }
     {
         SoftDemodulator {
-            filter_win: [0i16; 81],
+            filter_win: [0i16; 162],
             filter_cursor: 0,
             rx_win: [0.0f32; 1920],
             rx_cursor: 0,
@@ -91,10 +91,11 @@ impl SoftDemodulator {
         }
     }
 
-    // A sample: refused, quiet, or a frame offered, whose symbols are then the room's first 192. The rings are copied, lent to the step, and built into the record again.
+    // A sample: refused, quiet, or a frame offered, whose symbols are then the room's first 192. Window and ring are copied, lent to the step, and built into the record again.
     pub fn demod(self, sample: i16, room: &mut [f32]) -> AfterSample
         ensures { λ r. ⌜ demod-says self sample (now (room .entry)) r (now (room .exit)) ⌝ }
     {
+        let halves = fit::halves_agree(&self.filter_win);
         let mut filter_win = self.filter_win;
         let mut rx_win = self.rx_win;
         let control = self.control;
@@ -102,7 +103,15 @@ impl SoftDemodulator {
             filter_cursor: self.filter_cursor,
             rx_cursor: self.rx_cursor,
         };
-        let stepped = step::step(&mut filter_win, &mut rx_win, places, control, sample, room);
+        let stepped = step::step(
+            &mut filter_win,
+            &mut rx_win,
+            places,
+            control,
+            halves,
+            sample,
+            room,
+        );
         let next = stepped.places;
         let control = stepped.control;
         let answer = stepped.answer;
@@ -123,7 +132,14 @@ impl SoftDemodulator {
         ensures { λ r. ⌜ reply-says self reply r ⌝ }
     {
         let control = self.control;
-        if !fit::fit_for_reply(&self.rx_win, self.filter_cursor, self.rx_cursor, control) {
+        let halves = fit::halves_agree(&self.filter_win);
+        if !fit::fit_for_reply(
+            halves,
+            &self.rx_win,
+            self.filter_cursor,
+            self.rx_cursor,
+            control,
+        ) {
             return AfterReply {
                 answer: Replied::Refused(Refusal::RecordUnfit),
                 demodulator: self,
@@ -150,7 +166,8 @@ impl SoftDemodulator {
         ensures { λ r. ⌜ data-carrier-detect-says self r ⌝ }
     {
         let control = self.control;
-        if !fit::record_fit(self.filter_cursor, self.rx_cursor, control) {
+        let halves = fit::halves_agree(&self.filter_win);
+        if !fit::record_fit(halves, self.filter_cursor, self.rx_cursor, control) {
             return Carrier::Refused(Refusal::RecordUnfit);
         }
         let timer = control.dcd;

@@ -1,4 +1,4 @@
-// The receiver's two rings: the window of the filter, and the filtered values.
+// The filter's window, and the ring of filtered values.
 use search::Shown;
 ghost use mathlib.Core.Path.{_≡_};
 ghost use Prim.Native.Nat.{_*_, _+_, _%_, _<_, _≤_};
@@ -75,9 +75,9 @@ pub(crate) fn write_window(ring: &[f32; 1920], cursor: usize, shown: Shown, room
     }
 }
 
-// The sample goes into the window, and the window's tap sum into the ring.
+// The sample goes into the window, twice, and the tap sum of the last 81, which lie side by side, into the ring.
 pub(crate) fn store(
-    filter_win: &mut [i16; 81],
+    filter_win: &mut [i16; 162],
     filter_cursor: usize,
     rx_win: &mut [f32; 1920],
     rx_cursor: usize,
@@ -87,7 +87,9 @@ pub(crate) fn store(
     ensures { λ _. ⌜ Stores (now («filter_win» .entry)) «filter_cursor» (now («rx_win» .entry)) «rx_cursor» sample (now («filter_win» .exit)) (now («rx_win» .exit)) ⌝ }
 {
     filter_win[filter_cursor] = sample;
-    let oldest = (filter_cursor + 1) % 81;
+    let again = filter_cursor + 81;
+    filter_win[again] = sample;
+    let oldest = filter_cursor + 1;
     let filtered = shaping::filter_samples(&*filter_win, oldest);
     rx_win[rx_cursor] = filtered;
 }

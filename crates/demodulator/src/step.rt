@@ -1,4 +1,4 @@
-// One sample, over rings that the caller lends: nothing large is copied.
+// One sample, over a window and a ring that the caller lends: nothing large is copied.
 use crate::Heard;
 use crate::Offer;
 use crate::fit;
@@ -8,9 +8,10 @@ use search::Control;
 use search::LAST_COUNT;
 use search::Turn;
 ghost use mathlib.Core.Path.{_≡_};
+ghost use Rattle.demodulator.specs.Fit.{halvesAgree};
 ghost use Rattle.demodulator.specs.Steps.{Accepts, Steps, unmoved};
 
-// Where the two rings are written next.
+// Where the window and the ring are written next.
 pub(crate) struct Places {
     pub filter_cursor: usize,
     pub rx_cursor: usize,
@@ -25,7 +26,7 @@ pub(crate) struct Stepped {
 
 // The sample is taken: nothing refuses it.
 fn advance(
-    filter_win: &mut [i16; 81],
+    filter_win: &mut [i16; 162],
     rx_win: &mut [f32; 1920],
     places: Places,
     control: Control,
@@ -92,18 +93,26 @@ fn refused(why: Refusal, places: Places, control: Control) -> Stepped
     }
 }
 
-// All that can refuse a sample is tested before anything is written.
+// All that can refuse a sample is tested before anything is written; whether the window's halves agree is the caller's to test, once for all its samples.
 pub(crate) fn step(
-    filter_win: &mut [i16; 81],
+    filter_win: &mut [i16; 162],
     rx_win: &mut [f32; 1920],
     places: Places,
     control: Control,
+    halves: bool,
     sample: i16,
     room: &mut [f32],
 ) -> Stepped
+    requires { ⌜ halves ≡ halvesAgree 10 (now «filter_win») ⌝ }
     ensures { λ r. ⌜ Steps (now («filter_win» .entry)) (now («rx_win» .entry)) places control sample (now (room .entry)) r (now («filter_win» .exit)) (now («rx_win» .exit)) (now (room .exit)) ⌝ }
 {
-    if !fit::fit_for_sample(&*rx_win, places.filter_cursor, places.rx_cursor, control) {
+    if !fit::fit_for_sample(
+        halves,
+        &*rx_win,
+        places.filter_cursor,
+        places.rx_cursor,
+        control,
+    ) {
         return refused(Refusal::RecordUnfit, places, control);
     }
     if control.owed {

@@ -25,7 +25,7 @@ use Rattle.search.proofs.TurnFits.{counted-fit, freed-fit}
 use Rattle.demodulator.specs.declared.SoftDemodulator.{SoftDemodulator}
 use Rattle.demodulator.specs.Spans.{eight}
 use Rattle.demodulator.specs.Record.{freshControl, fresh, assembled, withControl, back, stored}
-use Rattle.demodulator.specs.Fit.{recordFit, fitForSample, fitForReply}
+use Rattle.demodulator.specs.Fit.{halvesAgree, recordFit, fitForSample, fitForReply}
 use Rattle.demodulator.specs.Calls.{nothing, done, refusal, carrier, refused, Left, demodulated, replyLeaves, answered, detected}
 use Rattle.demodulator.specs.Steps.{unmoved, Steps}
 use Rattle.demodulator.proofs.StepInstances.{fresh-for-sample, room, room-enough}
@@ -99,7 +99,7 @@ past : SoftDemodulator
 past = assembled [] 81 [] 0 freshControl
 
 past-unfit : fitForSample 10 past ≡ false
-unfolding past fitForSample recordFit
+unfolding past fitForSample recordFit halvesAgree allBelow
 past-unfit = refl
 
 sample-unfit-meets : demodulated at48 past (pos 1) [] ≡ refused 1 past []
@@ -109,11 +109,11 @@ abbrev pub debtor : SoftDemodulator
 debtor = withControl owed fresh
 
 debtor-for-sample : fitForSample 10 debtor ≡ true
-unfolding fresh fitForSample recordFit controlFit candidateFit waitFit allBelow inRange ofBits le lt
+unfolding fresh fitForSample recordFit halvesAgree controlFit candidateFit waitFit allBelow inRange ofBits le lt
 debtor-for-sample = refl
 
 debtor-for-reply : fitForReply 10 debtor ≡ true
-unfolding fresh fitForReply recordFit controlFit candidateFit waitFit allBelow inRange ofBits le lt
+unfolding fresh fitForReply recordFit halvesAgree controlFit candidateFit waitFit allBelow inRange ofBits le lt
 debtor-for-reply = refl
 
 -- 2 before 4
@@ -131,7 +131,7 @@ abbrev last : SoftDemodulator
 last = withControl (record { candidate = Nothing; wait = Free; dcd = Off; owed = false; sample = 2 ^ 63 }) fresh
 
 last-for-sample : fitForSample 10 last ≡ true
-unfolding fresh fitForSample recordFit controlFit candidateFit waitFit allBelow inRange ofBits le lt
+unfolding fresh fitForSample recordFit halvesAgree controlFit candidateFit waitFit allBelow inRange ofBits le lt
 last-for-sample = refl
 
 sample-last-meets : demodulated at48 last (pos 1) room ≡ refused 5 last room
@@ -154,7 +154,7 @@ refuses-meets = refuses [] [] [] (record { «filter_cursor» = 81; «rx_cursor»
 
 -- ---- a reply, and the carrier
 past-for-reply : fitForReply 10 past ≡ false
-unfolding past fitForReply recordFit
+unfolding past fitForReply recordFit halvesAgree allBelow
 past-for-reply = refl
 
 reply-unfit-meets : answered 10 past Accepted [] ≡ refused 1 past []
@@ -167,10 +167,10 @@ pub reply-taken-meets : answered 10 debtor Rejected [] ≡ record { answer = don
 reply-taken-meets = reply-taken debtor Rejected [] debtor-for-reply refl
 
 carrier-unfit-meets : detected 10 past ≡ refusal (bare 1)
-unfolding past recordFit
+unfolding past recordFit halvesAgree allBelow
 carrier-unfit-meets = carrier-unfit past refl
 
 -- a query is answered while a reply is owed
 carrier-told-meets : detected 10 debtor ≡ carrier false
-unfolding fresh recordFit controlFit candidateFit waitFit
+unfolding fresh recordFit halvesAgree controlFit candidateFit waitFit allBelow
 carrier-told-meets = carrier-told debtor refl

@@ -20,7 +20,7 @@ use Rattle.search.specs.Fit.{candidateFit, waitFit, controlFit}
 use Rattle.demodulator.specs.declared.SoftDemodulator.{SoftDemodulator}
 use Rattle.demodulator.specs.Spans.{eight}
 use Rattle.demodulator.specs.Record.{fresh, withControl, back, stored}
-use Rattle.demodulator.specs.Fit.{recordFit, fitForSample}
+use Rattle.demodulator.specs.Fit.{halvesAgree, recordFit, fitForSample}
 use Rattle.demodulator.specs.Calls.{refusal, nothing, demodulated}
 use Rattle.demodulator.specs.Feed.{Stretch, sampleSaid, sampleNext, sampleRoom, fedInto}
 use Rattle.demodulator.proofs.StepInstances.{room, room-enough}
@@ -43,7 +43,7 @@ abbrev last : SoftDemodulator
 last = withControl (waiting 2 (2 ^ 63)) fresh
 
 last-fit : fitForSample 10 last ≡ true
-unfolding fresh fitForSample recordFit controlFit candidateFit waitFit allBelow inRange ofBits le lt
+unfolding fresh fitForSample recordFit halvesAgree controlFit candidateFit waitFit allBelow inRange ofBits le lt
 last-fit = refl
 
 last-refused : fedInto at48 last two room .answer ≡ refusal (bare 5)
@@ -57,14 +57,14 @@ abbrev before : SoftDemodulator
 before = withControl (waiting 3 (2 ^ 63 - 1)) fresh
 
 before-fit : fitForSample 10 before ≡ true
-unfolding fresh fitForSample recordFit controlFit candidateFit waitFit allBelow inRange ofBits le lt
+unfolding fresh fitForSample recordFit halvesAgree controlFit candidateFit waitFit allBelow inRange ofBits le lt
 before-fit = refl
 
 abbrev after : SoftDemodulator
 after = withControl (waiting 2 (2 ^ 63)) (stored at48 before (pos 1))
 
 after-fit : fitForSample 10 after ≡ true
-unfolding fresh stored fitForSample recordFit controlFit candidateFit waitFit allBelow inRange ofBits le lt
+unfolding fresh stored fitForSample recordFit halvesAgree controlFit candidateFit waitFit allBelow inRange ofBits le lt
 after-fit = refl
 
 taken : demodulated at48 before (pos 1) room ≡ record { answer = nothing; demodulator = after; room = room }

@@ -30,9 +30,10 @@ use Rattle.search.specs.Fit.{held, controlFit}
 use Rattle.demodulator.specs.declared.SoftDemodulator.{SoftDemodulator}
 use Rattle.demodulator.specs.Spans.{eight}
 use Rattle.demodulator.specs.Record.{back, withControl, filteredAfter, stored}
-use Rattle.demodulator.specs.Fit.{cursorsFit, recordFit, placesRead, fitForSample, fitForReply}
+use Rattle.demodulator.specs.Fit.{halvesAgree, cursorsFit, ringsFit, recordFit, placesRead, fitForSample, fitForReply}
 use Rattle.demodulator.specs.Calls.{Paper, refusal, Left, refused, finished, demodulated, replyLeaves, answered}
-use Rattle.demodulator.proofs.Fitness.{record-facts, sample-record, reply-record}
+use Rattle.demodulator.proofs.Fitness.{RecordFacts, record-facts, sample-record, reply-record}
+use Rattle.demodulator.proofs.Halves.{stored-halves}
 use Rattle.demodulator.proofs.CallCases.{sample-unfit, sample-owed, sample-cramped, sample-last, sample-taken, reply-unfit, reply-unasked, reply-taken}
 use Rattle.demodulator_laws.proofs.Grown.{withAge}
 use Rattle.demodulator_laws.proofs.SearchFits.{countedFirst}
@@ -40,7 +41,7 @@ use Rattle.demodulator_laws.proofs.SampleFits.{either, controlOf, sampl
 use Rattle.demodulator_laws.proofs.StoredFits.{Rings, set-holds, new-in-range, stored-rings, stored-eight}
 
 -- ---- the statement's words
--- all of the ring's values are in range; the window's samples are of 16 bits and the ring has 1,920 places, as their types have it
+-- all of the ring's values are in range; the window's samples are of 16 bits, and it has 162 places and the ring 1,920, as their types have it
 pub record InRange (m : SoftDemodulator) : Type 0 where
   pub rings : Rings 10 (m .«filter_win») (m .«rx_win»)
   pub values : (i : ℕ) → i < 1920 → T (inRange (getD (m .«rx_win») i nan))
@@ -78,10 +79,10 @@ module _ (m : SoftDemodulator) (in-range : InRange m) where
   pub back-in-range : (j : ℕ) → T (inRange (back 10 m j))
   back-in-range j = in-range .values ((m .«rx_cursor» + (1919 - j)) % 1920) (placed (m .«rx_cursor») j)
 
-  fits-by-control : T (cursorsFit 10 m) → T (controlFit 10 (m .control)) → Fits m
+  fits-by-control : T (ringsFit 10 m) → T (controlFit 10 (m .control)) → Fits m
   unfolding fitForSample fitForReply recordFit
-  fits-by-control cursors control =
-      let fit = and-i (cursorsFit 10 m) (controlFit 10 (m .control)) cursors control in
+  fits-by-control fit-rings control =
+      let fit = and-i (ringsFit 10 m) (controlFit 10 (m .control)) fit-rings control in
       let n = placesRead (m .control .wait) in
       record {
         for-sample = is-true (fitForSample 10 m) (and-i (recordFit 10 m) (allBelow n (λ (j : ℕ). inRange (back 10 m (10 * j + 9)))) fit (below-all n (λ (j : ℕ). inRange (back 10 m (10 * j + 9))) (λ j l. back-in-range (10 * j + 9))));
@@ -146,8 +147,12 @@ module _ (m : SoftDemodulator) (x : ℤ) (fits : SFits w16 x) (in-range : InRang
       let r = (m .«rx_cursor» + 1) % 1920 in
       and-i (ltb w 81) (ltb r 1920) (lt→ltb w 81 (mod-lt (m .«filter_cursor» + 1) (lit≤ tt))) (lt→ltb r 1920 (mod-lt (m .«rx_cursor» + 1) (lit≤ tt)))
 
-  stored-fits : (c : Control) → T (controlFit 10 c) → Fits (withControl c (stored at48 m x))
-  stored-fits c = fits-by-control (withControl c (stored at48 m x)) (stored-in-range c) (stored-cursors c)
+  stored-fits : fitForSample 10 m ≡ true → (c : Control) → T (controlFit 10 c) → Fits (withControl c (stored at48 m x))
+  stored-fits fit c =
+      let facts : RecordFacts 10 m = record-facts 10 m (sample-record 10 m fit) in
+      let agree = holds (stored-halves at48 m x (facts .window-cursor) (in-range .rings .window-places) (facts .halves)) in
+      let after : SoftDemodulator = withControl c (stored at48 m x) in
+      fits-by-control after (stored-in-range c) (and-i (halvesAgree 10 (after .«filter_win»)) (cursorsFit 10 after) agree (stored-cursors c))
 
   module _ (room : List Float) (accepted : Accepted (demodulated at48 m x room .answer)) where
     abbrev comesTo : Outcome
@@ -164,13 +169,13 @@ module _ (m : SoftDemodulator) (x : ℤ) (fits : SFits w16 x) (in-range : InRang
         let g = given m x room accepted in
         let rings = in-range .rings in
         let range = stored-eight m x rings fits (g .fit) in
-        let control = and-r (cursorsFit 10 m) (controlFit 10 (m .control)) (holds (sample-record 10 m (g .fit))) in
+        let control = and-r (ringsFit 10 m) (controlFit 10 (m .control)) (holds (sample-record 10 m (g .fit))) in
         let c = controlOf comesTo in
         rw leaves (
           stored-in-range c,
           elim (sampled-fits 10 (lit≤ tt) (eight 10 (back 10 (stored at48 m x))) range (m .control) control (g .count) (g .free)) [
-            | inl t ↦ inl (stored-fits c t)
-            | inr o ↦ inr (record { was = o .was; old = record { is = o .is; else-fit = stored-fits (withCandidate (withAge 254 (c .candidate)) c) (o .else-fit) } })
+            | inl t ↦ inl (stored-fits (g .fit) c t)
+            | inr o ↦ inr (record { was = o .was; old = record { is = o .is; else-fit = stored-fits (g .fit) (withCandidate (withAge 254 (c .candidate)) c) (o .else-fit) } })
           ],
         )
 
@@ -192,17 +197,17 @@ module _ (m : SoftDemodulator) (reply : Reply) (room : List Float) (in-range : I
       let fit = reply-given .0 in
       let owed = reply-given .1 in
       let both = holds (reply-record 10 m fit) in
-      let control = and-r (cursorsFit 10 m) (controlFit 10 (m .control)) both in
+      let control = and-r (ringsFit 10 m) (controlFit 10 (m .control)) both in
       let none = record-facts 10 m (reply-record 10 m fit) .control .reply owed in
       let range : (i : ℕ) → i < 8 → T (inRange (eight 10 (back 10 m) i)) = λ i l. back-in-range m in-range (10 * (7 - i)) in
       let after : SoftDemodulator = replyLeaves 10 m reply in
       let kept : InRange after = record { rings = in-range .rings; values = in-range .values } in
-      let cursors = and-l (cursorsFit 10 m) (controlFit 10 (m .control)) both in
+      let rings = and-l (ringsFit 10 m) (controlFit 10 (m .control)) both in
       let first : SoftDemodulator = withControl (countedFirst (after .control)) after in
       rw (reply-taken m reply room fit owed) (
         kept,
         elim (replied-either 10 (lit≤ tt) (eight 10 (back 10 m)) range (m .control) control none reply) [
-          | inl t ↦ inl (fits-by-control after kept cursors t)
-          | inr o ↦ inr (record { was = o .was; holds = o .holds; else-fit = fits-by-control first (record { rings = in-range .rings; values = in-range .values }) cursors (o .else-fit) })
+          | inl t ↦ inl (fits-by-control after kept rings t)
+          | inr o ↦ inr (record { was = o .was; holds = o .holds; else-fit = fits-by-control first (record { rings = in-range .rings; values = in-range .values }) rings (o .else-fit) })
         ],
       )

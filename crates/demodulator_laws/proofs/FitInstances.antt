@@ -22,7 +22,7 @@ use Rattle.search.specs.declared.Reply.the-variants.{Rejected}
 use Rattle.search.specs.Fit.{candidateFit, waitFit, controlFit}
 use Rattle.demodulator.specs.declared.SoftDemodulator.{SoftDemodulator}
 use Rattle.demodulator.specs.Record.{fresh, back, windowAfter, filteredAfter, stored, withControl}
-use Rattle.demodulator.specs.Fit.{recordFit, fitForSample, fitForReply}
+use Rattle.demodulator.specs.Fit.{halvesAgree, recordFit, fitForSample, fitForReply}
 use Rattle.demodulator.specs.Calls.{nothing, done, refusal, Left, demodulated, answered}
 use Rattle.demodulator.specs.Feed.{fedInto}
 use Rattle.demodulator.proofs.StepInstances.{fresh-for-sample, room}
@@ -44,10 +44,10 @@ same-all (suc n) (suc i) x = same-all n i x
 
 pub fresh-rings : Rings 10 (fresh .«filter_win») (fresh .«rx_win»)
 unfolding fresh
-fresh-rings = record { samples = λ i. rw (same-all 81 i (pos 0)) (record { sfits = lit< tt }); places = omega (arith, length-replicate 1920 (ofBits binary32 0)) }
+fresh-rings = record { samples = λ i. rw (same-all 162 i (pos 0)) (record { sfits = lit< tt }); window-places = omega (arith, length-replicate 162 (pos 0)); places = omega (arith, length-replicate 1920 (ofBits binary32 0)) }
 
-window-fits-meets : SFits w16 (getD (windowAfter fresh (pos 1)) 80 (pos 0))
-window-fits-meets = window-fits at48 facts48 fresh (pos 1) fresh-rings one-fits 80
+window-fits-meets : SFits w16 (getD (windowAfter 10 fresh (pos 1)) 81 (pos 0))
+window-fits-meets = window-fits at48 facts48 fresh (pos 1) fresh-rings one-fits 81
 
 new-in-range-meets : T (inRange (filteredAfter at48 fresh (pos 1)))
 new-in-range-meets = new-in-range at48 facts48 fresh (pos 1) fresh-rings one-fits
@@ -103,7 +103,7 @@ abbrev old : SoftDemodulator
 old = withControl (record { candidate = heldAt Bert 255; wait = Free; dcd = Off; owed = false; sample = 1 }) fresh
 
 old-is : Old old
-unfolding fresh fitForSample fitForReply recordFit controlFit candidateFit waitFit allBelow inRange ofBits le lt
+unfolding fresh fitForSample fitForReply recordFit halvesAgree controlFit candidateFit waitFit allBelow inRange ofBits le lt
 old-is = record { is = refl; else-fit = record { for-sample = refl; for-reply = refl } }
 
 feed-old-meets : Usable (fedInto at48 old (pos 1 ∷ []) room .state)

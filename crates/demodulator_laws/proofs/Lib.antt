@@ -24,5 +24,6 @@ pub mod SearchInstances
 pub mod CallInstances
 pub mod FitInstances
 pub mod FeedInstances
+pub mod HalvesInstances
 -- each limit of a record, met and passed by one
 pub mod Limits

@@ -18,7 +18,7 @@ use Rattle.search.specs.TakenBurst.{heldAs}
 use Rattle.search.specs.Fit.{candidateFit, waitFit, controlFit}
 use Rattle.demodulator.specs.declared.SoftDemodulator.{SoftDemodulator}
 use Rattle.demodulator.specs.Record.{fresh, assembled}
-use Rattle.demodulator.specs.Fit.{recordFit, fitForSample, fitForReply}
+use Rattle.demodulator.specs.Fit.{halvesAgree, recordFit, fitForSample, fitForReply}
 use Rattle.demodulator_laws.proofs.Grown.{takenAs}
 use Rattle.demodulator_laws.proofs.ExampleBurst.{burstAt, waitOf}
 
@@ -183,15 +183,15 @@ abbrev placed : ℕ → ℕ → Bool → Type 0
 placed windowCursor ringCursor answer = recordFit 10 (assembled (fresh .«filter_win») windowCursor (fresh .«rx_win») ringCursor (fresh .control)) ≡ answer
 
 cursors-last : placed 80 1919 true
-unfolding fresh recordFit controlFit candidateFit waitFit
+unfolding fresh recordFit halvesAgree controlFit candidateFit waitFit allBelow
 cursors-last = refl
 
 window-past : placed 81 1919 false
-unfolding recordFit
+unfolding fresh recordFit halvesAgree allBelow
 window-past = refl
 
 ring-past : placed 80 1920 false
-unfolding recordFit
+unfolding fresh recordFit halvesAgree allBelow
 ring-past = refl
 
 -- ---- the filtered values, at a cursor of 0
@@ -203,43 +203,43 @@ with-value c place value = assembled (fresh .«filter_win») 0 (set (fresh .«rx
 
 -- "a filtered value not within ±1,000,000 in one of the seven ring places this sample's search would read besides the new value": 1910, 1900, .. 1850
 sample-value-last : fitForSample 10 (with-value (fresh .control) 1850 million) ≡ true
-unfolding fresh fitForSample recordFit controlFit candidateFit waitFit allBelow inRange ofBits le lt
+unfolding fresh fitForSample recordFit halvesAgree controlFit candidateFit waitFit allBelow inRange ofBits le lt
 sample-value-last = refl
 
 sample-value-past : fitForSample 10 (with-value (fresh .control) 1850 pastMillion) ≡ false
-unfolding fresh fitForSample recordFit controlFit candidateFit waitFit allBelow inRange ofBits le lt
+unfolding fresh fitForSample recordFit halvesAgree controlFit candidateFit waitFit allBelow inRange ofBits le lt
 sample-value-past = refl
 
 sample-value-below : fitForSample 10 (with-value (fresh .control) 1910 (ofBits binary32 0xc974_2401)) ≡ false
-unfolding fresh fitForSample recordFit controlFit candidateFit waitFit allBelow inRange ofBits le lt
+unfolding fresh fitForSample recordFit halvesAgree controlFit candidateFit waitFit allBelow inRange ofBits le lt
 sample-value-below = refl
 
 sample-value-untested : fitForSample 10 (with-value (fresh .control) 1840 nan) ≡ true
-unfolding fresh fitForSample recordFit controlFit candidateFit waitFit allBelow inRange ofBits le lt
+unfolding fresh fitForSample recordFit halvesAgree controlFit candidateFit waitFit allBelow inRange ofBits le lt
 sample-value-untested = refl
 
 -- "or, where the wait is 1, in one of the other places the window reads": down to 10
 window-value-last : fitForSample 10 (with-value (waiting 1) 10 million) ≡ true
-unfolding fresh fitForSample recordFit controlFit candidateFit waitFit allBelow inRange ofBits le lt
+unfolding fresh fitForSample recordFit halvesAgree controlFit candidateFit waitFit allBelow inRange ofBits le lt
 window-value-last = refl
 
 window-value-past : fitForSample 10 (with-value (waiting 1) 10 pastMillion) ≡ false
-unfolding fresh fitForSample recordFit controlFit candidateFit waitFit allBelow inRange ofBits le lt
+unfolding fresh fitForSample recordFit halvesAgree controlFit candidateFit waitFit allBelow inRange ofBits le lt
 window-value-past = refl
 
 window-value-untested : fitForSample 10 (with-value (waiting 2) 10 nan) ≡ true
-unfolding fresh fitForSample recordFit controlFit candidateFit waitFit allBelow inRange ofBits le lt
+unfolding fresh fitForSample recordFit halvesAgree controlFit candidateFit waitFit allBelow inRange ofBits le lt
 window-value-untested = refl
 
 -- "on a reply: in one of the eight places": 1919, 1909, .. 1849
 reply-value-last : fitForReply 10 (with-value (fresh .control) 1849 million) ≡ true
-unfolding fresh fitForReply recordFit controlFit candidateFit waitFit allBelow inRange ofBits le lt
+unfolding fresh fitForReply recordFit halvesAgree controlFit candidateFit waitFit allBelow inRange ofBits le lt
 reply-value-last = refl
 
 reply-value-past : fitForReply 10 (with-value (fresh .control) 1849 pastMillion) ≡ false
-unfolding fresh fitForReply recordFit controlFit candidateFit waitFit allBelow inRange ofBits le lt
+unfolding fresh fitForReply recordFit halvesAgree controlFit candidateFit waitFit allBelow inRange ofBits le lt
 reply-value-past = refl
 
 reply-value-untested : fitForReply 10 (with-value (fresh .control) 1850 nan) ≡ true
-unfolding fresh fitForReply recordFit controlFit candidateFit waitFit allBelow inRange ofBits le lt
+unfolding fresh fitForReply recordFit halvesAgree controlFit candidateFit waitFit allBelow inRange ofBits le lt
 reply-value-untested = refl

@@ -1,5 +1,5 @@
 -- Small instances of the laws of the record, at a fresh one and at one whose frame is due with the next sample: what the laws ask can be met. Assumes nothing.
-use mathlib.Core.Path.{_≡_, refl}
+use mathlib.Core.Path.{_≡_, refl, sym}
 use mathlib.Core.Bool.{true, false}
 use mathlib.Core.List.{[]}
 use Prim.Native.Nat.{_<_}
@@ -19,7 +19,7 @@ use Rattle.search.specs.Fit.{candidateFit, waitFit, controlFit}
 use Rattle.demodulator.specs.declared.SoftDemodulator.{SoftDemodulator}
 use Rattle.demodulator.specs.Spans.{eight}
 use Rattle.demodulator.specs.Record.{freshControl, assembled, back, fresh, filteredAfter, stored, withControl}
-use Rattle.demodulator.specs.Fit.{recordFit, fitForSample, fitForReply}
+use Rattle.demodulator.specs.Fit.{halvesAgree, recordFit, fitForSample, fitForReply}
 use Rattle.demodulator.specs.Parts.{TestsRecord}
 use Rattle.demodulator.proofs.StepInstances.{fresh-for-sample}
 use Rattle.demodulator.proofs.Readers.{stored-newest, stored-older, stored-symbols, eight-at}
@@ -49,7 +49,7 @@ eight-at-meets = eight-at 10 (firsts (eight 10 (back 10 fresh)) 8) (back 10 fres
 
 -- ---- fitness
 pub fresh-for-reply : fitForReply 10 fresh ≡ true
-unfolding fresh fitForReply recordFit controlFit candidateFit waitFit allBelow inRange ofBits le lt
+unfolding fresh fitForReply recordFit halvesAgree controlFit candidateFit waitFit allBelow inRange ofBits le lt
 fresh-for-reply = refl
 
 abbrev dueNext : SoftDemodulator
@@ -59,7 +59,7 @@ dueNext =
     fresh
 
 due-for-sample : fitForSample 10 dueNext ≡ true
-unfolding fresh fitForSample recordFit controlFit candidateFit waitFit allBelow inRange ofBits le lt
+unfolding fresh fitForSample recordFit halvesAgree controlFit candidateFit waitFit allBelow inRange ofBits le lt
 due-for-sample = refl
 
 record-facts-meets : RecordFacts 10 dueNext
@@ -78,19 +78,23 @@ reply-eight-meets : T (inRange (back 10 fresh 70))
 reply-eight-meets = reply-eight 10 fresh fresh-for-reply 7 (lit< tt)
 
 -- ---- by parts
-fresh-tests : TestsRecord 0 0 freshControl true
+fresh-tests : TestsRecord true 0 0 freshControl true
 unfolding recordFit controlFit candidateFit waitFit
-fresh-tests window ring = refl
+fresh-tests window ring same = rw (sym same)
 
-past-tests : TestsRecord 81 0 freshControl false
+past-tests : TestsRecord true 81 0 freshControl false
 unfolding recordFit
-past-tests window ring = refl
+past-tests window ring same = rw (sym same)
+
+empty-agrees : true ≡ halvesAgree 10 []
+unfolding halvesAgree allBelow
+empty-agrees = refl
 
 tested-fit-meets : recordFit 10 (assembled [] 0 [] 0 freshControl) ≡ true
-tested-fit-meets = tested-fit 0 0 freshControl true fresh-tests refl [] []
+tested-fit-meets = tested-fit true 0 0 freshControl true fresh-tests [] [] empty-agrees refl
 
 tested-inside-meets : 0 < 1920
-tested-inside-meets = tested-inside 0 0 freshControl true fresh-tests refl
+tested-inside-meets = tested-inside true 0 0 freshControl true fresh-tests refl
 
 tested-unfit-meets : recordFit 10 (assembled [] 81 [] 0 freshControl) ≡ false
-tested-unfit-meets = tested-unfit 81 0 freshControl false past-tests refl [] []
+tested-unfit-meets = tested-unfit true 81 0 freshControl false past-tests [] [] empty-agrees refl

@@ -1,9 +1,9 @@
--- What a stored sample leaves: samples of 16 bits in the window, a ring of its length, and eight values in range. Assumes nothing.
+-- What a stored sample leaves: samples of 16 bits in the window, a window and a ring of their lengths, and eight values in range. Assumes nothing.
 use mathlib.Core.Path.{_≡_}
 use mathlib.Core.Logic.{⊎-elim}
 use mathlib.Core.Bool.{true}
 use mathlib.Core.List.{List, [], _∷_}
-use Prim.Native.Nat.{ℕ, zero, suc, _+_, _-_, _*_, _%_, _≤_, _<_}
+use Prim.Native.Nat.{ℕ, zero, suc, _+_, _-_, _*_, _≤_, _<_}
 use native.Mathlib.Nat.{eq-or-lt-of-le, le-of-suc-le-suc}
 use native.Mathlib.Omega.{arith}
 use lib.Dec.{T, lit≤}
@@ -12,9 +12,9 @@ use lib.ListN.{length, getD, set, length-set}
 use lib.Ieee.{Float}
 use mir.Syntax.{w16}
 use mir.Val.{SFits}
-use Rattle.shaping.specs.Rate.{Rate, at48, tapCount, ringPlaces}
+use Rattle.shaping.specs.Rate.{Rate, at48, tapCount, windowPlaces, ringPlaces}
 use Rattle.shaping.proofs.RateFacts.{Facts, facts48}
-use Rattle.shaping.proofs.Receiver.{ring-bounded}
+use Rattle.shaping.proofs.Receiver.{straight-bounded}
 use Rattle.decode.specs.Correlator.{inRange}
 use Rattle.decode.proofs.RangeFacts.{within-range}
 use Rattle.demodulator.specs.declared.SoftDemodulator.{SoftDemodulator}
@@ -24,9 +24,10 @@ use Rattle.demodulator.specs.Fit.{fitForSample}
 use Rattle.demodulator.proofs.Fitness.{record-facts, sample-record, sample-seven}
 use Rattle.demodulator.proofs.Readers.{stored-newest, stored-symbols}
 
--- what the types of the rings say of them: samples of 16 bits, and no fewer places than the ring has
+-- what their types say of the window and of the ring: samples of 16 bits, and no fewer places than are used
 pub record Rings (p : ℕ) (window : List ℤ) (ring : List Float) : Type 0 where
   pub samples : (i : ℕ) → SFits w16 (getD window i (pos 0))
+  pub window-places : windowPlaces p ≤ length window
   pub places : ringPlaces p ≤ length ring
 
 -- ---- the window
@@ -39,15 +40,21 @@ set-holds P (y ∷ l) (suc at) zero x d new old = old
 set-holds P (y ∷ l) (suc at) (suc i) x d new old = set-holds P l at i x d new old
 
 module _ (R : Rate) (F : Facts R) (m : SoftDemodulator) (x : ℤ) (rings : Rings (R .p) (m .«filter_win») (m .«rx_win»)) (fits : SFits w16 x) where
-  pub window-fits : (i : ℕ) → SFits w16 (getD (windowAfter m x) i (pos 0))
-  window-fits i = set-holds (SFits w16) (m .«filter_win») (m .«filter_cursor») i x (pos 0) fits (rings .samples i)
+  pub window-fits : (i : ℕ) → SFits w16 (getD (windowAfter (R .p) m x) i (pos 0))
+  window-fits i =
+      set-holds (SFits w16) (set (m .«filter_win») (m .«filter_cursor») x) (m .«filter_cursor» + tapCount (R .p)) i x (pos 0) fits
+      (set-holds (SFits w16) (m .«filter_win») (m .«filter_cursor») i x (pos 0) fits (rings .samples i))
 
   pub new-in-range : T (inRange (filteredAfter R m x))
-  new-in-range = within-range (filteredAfter R m x) (ring-bounded R F (windowAfter m x) ((m .«filter_cursor» + 1) % tapCount (R .p)) (λ i l. window-fits i))
+  new-in-range = within-range (filteredAfter R m x) (straight-bounded R F (windowAfter (R .p) m x) (m .«filter_cursor» + 1) (λ i l. window-fits (m .«filter_cursor» + 1 + i)))
 
   pub stored-rings : Rings (R .p) (stored R m x .«filter_win») (stored R m x .«rx_win»)
   unfolding stored
-  stored-rings = record { samples = window-fits; places = rw (length-set (m .«rx_win») (m .«rx_cursor») (filteredAfter R m x)) (rings .places) }
+  stored-rings = record {
+    samples = window-fits;
+    window-places = omega (arith, rings .window-places, length-set (set (m .«filter_win») (m .«filter_cursor») x) (m .«filter_cursor» + tapCount (R .p)) x, length-set (m .«filter_win») (m .«filter_cursor») x);
+    places = rw (length-set (m .«rx_win») (m .«rx_cursor») (filteredAfter R m x)) (rings .places);
+  }
 
 -- ---- the eight values, once the sample is stored
 module _ (m : SoftDemodulator) (x : ℤ) (rings : Rings 10 (m .«filter_win») (m .«rx_win»)) (fits : SFits w16 x) (fit : fitForSample 10 m ≡ true) where

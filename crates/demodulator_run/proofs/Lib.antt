@@ -93,6 +93,9 @@ pub mod OfferReports
 pub mod Offers48
 -- a refused call changes nothing
 pub mod Refused
+-- the layout before document 02 f), and that every answer is its
+pub mod LayoutsAlike
+pub mod AsBefore
 -- examples, computed
 pub mod Worked
 -- instances that meet what the laws ask

@@ -10,28 +10,40 @@ use lib.IntN.{pos, negsuc}
 use lib.ListN.{getD, replicate, getD-replicate}
 use lib.Ieee.{Float}
 use Rattle.numbers.specs.Sum.{nought}
+use Rattle.numbers.specs.Below.{allBelow}
 use Rattle.numbers.proofs.Ring.{Recent, push, by-age}
 use Rattle.machine.specs.Runs.{run, answers, Each}
 use Rattle.shaping.specs.Rate.{at48}
 use Rattle.shaping.proofs.RateFacts.{facts48}
 use Rattle.shaping.specs.Taps.{taps}
+use Rattle.protocol.specs.declared.Kind.the-variants.{Lsf}
 use Rattle.protocol.specs.Refusals.{bare}
 use Rattle.decode.specs.Correlator.{inRange}
+use Rattle.search.specs.declared.Wait.the-variants.{Free}
+use Rattle.search.specs.declared.Timer.the-variants.{Off}
+use Rattle.search.specs.declared.Control.{Control}
 use Rattle.search.specs.declared.Reply.the-variants.{Accepted}
-use Rattle.demodulator.specs.Record.{fresh}
+use Rattle.search.specs.Fit.{candidateFit, controlFit}
+use Rattle.demodulator.specs.declared.SoftDemodulator.{SoftDemodulator}
+use Rattle.demodulator.specs.Record.{fresh, assembled}
+use Rattle.demodulator.specs.Fit.{halvesAgree, recordFit}
 use Rattle.demodulator.specs.Calls.{refusal, nothing, carrier}
 use Rattle.demodulator.specs.Feed.{goesOn, fedFrom, fed}
+use Rattle.demodulator_laws.proofs.ExampleBurst.{heldAt}
 use Rattle.demodulator_run.specs.Filter.{filtered}
 use Rattle.demodulator_run.specs.Rules.{sample, reply, query, After, start, given, answered, single}
 use Rattle.demodulator_run.specs.Run.{Callable}
 use Rattle.demodulator_run.specs.Stretch.{Sixteen}
 use Rattle.demodulator_run.specs.Calls.{Call, one, stretch, toldOne, historyNext, toldTo, rules, receiver, Given}
 use Rattle.demodulator_run.specs.Represents.{Represents}
+use Rattle.demodulator_run.specs.OldLayout.{freshBefore, receiverBefore, Alike}
 use Rattle.demodulator_run.proofs.Causal.{filtered-old}
 use Rattle.demodulator_run.proofs.InRange.{small-none, small-more, in-range}
 use Rattle.demodulator_run.proofs.Sixteen.{taps-size, taps-bounded}
 use Rattle.demodulator_run.proofs.RecordFit.{FitForAll}
 use Rattle.demodulator_run.proofs.ReceiverRun.{receiver-run, fit-throughout}
+use Rattle.demodulator_run.proofs.LayoutsAlike.{even-alike}
+use Rattle.demodulator_run.proofs.AsBefore.{as-before, as-before-fresh}
 use Rattle.demodulator_run.proofs.Refused.{refused-nothing}
 use Rattle.demodulator_run.proofs.Worked.{room, first}
 
@@ -112,3 +124,26 @@ mixed-unheard = refused-nothing taps 10 start (one (sample (pos 32767) [])) (bar
 stretch-unheard : historyNext taps 10 start (stretch (pos 32767 ∷ []) []) ≡ start
 unfolding toldTo fed fedFrom goesOn single given
 stretch-unheard = refused-nothing taps 10 start (stretch (pos 32767 ∷ []) []) (bare 4) refl .0
+
+-- ---- the layout before: records that no run reaches, at other cursors, and unfit by an age of 0
+abbrev ageless : Control
+ageless = record { candidate = heldAt Lsf 0; wait = Free; dcd = Off; owed = false; sample = 7 }
+
+abbrev straight : SoftDemodulator
+straight = assembled (replicate 162 (pos 7)) 80 (replicate 1920 nought) 1919 ageless
+
+abbrev round : SoftDemodulator
+round = assembled (replicate 81 (pos 7)) 3 (replicate 1920 nought) 5 ageless
+
+straight-unfit : recordFit 10 straight ≡ false
+unfolding recordFit halvesAgree controlFit candidateFit allBelow
+straight-unfit = refl
+
+made-up-alike : Alike 10 straight round
+made-up-alike = even-alike at48 facts48 (pos 7) nought 80 3 1919 5 ageless (lit< tt) (lit< tt) (lit< tt) (lit< tt)
+
+mixed-as-before : answers (receiver at48) straight mixed ≡ answers (receiverBefore at48) round mixed
+mixed-as-before = as-before at48 facts48 straight round made-up-alike mixed .0
+
+fresh-as-before : answers (receiver at48) fresh mixed ≡ answers (receiverBefore at48) freshBefore mixed
+fresh-as-before = as-before-fresh at48 facts48 mixed

@@ -44,10 +44,11 @@ module _ (R : Rate) (F : Facts R) where
   both true false k l x y e f g = absurd (true≢false e)
   both false true k l x y e f g = absurd (false≢true e)
 
-  -- ---- the rings of a record whose control is changed
+  -- ---- the window and the ring of a record whose control is changed
   recontrolled : (c : Control) (m : SoftDemodulator) (xs : List ℤ) → Remembers R m xs → Remembers R (withControl c m) xs
   recontrolled c m xs r = record {
     window-places = r .window-places;
+    window-halves = r .window-halves;
     window-cursor = r .window-cursor;
     window = r .window;
     ring-places = r .ring-places;

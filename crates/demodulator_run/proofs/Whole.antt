@@ -48,7 +48,7 @@ module _ (R : Rate) (F : Facts R) where
     pub stands-fit : FitForAll (R .p) m
     stands-fit =
         let r = s .represents in
-        fit-for-all (R .p) some m (r .rings .window-cursor) (r .rings .ring-cursor) (subst (λ (c : Control). T (controlFit (R .p) c)) (sym (r .control)) (s .fit .fit))
+        fit-for-all (R .p) some m (r .rings .window-halves) (r .rings .window-cursor) (r .rings .ring-cursor) (subst (λ (c : Control). T (controlFit (R .p) c)) (sym (r .control)) (s .fit .fit))
         (λ j l. subst (λ (x : Float). T (inRange x)) (sym (r .rings .ring j l)) (in-range (R .taps) (R .p) (taps-bounded R F) (h .samples) (s .small) _))
 
     pub stands-next : (c : Single) → Callable c → Stands (left R m c .demodulator) (single (R .taps) (R .p) h c .history)

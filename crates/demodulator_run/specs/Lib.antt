@@ -13,3 +13,5 @@ pub mod Calls
 -- demand 3 at the caller's side
 pub mod CallerSees
 pub mod OfferReports
+-- the layout before document 02 f)
+pub mod OldLayout

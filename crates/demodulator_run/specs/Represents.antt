@@ -1,20 +1,23 @@
 -- What it is for a record to hold what the rules have heard. Assumes nothing.
 use mathlib.Core.Path.{_≡_}
+use mathlib.Core.Bool.{true}
 use mathlib.Core.List.{List}
 use Prim.Native.Nat.{ℕ, _+_, _-_, _≤_, _<_}
 use lib.IntN.{ℤ}
 use lib.ListN.{length}
-use Rattle.shaping.specs.Rate.{Rate, tapCount, ringPlaces}
+use Rattle.shaping.specs.Rate.{Rate, tapCount, windowPlaces, ringPlaces}
 use Rattle.demodulator.specs.declared.SoftDemodulator.{SoftDemodulator}
 use Rattle.demodulator.specs.Record.{back, view}
+use Rattle.demodulator.specs.Fit.{halvesAgree}
 use Rattle.demodulator_run.specs.Filter.{sampleNo, ago}
 use Rattle.demodulator_run.specs.Rules.{History}
 
--- the two rings, where xs are all admitted samples: the last 81 of them (8p + 1), 0 before the first, and the last 1,920 filtered values (192p), 0.0 before the first
+-- the window and the ring, where xs are all admitted samples: the last 81 of them (8p + 1), 0 before the first, kept twice, and the last 1,920 filtered values (192p), 0.0 before the first
 pub record Remembers (R : Rate) (m : SoftDemodulator) (xs : List ℤ) : Type 0 where
-  pub window-places : tapCount (R .p) ≤ length (m .«filter_win»)
+  pub window-places : windowPlaces (R .p) ≤ length (m .«filter_win»)
+  pub window-halves : halvesAgree (R .p) (m .«filter_win») ≡ true
   pub window-cursor : m .«filter_cursor» < tapCount (R .p)
-  pub window : (i : ℕ) → i < tapCount (R .p) → view (R .p) m i ≡ sampleNo xs ((length xs + i + 1) - tapCount (R .p))
+  pub window : (i : ℕ) → i < tapCount (R .p) → view m i ≡ sampleNo xs ((length xs + i + 1) - tapCount (R .p))
   pub ring-places : ringPlaces (R .p) ≤ length (m .«rx_win»)
   pub ring-cursor : m .«rx_cursor» < ringPlaces (R .p)
   pub ring : (j : ℕ) → j < ringPlaces (R .p) → back (R .p) m j ≡ ago (R .taps) (R .p) xs j

@@ -115,22 +115,22 @@ padding-left : PaddingLeft 10 delayed 450
 unfolding none delays lastLatency placesRead placesOf
 padding-left = set [] Ordinary (record { 0 = 1 }) [] (read (replicate 30 (pos 0)) ∷ end ∷ []) refl tt
 
-unread-behind : UnreadLeft 10 delayed 2720
+unread-after-padding : UnreadLeft 10 delayed 2720
 unfolding replaces none symbolsOf placesRead
-unread-behind = sent (record { before = provide (Preamble Ordinary (record { 0 = 1 })) [] ∷ read (replicate 30 (pos 0)) ∷ []; call = end; since = []; parts = refl; started = tt; unstopped = tt }) 450 padding-left
+unread-after-padding = sent (record { before = provide (Preamble Ordinary (record { 0 = 1 })) [] ∷ read (replicate 30 (pos 0)) ∷ []; call = end; since = []; parts = refl; started = tt; unstopped = tt }) 450 padding-left
 
 delayed-given : Each Given delayed
 unfolding Each Given Delay
 delayed-given = (lit< tt, (tt, (tt, tt)))
 
 unread-of-record : unread (recordAfter at48 delayed .progress) ≡ 2720
-unread-of-record = unread-by-record at48 facts48 delayed delayed-given 2720 .1 unread-behind
+unread-of-record = unread-by-record at48 facts48 delayed delayed-given 2720 .1 unread-after-padding
 
 delayed-told : called at48 (sentAll at48 (delayed ++ update 100 3000 50 ∷ [])) ask .said .answer ≡ transmitEnd 3320
 unfolding stores none
 delayed-told =
     told-next at48 delayed (owed-again (provide (Preamble Ordinary (record { 0 = 1 })) [] ∷ read (replicate 30 (pos 0)) ∷ [])) 100 3000 50 tt [] tt reporting-none 3320
-    (record { padding = 450; unread = 2720; padding-left = padding-left; unread-left = unread-behind; samples = refl })
+    (record { padding = 450; unread = 2720; padding-left = padding-left; unread-left = unread-after-padding; samples = refl })
 
 -- ---- an end that is read out, and an update: the number is the old one
 abbrev readOut : List Call

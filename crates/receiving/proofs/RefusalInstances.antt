@@ -18,7 +18,7 @@ use Rattle.search.specs.declared.Timer.the-variants.{Off}
 use Rattle.search.specs.Fit.{candidateFit, waitFit, controlFit}
 use Rattle.demodulator.specs.declared.SoftDemodulator.{SoftDemodulator}
 use Rattle.demodulator.specs.Record.{freshControl, fresh, withControl}
-use Rattle.demodulator.specs.Fit.{recordFit, fitForSample}
+use Rattle.demodulator.specs.Fit.{halvesAgree, recordFit, fitForSample}
 use Rattle.demodulator.specs.Calls.{refusal, nothing, refused}
 use Rattle.demodulator.proofs.CallCases.{sample-unfit, sample-last}
 use Rattle.receiving.specs.declared.Odd.the-variants.{Nothing, Held}
@@ -42,7 +42,7 @@ abbrev waits : Receiving
 waits = record { demodulator = unfit; odd = Held 0x34 }
 
 unfit-stuck : RefusesAll 1 unfit
-unfolding fitForSample recordFit
+unfolding fitForSample recordFit halvesAgree allBelow
 unfit-stuck y = sample-unfit unfit y blank refl
 
 unfit-silent : textFrom record48 unfit (pos 1 ∷ pos 2 ∷ []) ≡ []
@@ -57,7 +57,7 @@ unfit-unmoved = refused-hear waits (0x12 ∷ []) line _ line (bare 1) (refused-s
 
 -- no byte at all, and it is refused all the same
 unfit-empty : recordIntake waits [] 0 ≡ record { answer = refusal (bare 1); consumed = 0; text = []; state = unfit; odd = Held 0x34 }
-unfolding intakeOf batchOf samplesOf oddOf goIn toldTo run answers linesOf flatMap recordFit
+unfolding intakeOf batchOf samplesOf oddOf goIn toldTo run answers linesOf flatMap recordFit halvesAgree allBelow
 unfit-empty = refl
 
 -- ---- the count at its end
@@ -68,7 +68,7 @@ abbrev counted : Receiving
 counted = record { demodulator = last; odd = Nothing }
 
 last-fit : fitForSample 10 last ≡ true
-unfolding fresh fitForSample recordFit controlFit candidateFit waitFit allBelow inRange ofBits le lt
+unfolding fresh fitForSample recordFit halvesAgree controlFit candidateFit waitFit allBelow inRange ofBits le lt
 last-fit = refl
 
 roomy : 192 ≤ length blank
@@ -84,14 +84,14 @@ last-unmoved = refused-hear counted (0x34 ∷ 0x12 ∷ 0x07 ∷ []) line _ line 
 
 -- ---- no room for a line: no byte is consumed, which is no refusal
 no-room : recordIntake freshReceiving (0x34 ∷ []) 96 ≡ record { answer = nothing; consumed = 0; text = []; state = fresh; odd = Nothing }
-unfolding intakeOf batchOf samplesOf oddOf goIn toldTo run answers linesOf flatMap fresh recordFit controlFit candidateFit waitFit
+unfolding intakeOf batchOf samplesOf oddOf goIn toldTo run answers linesOf flatMap fresh recordFit halvesAgree controlFit candidateFit waitFit allBelow
 no-room = refl
 
 -- with it a single byte is
 one-byte : recordIntake freshReceiving (0x34 ∷ []) 97 ≡ record { answer = nothing; consumed = 1; text = []; state = fresh; odd = Held 0x34 }
-unfolding intakeOf batchOf samplesOf oddOf goIn toldTo run answers linesOf flatMap fresh recordFit controlFit candidateFit waitFit
+unfolding intakeOf batchOf samplesOf oddOf goIn toldTo run answers linesOf flatMap fresh recordFit halvesAgree controlFit candidateFit waitFit allBelow
 one-byte = refl
 
 one-byte-consumed : 1 ≤ intakeOf record48 (recordFit 10) fresh Nothing (0x34 ∷ []) 97 .consumed
-unfolding intakeOf samplesOf answers toldTo fresh recordFit controlFit candidateFit waitFit
+unfolding intakeOf samplesOf answers toldTo fresh recordFit halvesAgree controlFit candidateFit waitFit allBelow
 one-byte-consumed = takes-some record48 (recordFit 10) fresh Nothing (0x34 ∷ []) 97 (lit≤ tt) (lit≤ tt) refl

@@ -13,9 +13,13 @@ abbrev pub at48 : Rate
 at48 = record { p = 10; taps = taps }
 
 -- ---- the spans that the records keep
--- the taps, and the samples that the filter's window holds: 81 at 48 kHz
+-- the taps, and the samples that a filter's window holds: 81 at 48 kHz
 abbrev pub tapCount : ℕ → ℕ
 tapCount p = 8 * p + 1
+
+-- document 02 f): "Keep each sample twice, 81 places apart, in 162 places": the places of the receiver's window
+abbrev pub windowPlaces : ℕ → ℕ
+windowPlaces p = 2 * tapCount p
 
 -- the filtered values of a frame: 1,920
 abbrev pub ringPlaces : ℕ → ℕ

@@ -8,7 +8,7 @@ use crate::modem::found::Found;
 use crate::modem::kept::{Control, Held, Sending};
 use crate::modem::{lay, peek, SoftDemodulator, SoftModulator};
 
-/// The places of the receiver's numbers. Up to `OWED` they are the record, behind it an answer.
+/// The places of the receiver's numbers. Up to `OWED` they are the record, after it an answer.
 pub const FILTER_CURSOR: usize = 0;
 pub const RX_CURSOR: usize = 1;
 pub const COUNT: usize = 2;
@@ -35,7 +35,7 @@ pub const NUMBERS: usize = 21;
 /// What stands for no kind.
 pub const NO_KIND: u64 = 4;
 
-/// Where the candidate's floats stand behind the ring.
+/// Where the candidate's floats are, after the ring.
 pub const DIFF: usize = 1920;
 pub const GAIN: usize = 1921;
 pub const SHIFT: usize = 1922;
@@ -44,7 +44,10 @@ pub const SHIFT: usize = 1922;
 const THREE_AT: usize = 8 * NUMBERS;
 const RING_AT: usize = THREE_AT + 16;
 const WINDOW_AT: usize = RING_AT + 4 * 1920;
-const RECEIVER_BYTES: usize = WINDOW_AT + 2 * 81;
+const RECEIVER_BYTES: usize = WINDOW_AT + 2 * PLACES;
+
+/// The places of the port's window, which keeps each sample twice.
+pub const PLACES: usize = 162;
 
 const RECEIVER_NAMES: [&str; OWED + 1] = [
     "window cursor",
@@ -64,7 +67,7 @@ const RECEIVER_NAMES: [&str; OWED + 1] = [
 
 #[derive(Clone)]
 pub struct Receiver {
-    pub window: [i16; 81],
+    pub window: [i16; PLACES],
     pub floats: [f32; 1923],
     pub numbers: [u64; NUMBERS],
 }
@@ -72,7 +75,7 @@ pub struct Receiver {
 impl Receiver {
     pub fn empty() -> Self {
         Receiver {
-            window: [0; 81],
+            window: [0; PLACES],
             floats: [0.0; 1923],
             numbers: [0; NUMBERS],
         }
@@ -93,6 +96,18 @@ impl Receiver {
         wire::floats(&bytes[THREE_AT..], &mut self.floats[DIFF..]);
         wire::floats(&bytes[RING_AT..], &mut self.floats[..1920]);
         wire::samples(&bytes[WINDOW_AT..], &mut self.window);
+    }
+
+    /// The old modem's window: the first half.
+    pub fn half(&self) -> &[i16; 81] {
+        self.window[..81].try_into().expect("81 places")
+    }
+
+    /// Each sample twice, 81 places apart.
+    pub fn lay_twice(&mut self, window: &[i16; 81]) {
+        for half in self.window.chunks_mut(81) {
+            half.copy_from_slice(window);
+        }
     }
 
     pub fn ring(&self) -> &[f32; 1920] {
@@ -180,7 +195,7 @@ pub fn room_after(numbers: &[u64], mut before: Vec<f32>, symbols: &[f32]) -> Vec
 pub fn receiver(old: &SoftDemodulator, found: Found) -> Receiver {
     let (window, ring) = lay::rings(old);
     let mut flat = Receiver::empty();
-    flat.window = *window;
+    flat.lay_twice(window);
     flat.floats[..1920].copy_from_slice(ring);
     let (filter, rx) = peek::cursors(old);
     flat.numbers[FILTER_CURSOR] = filter as u64;
@@ -191,7 +206,7 @@ pub fn receiver(old: &SoftDemodulator, found: Found) -> Receiver {
 
 /// The old modem with a fit record's values in its private fields.
 pub fn old_receiver(flat: &Receiver) -> SoftDemodulator {
-    lay::receiver(flat.cursors(), &flat.window, flat.ring(), flat.control())
+    lay::receiver(flat.cursors(), flat.half(), flat.ring(), flat.control())
 }
 
 /// What differs after a sample, but for the rings: the record's numbers, the new filtered value, the
@@ -236,7 +251,7 @@ pub fn receivers_differ(old: &Receiver, port: &Receiver) -> Option<String> {
     if let Some(i) = (0..=OWED).find(|&i| old.numbers[i] != port.numbers[i]) {
         return Some(say(RECEIVER_NAMES[i], old.numbers[i], port.numbers[i]));
     }
-    if let Some(i) = (0..81).find(|&i| old.window[i] != port.window[i]) {
+    if let Some(i) = (0..PLACES).find(|&i| old.window[i] != port.window[i]) {
         return Some(say(
             &format!("sample in place {i}"),
             old.window[i],
@@ -274,7 +289,7 @@ pub fn pattern(value: f32) -> String {
     format!("{:08x}", value.to_bits())
 }
 
-/// The places of the sender's numbers. Up to `CAPACITY` they are the record, behind it an answer.
+/// The places of the sender's numbers. Up to `CAPACITY` they are the record, after it an answer.
 pub const CURSOR: usize = 0;
 pub const LENGTH: usize = 1;
 pub const READ: usize = 2;

@@ -63,7 +63,7 @@ fn any_sample(random: &mut Random) -> i16 {
 fn rings(random: &mut Random) -> Receiver {
     let mut record = Receiver::empty();
     let level = *random.pick(&[0, 20, 500, 32_767]);
-    record.window = [(); 81].map(|()| random.around(level) as i16);
+    record.lay_twice(&[(); 81].map(|()| random.around(level) as i16));
     let scale = *random.pick(&[0.0, 1.0, 40.0, 1000.0, 1_000_000.0]);
     for value in &mut record.floats[..1920] {
         *value = in_range(random, scale);
@@ -91,12 +91,12 @@ fn burst(random: &mut Random, record: &mut Receiver, step: &Step) -> [f32; 8] {
     let (cursor, rx) = record.cursors();
     let newest = match *step {
         Step::Sample { sample, .. } => {
-            let mut window = record.window;
+            let mut window = *record.half();
             window[cursor] = sample;
             filtered(&window, (cursor + 1) % 81)
         }
         _ => {
-            let newest = filtered(&record.window, cursor);
+            let newest = filtered(record.half(), cursor);
             // What a reply searches: the newest value is the last sample's.
             record.floats[(rx + 1919) % 1920] = newest;
             newest
@@ -233,7 +233,7 @@ fn spoil(random: &mut Random, record: &mut Receiver, step: &Step) {
     for _ in 0..1 + random.below(2) {
         let places: Vec<usize> = tested(record, step).collect();
         let (n, f) = (&mut record.numbers, &mut record.floats);
-        match random.below(15) {
+        match random.below(16) {
             0 => n[FILTER_CURSOR] = *random.pick(&[81, 82, u64::MAX]),
             // A cursor this large is tested no further.
             1 => {
@@ -273,6 +273,10 @@ fn spoil(random: &mut Random, record: &mut Receiver, step: &Step) {
             12 => {
                 hold(n, f, 1, 1.0, 20.0, 0.0);
                 (n[WAIT_HELD], n[WAIT_LEFT], n[WAIT_AGE]) = (1, 1 + random.below(1839) as u64, 0);
+            }
+            13 => {
+                let sample = &mut record.window[random.below(PLACES)];
+                *sample = sample.wrapping_add(1 + random.below(65_535) as i16);
             }
             _ if places.is_empty() => {}
             _ => f[*random.pick(&places)] = out_of_range(random),

@@ -1,5 +1,6 @@
 //! Which refusal documents 01 and 02 give for a call: 'Refusal numbers', the two unfit lists with request a's limit of
-//! a reported end and request j's of a candidate and a wait, and request c, the smallest number first; 0 for none. The old modem has none of them.
+//! a reported end, request j's of a candidate and a wait and request f's halves, and request c, the smallest number first;
+//! 0 for none. The old modem has none of them.
 
 use super::calls::{Call, Frame};
 use super::flat::*;
@@ -47,7 +48,8 @@ fn wait_fit(record: &Receiver) -> bool {
 
 fn receiver_fit(record: &Receiver, step: &Step) -> bool {
     let n = &record.numbers;
-    n[FILTER_CURSOR] < 81
+    record.window[..81] == record.window[81..]
+        && n[FILTER_CURSOR] < 81
         && n[RX_CURSOR] < 1920
         && n[COUNT] <= LAST
         && (n[TIMER_HELD] == 0 || n[TIMER_END] <= LAST + 3840)

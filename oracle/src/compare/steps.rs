@@ -265,7 +265,7 @@ fn replied(case: &Case, accepted: bool, port: &Receiver, tally: &mut Tally) -> R
         wait: Some(1),
         timer: now.timer.filter(|_| !stale),
     };
-    let old = lay::receiver(cursors, &case.record.window, case.record.ring(), before);
+    let old = lay::receiver(cursors, case.record.half(), case.record.ring(), before);
     let (old, offer) = old_demod(old, sample, accepted)?;
     if offer.is_none() {
         return Err("the old modem does not ask for the frame".to_string());

@@ -6,10 +6,10 @@ use Rattle.cases_tables.proofs.filters.replay.Statement.{statement}
 use Rattle.cases_tables.proofs.filters.replay.Tie as tie
 
 abbrev Inv-loop : tie.InvT-loop
-Inv-loop text ring₀ at₀ ring at = Unit {0}
+Inv-loop text window₀ at₀ window at = Unit {0}
 
 abbrev μ-loop : tie.MeasureT-loop
-μ-loop text ring₀ at₀ ring at = length text + 1 - at
+μ-loop text window₀ at₀ window at = length text + 1 - at
 
 fresh-requires : tie.Need-fresh-requires Inv-loop μ-loop
 fresh-requires c κs = search needs

@@ -3,37 +3,42 @@ use mathlib.Core.Path.{_≡_, refl, sym, _∙_}
 use mathlib.Core.List.{List, _∷_}
 use Prim.Native.Nat.{_+_, _-_, _≤_, _<_}
 use native.Mathlib.Numerals.{add-one}
+use native.Mathlib.Omega.{arith}
 use borrow.Author.Tests.{not-true, not-false}
 use borrow.Author.Needs.{needs, sfits-of}
 use mir.Syntax.{w16}
 use mir.Val.{SFits}
 use mir.Facts.{toZ-ofZ}
 use lib.IntN.{ℤ, pos}
-use lib.ListN.{length, getD, drop, drop-of-length-le}
-use Rattle.shaping.specs.Rate.{at48}
+use lib.ListN.{length, getD, drop, drop-of-length-le, length-map}
+use Rattle.shaping.specs.Rate.{at48, windowPlaces}
 use Rattle.demodulator.specs.Record.{assembled}
+use Rattle.demodulator.specs.Fit.{halvesAgree}
 use Rattle.demodulator.specs.Steps.{Steps}
 use Rattle.demodulator.specs.Feed.{fedInto}
+use Rattle.demodulator.proofs.HalvesKept.{KeepsHalves, step-kept}
 use Rattle.demodulator.proofs.FeedSteps.{drop-at, restFrom, fed-on, fed-ends, fed-out, fed-some, one-at-most, feeds, feeds-nothing}
 use Rattle.demodulator.proofs.SoftDemodulator.feed.Statement.{statement}
 use Rattle.demodulator.proofs.SoftDemodulator.feed.Tie as tie
 
 abbrev Inv-loop : tie.InvT-loop
-Inv-loop samples room₀ window₀ ring₀ control₀ places₀ fed₀ room window ring control places fed =
+Inv-loop samples room₀ halves window₀ ring₀ control₀ places₀ fed₀ room window ring control places fed =
     (fed ≤ length samples)
     × (length room ≡ length room₀)
+    × (windowPlaces 10 ≤ length window)
+    × (halves ≡ halvesAgree 10 window)
     × (fedInto at48 (assembled window₀ (places₀ .«filter_cursor») ring₀ (places₀ .«rx_cursor») control₀) samples room₀
     ≡ restFrom at48 fed (assembled window (places .«filter_cursor») ring (places .«rx_cursor») control) (drop fed samples) room)
 
 abbrev μ-loop : tie.MeasureT-loop
-μ-loop samples room₀ window₀ ring₀ control₀ places₀ fed₀ room window ring control places fed = length samples - fed
+μ-loop samples room₀ halves window₀ ring₀ control₀ places₀ fed₀ room window ring control places fed = length samples - fed
 
 -- ---- a turn
 abbrev start-of : tie.After-step Inv-loop μ-loop → tie.At-loop Inv-loop μ-loop
 start-of s = s .before .before .before .before .before .before
 
 abbrev heard-by : tie.After-step Inv-loop μ-loop → List ℤ
-heard-by s = start-of s .before .before .before .before .before .before .args .samples .now
+heard-by s = start-of s .before .before .before .before .before .before .before .before .before .args .samples .now
 
 abbrev sample-of : tie.After-step Inv-loop μ-loop → ℤ
 sample-of s = getD (heard-by s) (start-of s .loop .fed) (pos 0)
@@ -42,7 +47,7 @@ fits-of : (s : tie.After-step Inv-loop μ-loop) → SFits w16 (sample-of s)
 fits-of s = sfits-of (s .before .before .before .before .sample .given)
 
 stepped : (s : tie.After-step Inv-loop μ-loop) → let l = start-of s .loop in
-    Steps (l .filter-win) (l .rx-win) (l .places) (l .control) (sample-of s) (l .room) (s .step .result) (s .step .last .0) (s .step .last .1 .0) (s .step .last .1 .1 .1 .1 .1 .0)
+    Steps (l .filter-win) (l .rx-win) (l .places) (l .control) (sample-of s) (l .room) (s .step .result) (s .step .last .0) (s .step .last .1 .0) (s .step .last .1 .1 .1 .1 .1 .1 .0)
 stepped s = rw (toZ-ofZ {w = w16} {z = sample-of s} (fits-of s)) at (s .step .ensures)
 
 left-of : (s : tie.After-step Inv-loop μ-loop) → let l = start-of s .loop in
@@ -53,6 +58,12 @@ left-of s =
     let below : l .fed < length (heard-by s) = search needs in
     rw (drop-at (l .fed) (heard-by s) (pos 0) below, add-one (l .fed))
 
+-- what the step keeps
+kept : (s : tie.After-step Inv-loop μ-loop) → let l = start-of s .loop in
+    KeepsHalves (assembled (l .filter-win) (l .places .«filter_cursor») (l .rx-win) (l .places .«rx_cursor») (l .control))
+    (assembled (s .step .last .0) (s .step .result .places .«filter_cursor») (s .step .last .1 .0) (s .step .result .places .«rx_cursor») (s .step .result .control))
+kept s = step-kept _ (start-of s .loop .inv .2) _ _ _ _ _ (stepped s)
+
 -- ---- the needs
 feed-nothing-requires : tie.Need-feed-nothing-requires Inv-loop μ-loop
 feed-nothing-requires c κs = search needs
@@ -60,10 +71,17 @@ feed-nothing-requires c κs = search needs
 returns : tie.Need-returns Inv-loop μ-loop
 returns c = feeds-nothing _ _ _ _ (c .before .if1 .taken) (c .feed-nothing .ensures)
 
+halves-agree-requires : tie.Need-halves-agree-requires Inv-loop μ-loop
+halves-agree-requires c κs = search needs
+
 loop-holds : tie.Need-loop-holds Inv-loop μ-loop
 loop-holds c =
-    let some : 0 < length (c .before .before .before .before .before .args .samples .now) = search needs in
-    (search needs, refl, fed-some at48 _ _ _ some)
+    let start = c .before .before .before .before .before .before .before .before in
+    let some : 0 < length (start .args .samples .now) = search needs in
+    -- the array's length, as the record's type has it
+    let places : length (start .args .t1 .«filter_win») ≡ 162 = sym (length-map (start .args .t1 .«filter_win») _) ∙ start .good .0 .1 .1 .0 .1 .0 .1 in
+    let long : windowPlaces 10 ≤ length (start .args .t1 .«filter_win») = omega arith in
+    (search needs, refl, long, c .before .before .before .halves-agree .ensures, fed-some at48 _ _ _ some)
 
 mul-sample : tie.Need-mul-sample Inv-loop μ-loop
 mul-sample c = search needs
@@ -72,7 +90,7 @@ shared-slice-copy-out-sample : tie.Need-shared-slice-copy-out-sample Inv-loop μ
 shared-slice-copy-out-sample c = search needs
 
 step-requires : tie.Need-step-requires Inv-loop μ-loop
-step-requires c κs = search needs
+step-requires c κs = c .before .before .before .before .before .loop .inv .3
 
 is-quiet-requires : tie.Need-is-quiet-requires Inv-loop μ-loop
 is-quiet-requires c κs = search needs
@@ -92,7 +110,10 @@ rebuild-requires-2 c κs = search needs
 add-count : tie.Need-add-count Inv-loop μ-loop
 add-count c =
     let most : c .count-in .result ≤ 1 = rw (c .count-in .ensures) (one-at-most (c .before .before .before .before .before .before .before .step .result .answer)) in
-    search needs
+    let s = c .before .before .before .before .before .before .before in
+    let long = start-of s .before .before .before .before .before .before .before .before .before .good .1 .0 .0 in
+    let below : start-of s .loop .fed < length (heard-by s) = search needs in
+    omega (arith, long)
 
 same-length : tie.Need-same-length Inv-loop μ-loop
 same-length c =
@@ -105,7 +126,7 @@ returns-2 c =
     let t = c .before .before .before in
     let s = t .before .before .before .before .before .before in
     let quiet-not = sym (t .before .is-quiet .ensures) ∙ not-true _ (t .if2 .taken) in
-    feeds _ _ _ _ _ (rw (c .rebuild .ensures, c .before .tell .ensures, c .before .before .count-in .ensures) (start-of s .loop .inv .2 ∙ left-of s ∙ fed-ends _ _ _ _ _ _ _ _ (stepped s) quiet-not))
+    feeds _ _ _ _ _ (rw (c .rebuild .ensures, c .before .tell .ensures, c .before .before .count-in .ensures) (start-of s .loop .inv .4 ∙ left-of s ∙ fed-ends _ _ _ _ _ _ _ _ (stepped s) quiet-not))
 
 add-fed : tie.Need-add-fed Inv-loop μ-loop
 add-fed c = search needs
@@ -120,7 +141,9 @@ loop-again c =
     let quiet = sym (c .before .is-quiet .ensures) ∙ not-false _ (c .if2 .left) in (
       search needs,
       search needs,
-      l .inv .2 ∙ left-of s ∙ fed-on _ _ _ _ _ _ _ _ (stepped s) quiet,
+      kept s .places,
+      l .inv .3 ∙ kept s .same,
+      l .inv .4 ∙ left-of s ∙ fed-on _ _ _ _ _ _ _ _ (stepped s) quiet,
     )
 
 same-length-2 : tie.Need-same-length-2 Inv-loop μ-loop
@@ -129,9 +152,9 @@ same-length-2 c = search needs
 returns-3 : tie.Need-returns-3 Inv-loop μ-loop
 returns-3 c =
     let l = c .before .before .loop in
-    let xs = c .before .before .before .before .before .before .before .before .args .samples .now in
+    let xs = c .before .before .before .before .before .before .before .before .before .before .before .args .samples .now in
     let out : length xs ≤ l .fed = search needs in
-    feeds _ _ _ _ _ (rw (c .rebuild2 .ensures) (l .inv .2 ∙ rw (drop-of-length-le xs out) (fed-out _ _ _)))
+    feeds _ _ _ _ _ (rw (c .rebuild2 .ensures) (l .inv .4 ∙ rw (drop-of-length-le xs out) (fed-out _ _ _)))
 
 pub feed-spec : {M : Type 1} → statement M
 feed-spec =
@@ -141,6 +164,7 @@ feed-spec =
     μ-loop
     feed-nothing-requires
     returns
+    halves-agree-requires
     loop-holds
     mul-sample
     shared-slice-copy-out-sample

@@ -11,8 +11,14 @@ use borrow.Author.Needs.{needs}
 use Rattle.demodulator.proofs.SoftDemodulator.reply.Statement.{statement}
 use Rattle.demodulator.proofs.SoftDemodulator.reply.Tie as tie
 
-fit : (c : tie.Else1) → fitForReply 10 (c .before .before .before .before .before .args .t1) ≡ true
-fit c = sym (c .before .fit-for-reply .ensures (c .before .before .before .before .before .args .t1 .«filter_win»)) ∙ not-false _ (c .if1 .left)
+told : (c : tie.After-fit-for-reply) → c .fit-for-reply .result ≡ fitForReply 10 (c .before .before .before .before .before .before .before .args .t1)
+told c = c .fit-for-reply .ensures (c .before .before .before .before .before .before .before .args .t1 .«filter_win») (c .before .before .before .halves-agree .ensures)
+
+fit : (c : tie.Else1) → fitForReply 10 (c .before .before .before .before .before .before .before .before .args .t1) ≡ true
+fit c = sym (told (c .before)) ∙ not-false _ (c .if1 .left)
+
+halves-agree-requires : tie.Need-halves-agree-requires
+halves-agree-requires c κs = search needs
 
 fit-for-reply-requires : tie.Need-fit-for-reply-requires
 fit-for-reply-requires c κs = search needs
@@ -20,13 +26,13 @@ fit-for-reply-requires c κs = search needs
 returns : tie.Need-returns
 returns c =
     let f = c .before in
-    let a = f .before .before .before .before .args in
-    let d = reply-unfit (a .t1) (a .reply) [] (sym (f .fit-for-reply .ensures (a .t1 .«filter_win»)) ∙ not-true _ (c .if1 .taken)) in
+    let a = f .before .before .before .before .before .before .before .args in
+    let d = reply-unfit (a .t1) (a .reply) [] (sym (told f) ∙ not-true _ (c .if1 .taken)) in
     record { answers = rw d; leaves = rw d }
 
 returns-2 : tie.Need-returns-2
 returns-2 c =
-    let a = c .before .before .before .before .before .before .before .args in
+    let a = c .before .before .before .before .before .before .before .before .before .before .args in
     let d = reply-unasked (a .t1) (a .reply) [] (fit (c .before .before)) (not-true _ (c .if2 .taken)) in
     record { answers = rw d; leaves = rw d }
 
@@ -45,4 +51,4 @@ returns-3 c =
 pub reply-spec : {M : Type 1} → statement M
 reply-spec =
     tie.close
-    (tie.spec fit-for-reply-requires returns returns-2 eight-requires replied-requires returns-3)
+    (tie.spec halves-agree-requires fit-for-reply-requires returns returns-2 eight-requires replied-requires returns-3)

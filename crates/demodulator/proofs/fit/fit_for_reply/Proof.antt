@@ -12,15 +12,15 @@ record-fit-requires c κs = search needs
 
 returns : tie.Need-returns
 unfolding fitForReply
-returns c = λ window. rw (tested-unfit _ _ _ _ (c .before .record-fit .ensures) (c .if1 .taken) window (c .before .before .args .rx-win .now))
+returns c = λ window same. rw (tested-unfit _ _ _ _ _ (c .before .record-fit .ensures) window (c .before .before .args .rx-win .now) same (c .if1 .taken))
 
 places-in-range-requires : tie.Need-places-in-range-requires
-places-in-range-requires c κs = (tested-inside _ _ _ _ (c .before .record-fit .ensures) (c .if1 .left), lit≤ tt, lit≤ tt)
+places-in-range-requires c κs = (tested-inside _ _ _ _ _ (c .before .record-fit .ensures) (c .if1 .left), lit≤ tt, lit≤ tt)
 
 returns-2 : tie.Need-returns-2
 unfolding fitForReply
 returns-2 c =
-    λ window. rw (tested-fit _ _ _ _ (c .before .before .record-fit .ensures) (c .before .if1 .left) window (c .before .before .before .args .rx-win .now), c .places-in-range .ensures) (simp add-zero)
+    λ window same. rw (tested-fit _ _ _ _ _ (c .before .before .record-fit .ensures) window (c .before .before .before .args .rx-win .now) same (c .before .if1 .left), c .places-in-range .ensures) (simp add-zero)
 
 pub fit-for-reply-spec : {M : Type 1} → statement M
 fit-for-reply-spec =

@@ -11,18 +11,18 @@ record-fit-requires c κs = search needs
 
 returns : tie.Need-returns
 unfolding fitForSample
-returns c = λ window. rw (tested-unfit _ _ _ _ (c .before .record-fit .ensures) (c .if1 .taken) window (c .before .before .args .rx-win .now))
+returns c = λ window same. rw (tested-unfit _ _ _ _ _ (c .before .record-fit .ensures) window (c .before .before .args .rx-win .now) same (c .if1 .taken))
 
 places-read-requires : tie.Need-places-read-requires
 places-read-requires c κs = search needs
 
 places-in-range-requires : tie.Need-places-in-range-requires
-places-in-range-requires c κs = (tested-inside _ _ _ _ (c .before .before .record-fit .ensures) (c .before .if1 .left), lit≤ tt, rw (c .places-read .ensures) (places-between (c .before .before .before .args .control .wait) .1))
+places-in-range-requires c κs = (tested-inside _ _ _ _ _ (c .before .before .record-fit .ensures) (c .before .if1 .left), lit≤ tt, rw (c .places-read .ensures) (places-between (c .before .before .before .args .control .wait) .1))
 
 returns-2 : tie.Need-returns-2
 unfolding fitForSample
 returns-2 c =
-    λ window. rw (tested-fit _ _ _ _ (c .before .before .before .record-fit .ensures) (c .before .before .if1 .left) window (c .before .before .before .before .args .rx-win .now), c .places-in-range .ensures, c .before .places-read .ensures)
+    λ window same. rw (tested-fit _ _ _ _ _ (c .before .before .before .record-fit .ensures) window (c .before .before .before .before .args .rx-win .now) same (c .before .before .if1 .left), c .places-in-range .ensures, c .before .places-read .ensures)
 
 pub fit-for-sample-spec : {M : Type 1} → statement M
 fit-for-sample-spec =

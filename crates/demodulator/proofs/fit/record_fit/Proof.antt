@@ -9,7 +9,7 @@ control-fit-requires c κs = search needs
 
 returns : tie.Need-returns
 unfolding recordFit
-returns c = λ window ring. rw (c .control-fit .ensures)
+returns c = λ window ring same. rw (c .control-fit .ensures, same)
 
 pub record-fit-spec : {M : Type 1} → statement M
 record-fit-spec = tie.close (tie.spec control-fit-requires returns)

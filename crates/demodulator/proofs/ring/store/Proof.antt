@@ -1,4 +1,8 @@
 -- `store` meets its contract. Assumes nothing.
+use mathlib.Core.Path.{_≡_}
+use Prim.Native.Nat.{_+_, _%_}
+use native.Mathlib.Nat.{mod-eq-of-lt}
+use native.Mathlib.Omega.{arith}
 use mir.Facts.{toZ-ofZ}
 use Rattle.demodulator.specs.Record.{stored}
 use borrow.Author.Needs.{needs}
@@ -10,6 +14,15 @@ mul-sample c = search needs
 
 element-set-from-sample : tie.Need-element-set-from-sample
 element-set-from-sample c = search needs
+
+add-again : tie.Need-add-again
+add-again c = search needs
+
+mul-sample-2 : tie.Need-mul-sample-2
+mul-sample-2 c = search needs
+
+element-set-from-sample-2 : tie.Need-element-set-from-sample-2
+element-set-from-sample-2 c = search needs
 
 add-oldest : tie.Need-add-oldest
 add-oldest c = search needs
@@ -25,7 +38,10 @@ element-write-rx-win c = search needs
 
 returns : tie.Need-returns
 unfolding stored
-returns c = λ control. rw (c .filter-samples .ensures, toZ-ofZ (c .before .before .fits .sample))
+returns c =
+    let a = c .before .before .args in
+    let inside : (a .filter-cursor + 1) % 82 ≡ a .filter-cursor + 1 = mod-eq-of-lt (omega arith) in
+    λ control. rw (c .filter-samples .ensures, toZ-ofZ (c .before .before .fits .sample), inside)
 
 pub store-spec : {M : Type 1} → statement M
 store-spec =
@@ -33,6 +49,9 @@ store-spec =
     (tie.spec
     mul-sample
     element-set-from-sample
+    add-again
+    mul-sample-2
+    element-set-from-sample-2
     add-oldest
     filter-samples-requires
     mul-rx-win

@@ -13,10 +13,10 @@ use Rattle.demodulator.proofs.step.step.Statement.{statement}
 use Rattle.demodulator.proofs.step.step.Tie as tie
 
 fit : (c : tie.Else1) → let a = c .before .before .before .before .args in fitForSample 10 (assembled (a .filter-win .now) (a .places .«filter_cursor») (a .rx-win .now) (a .places .«rx_cursor») (a .control)) ≡ true
-fit c = sym (c .before .fit-for-sample .ensures (c .before .before .before .before .args .filter-win .now)) ∙ not-false _ (c .if1 .left)
+fit c = sym (c .before .fit-for-sample .ensures (c .before .before .before .before .args .filter-win .now) (c .before .before .before .before .pre)) ∙ not-false _ (c .if1 .left)
 
 unfit : (c : tie.Then1) → let a = c .before .before .before .before .args in fitForSample 10 (assembled (a .filter-win .now) (a .places .«filter_cursor») (a .rx-win .now) (a .places .«rx_cursor») (a .control)) ≡ false
-unfit c = sym (c .before .fit-for-sample .ensures (c .before .before .before .before .args .filter-win .now)) ∙ not-true _ (c .if1 .taken)
+unfit c = sym (c .before .fit-for-sample .ensures (c .before .before .before .before .args .filter-win .now) (c .before .before .before .before .pre)) ∙ not-true _ (c .if1 .taken)
 
 fit-for-sample-requires : tie.Need-fit-for-sample-requires
 fit-for-sample-requires c κs = search needs

@@ -1,0 +1,79 @@
+-- `shaping::sum_samples` meets its contract. The loop's invariant: the sum so far is that of the products passed. Assumes nothing.
+use mathlib.Core.Path.{_≡_}
+use Prim.Native.Nat.{_≤_, _-_}
+use native.Mathlib.Omega.{arith}
+use borrow.Author.Needs.{needs, sfits-of}
+use mir.Syntax.{w16}
+use mir.Facts.{toZ-ofZ}
+use lib.IntN.{pos}
+use lib.ListN.{getD}
+use Rattle.shaping.specs.Taps.{taps}
+use Rattle.shaping.specs.Sum.{sampleIn}
+use Rattle.shaping.proofs.Table.{taps-number}
+use Rattle.shaping.proofs.Dot.{soFar, begun, step, ended}
+use Rattle.shaping.proofs.sum_samples.Statement.{statement}
+use Rattle.shaping.proofs.sum_samples.Tie as tie
+
+abbrev Inv-loop : tie.InvT-loop
+Inv-loop part table out₀ i₀ out i = (i ≤ 81) × (out ≡ soFar taps (sampleIn part) i)
+
+abbrev μ-loop : tie.MeasureT-loop
+μ-loop part table out₀ i₀ out i = 81 - i
+
+rrc-48k-requires : tie.Need-rrc-48k-requires Inv-loop μ-loop
+rrc-48k-requires c κs = search needs
+
+loop-holds : tie.Need-loop-holds Inv-loop μ-loop
+loop-holds c = (search needs, begun taps _)
+
+mul-out : tie.Need-mul-out Inv-loop μ-loop
+mul-out c = search needs
+
+array-read-out : tie.Need-array-read-out Inv-loop μ-loop
+array-read-out c = search needs
+
+mul-out-2 : tie.Need-mul-out-2 Inv-loop μ-loop
+mul-out-2 c = search needs
+
+shared-slice-copy-out-out : tie.Need-shared-slice-copy-out-out Inv-loop μ-loop
+shared-slice-copy-out-out c = search needs
+
+int-to-float-out : tie.Need-int-to-float-out Inv-loop μ-loop
+int-to-float-out c = search needs
+
+add-i : tie.Need-add-i Inv-loop μ-loop
+add-i c = search needs
+
+loop-less : tie.Need-loop-less Inv-loop μ-loop
+loop-less c = search needs
+
+loop-again : tie.Need-loop-again Inv-loop μ-loop
+loop-again c =
+    let at-loop = c .before .before .before in
+    let part = at-loop .before .before .args .part .now in
+    let i = at-loop .loop .i in
+    let back = toZ-ofZ {w = w16} {z = getD part i (pos 0)} (sfits-of (c .before .out .given)) in (
+      search needs,
+      step taps (sampleIn part) _ _ _ i (at-loop .before .rrc-48k .ensures) (rw taps-number (search needs)) (rw back) (at-loop .loop .inv .1),
+    )
+
+returns : tie.Need-returns Inv-loop μ-loop
+returns c = ended taps _ _ (c .before .loop .i) (rw taps-number (omega arith)) (c .before .loop .inv .1)
+
+pub sum-samples-spec : {M : Type 1} → statement M
+sum-samples-spec =
+    tie.close
+    (tie.spec
+    Inv-loop
+    μ-loop
+    rrc-48k-requires
+    loop-holds
+    mul-out
+    array-read-out
+    mul-out-2
+    shared-slice-copy-out-out
+    int-to-float-out
+    add-i
+    loop-less
+    loop-again
+    returns)
