@@ -1,6 +1,7 @@
-//! Finds the old Rust text, makes sure that it is the known one, amends it as amendments/ says, and lays ready
-//! in OUT_DIR what src/ includes: modem.rs and shaping.rs whole, and from the other three files whole items, cut
-//! out by name. Nothing of the text is kept in the repository but the lines that an amendment changes.
+//! Finds the old Rust text, makes sure that it is the known one, amends it as amendments/ says, for 24 kHz with
+//! its numbers as rates/ says, and lays ready in OUT_DIR what src/ includes: modem.rs and shaping.rs whole, and
+//! from the other three files whole items, cut out by name. Nothing of the text is kept in the repository but the
+//! lines that an amendment changes.
 
 #[path = "build/amend.rs"]
 mod amend;
@@ -64,11 +65,23 @@ const ITEMS: [(&str, &[(&str, &str)]); 3] = [
     ("protocol.rs", PROTOCOL),
 ];
 
+/// Numbers of 48 kHz that 24 kHz has nowhere in modem.rs.
+const OF_48_KHZ: [&str; 6] = ["81", "480", "1840", "1910", "3840", "4000"];
+
+/// A line, no remark, that still has one of them.
+fn left_over(text: &str) -> Option<&str> {
+    let no_word = |c: char| !c.is_ascii_alphanumeric() && c != '_';
+    text.lines()
+        .filter(|line| !line.trim_start().starts_with("//"))
+        .find(|line| line.split(no_word).any(|word| OF_48_KHZ.contains(&word)))
+}
+
 fn main() {
     println!("cargo:rerun-if-env-changed=M17CORE_SRC");
     println!("cargo:rerun-if-changed=build.rs");
     println!("cargo:rerun-if-changed=build");
     println!("cargo:rerun-if-changed=amendments");
+    println!("cargo:rerun-if-changed=rates");
     println!("cargo:rerun-if-changed=text.sha256");
     if let Err(why) = lay_ready() {
         eprintln!("oracle: {why}");
@@ -80,11 +93,15 @@ fn lay_ready() -> Result<(), String> {
     let oracle = PathBuf::from(variable("CARGO_MANIFEST_DIR")?);
     let out = PathBuf::from(variable("OUT_DIR")?);
     let folder = folder(oracle.parent().ok_or("the oracle lies in no repository")?);
-    let amendments = if env::var_os("CARGO_FEATURE_UNAMENDED").is_some() {
+    let at_24_khz = env::var_os("CARGO_FEATURE_RATE24").is_some();
+    let mut amendments = if env::var_os("CARGO_FEATURE_UNAMENDED").is_some() {
         Vec::new()
     } else {
-        amendments(&oracle.join("amendments"))?
+        listed(&oracle.join("amendments"))?
     };
+    if at_24_khz {
+        amendments.extend(listed(&oracle.join("rates"))?);
+    }
     if let Some((of, a)) = amendments.iter().find(|(_, a)| !FILES.contains(&&*a.file)) {
         return Err(format!("{of}: {} is no file of the text", a.file));
     }
@@ -98,6 +115,11 @@ fn lay_ready() -> Result<(), String> {
         for (of, a) in amendments.iter().filter(|(_, a)| a.file == name) {
             text = amend::amended(&text, a).map_err(|why| format!("{of}: {why}"))?;
         }
+        if at_24_khz && name == "modem.rs" {
+            if let Some(line) = left_over(&text) {
+                return Err(format!("{name} keeps a number of 48 kHz: {line}"));
+            }
+        }
         if let Some((_, items)) = ITEMS.iter().find(|(file, _)| *file == name) {
             text = cut::items(&text, items).map_err(|why| format!("{path}: {why}"))?;
         }
@@ -107,7 +129,7 @@ fn lay_ready() -> Result<(), String> {
 }
 
 /// The amendments of all files of a folder, in the order of the files' names, each with the file's path.
-fn amendments(folder: &Path) -> Result<Vec<(String, Amendment)>, String> {
+fn listed(folder: &Path) -> Result<Vec<(String, Amendment)>, String> {
     let said = |why| format!("{}: {why}", folder.display());
     let mut paths = Vec::new();
     for entry in fs::read_dir(folder).map_err(said)? {

@@ -10,6 +10,8 @@ mod lists;
 mod modem;
 mod protocol;
 mod random;
+#[allow(dead_code)]
+mod rate;
 /// shaping.rs, whole.
 mod shaping {
     include!(concat!(env!("OUT_DIR"), "/shaping.rs"));
@@ -28,7 +30,7 @@ fn main() -> ExitCode {
         ["all", folder] => write_all(Path::new(folder)),
         ["send"] => house::send(),
         ["receive"] => house::receive(),
-        [name] => match lists::ALL.iter().find(|list| list.name == name) {
+        [name] => match lists::lists().find(|list| list.name == name) {
             Some(list) => io::stdout().write_all((list.write)().as_bytes()),
             None => return usage(),
         },
@@ -45,14 +47,14 @@ fn main() -> ExitCode {
 
 fn write_all(folder: &Path) -> io::Result<()> {
     fs::create_dir_all(folder)?;
-    for list in lists::ALL {
+    for list in lists::lists() {
         fs::write(folder.join(format!("{}.txt", list.name)), (list.write)())?;
     }
     Ok(())
 }
 
 fn usage() -> ExitCode {
-    let names: Vec<&str> = lists::ALL.iter().map(|list| list.name).collect();
+    let names: Vec<&str> = lists::lists().map(|list| list.name).collect();
     eprintln!("usage: oracle LIST        writes a list on standard output");
     eprintln!("       oracle all DIR     writes every list to DIR/LIST.txt");
     eprintln!("       oracle send        the program send, done with the old modem");

@@ -4,6 +4,7 @@ use crate::layout::NO_KIND;
 use crate::layout::Words;
 use demodulator::Carrier;
 use demodulator::Heard;
+use demodulator::Made;
 use demodulator::Replied;
 use demodulator::Reply;
 use demodulator::SoftDemodulator;
@@ -71,6 +72,13 @@ fn is_quiet(answer: Heard) -> bool {
     }
 }
 
+fn made(answer: Made) -> Words {
+    match answer {
+        Made::Refused(why) => told(why.number() as u64, 0),
+        Made::Done => told(0, 0),
+    }
+}
+
 fn replied(answer: Replied) -> Words {
     match answer {
         Replied::Refused(why) => told(why.number() as u64, 0),
@@ -114,6 +122,13 @@ fn feed(receiver: SoftDemodulator, samples: &[i16], room: &mut [f32]) {
     layout::put_record(next, heard(answer, 0, after.fed));
 }
 
+fn begin(rate: u32) {
+    let after = SoftDemodulator::new(rate);
+    let answer = after.answer;
+    let next = after.demodulator;
+    layout::put_record(next, made(answer));
+}
+
 fn reply(receiver: SoftDemodulator, accepted: bool) {
     let reply = if accepted {
         Reply::Accepted
@@ -126,7 +141,7 @@ fn reply(receiver: SoftDemodulator, accepted: bool) {
     layout::put_record(next, replied(answer));
 }
 
-// A fresh record, the samples one by one, the samples at once, a reply, and otherwise the carrier query.
+// A fresh record of the given one's rate, the samples one by one, the samples at once, a reply, and otherwise the carrier query.
 pub(crate) fn call(
     number: u64,
     receiver: SoftDemodulator,
@@ -135,7 +150,7 @@ pub(crate) fn call(
     accepted: bool,
 ) {
     if number == FRESH {
-        layout::put_record(SoftDemodulator::new(), told(0, 0));
+        begin(receiver.rate);
     } else if number == LISTEN {
         listen(receiver, samples, room);
     } else if number == FEED {

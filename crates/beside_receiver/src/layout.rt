@@ -1,7 +1,7 @@
-// The receiver's record in bytes: 21 numbers; the candidate's diff, gain and shift and the newest filtered value; the ring's 1,920 values; the window's 162 samples, each twice. The numbers are both
+// The receiver's record in bytes: 22 numbers; the candidate's diff, gain and shift and the newest filtered value; the ring's 1,920 values; the window's 162 places. The numbers are both
 // cursors, the count, the candidate's kind (4 for none), age and taken-at, whether a wait is held, what is left of it, its age and its mark, whether a timer is held and its end, whether a
-// reply is owed; then an answer: the refusal's number or 0, the offered kind or what the carrier query says, the offer's sample, taken-at, age and mark, the carrier after a sample, and how
-// many samples were given, by `feed` how many went in. The numbers end at byte 168, the four floats at 184, the ring at 7,864 and the window at 8,188.
+// reply is owed, the rate; then an answer: the refusal's number or 0, the offered kind or what the carrier query says, the offer's sample, taken-at, age and mark, the carrier after a sample, and how
+// many samples were given, by `feed` how many went in. The numbers end at byte 176, the four floats at 192, the ring at 7,872 and the window at 8,196.
 use demodulator::Candidate;
 use demodulator::Control;
 use demodulator::SoftDemodulator;
@@ -11,7 +11,7 @@ use demodulator::Waiting;
 use libc::STDOUT_FILENO;
 use protocol::Kind;
 ghost use mathlib.Core.Path.{_≡_};
-ghost use Prim.Native.Nat.{_≤_};
+ghost use Prim.Native.Nat.{_<_, _≤_};
 ghost use lib.ListN.{length};
 
 // An answer in numbers.
@@ -49,7 +49,7 @@ pub(crate) fn number_of(kind: Kind) -> u64 {
     }
 }
 
-fn candidate_of(n: [u64; 21], four: [f32; 4]) -> Candidate {
+fn candidate_of(n: [u64; 22], four: [f32; 4]) -> Candidate {
     let kind = n[3];
     let age = n[4] % 256;
     if NO_KIND <= kind {
@@ -65,7 +65,7 @@ fn candidate_of(n: [u64; 21], four: [f32; 4]) -> Candidate {
     }
 }
 
-fn wait_of(n: [u64; 21]) -> Wait {
+fn wait_of(n: [u64; 22]) -> Wait {
     let left = n[7] % 65536;
     let age = n[8] % 256;
     if n[6] == 0 {
@@ -78,14 +78,14 @@ fn wait_of(n: [u64; 21]) -> Wait {
     })
 }
 
-fn timer_of(n: [u64; 21]) -> Timer {
+fn timer_of(n: [u64; 22]) -> Timer {
     if n[10] == 0 {
         return Timer::Off;
     }
     Timer::Until(n[11])
 }
 
-fn control_of(n: [u64; 21], four: [f32; 4]) -> Control {
+fn control_of(n: [u64; 22], four: [f32; 4]) -> Control {
     Control {
         candidate: candidate_of(n, four),
         wait: wait_of(n),
@@ -95,18 +95,23 @@ fn control_of(n: [u64; 21], four: [f32; 4]) -> Control {
     }
 }
 
+fn rate_of(n: [u64; 22]) -> u32 {
+    (n[13] % 0x1_0000_0000) as u32
+}
+
 pub(crate) fn record_of(from: &[u8]) -> SoftDemodulator
-    requires { ⌜ 8188 ≤ length (now from) ⌝ }
+    requires { ⌜ 8196 ≤ length (now from) ⌝ }
 {
-    let mut n = [0u64; 21];
+    let mut n = [0u64; 22];
     wire::numbers(from, &mut n);
     let mut four = [0.0f32; 4];
-    wire::floats(&from[168..], &mut four);
+    wire::floats(&from[176..], &mut four);
     let mut rx_win = [0.0f32; 1920];
-    wire::floats(&from[184..], &mut rx_win);
+    wire::floats(&from[192..], &mut rx_win);
     let mut filter_win = [0i16; 162];
-    wire::samples(&from[7864..], &mut filter_win);
+    wire::samples(&from[7872..], &mut filter_win);
     SoftDemodulator {
+        rate: rate_of(n),
         filter_win,
         filter_cursor: n[0] as usize,
         rx_win,
@@ -213,7 +218,13 @@ fn end_of(timer: Timer) -> u64 {
     }
 }
 
-fn numbers_of(filter_cursor: usize, rx_cursor: usize, control: Control, told: Words) -> [u64; 21] {
+fn numbers_of(
+    rate: u32,
+    filter_cursor: usize,
+    rx_cursor: usize,
+    control: Control,
+    told: Words,
+) -> [u64; 22] {
     let candidate = control.candidate;
     let wait = control.wait;
     let timer = control.dcd;
@@ -231,6 +242,7 @@ fn numbers_of(filter_cursor: usize, rx_cursor: usize, control: Control, told: Wo
         timer_held(timer),
         end_of(timer),
         control.owed as u64,
+        rate as u64,
         told.refusal,
         told.answer,
         told.at,
@@ -242,33 +254,44 @@ fn numbers_of(filter_cursor: usize, rx_cursor: usize, control: Control, told: Wo
     ]
 }
 
+// The ring's place before the cursor.
+fn place_before(rate: u32, cursor: usize) -> usize
+    ensures { λ r. ⌜ r < 1920 ⌝ }
+{
+    if rate == 24_000 {
+        (cursor % 960 + 959) % 960
+    } else {
+        (cursor % 1920 + 1919) % 1920
+    }
+}
+
 // The record up to its rings.
 fn lay_front(to: &mut [u8], m: SoftDemodulator, told: Words)
-    requires { ⌜ 184 ≤ length (now to) ⌝ }
+    requires { ⌜ 192 ≤ length (now to) ⌝ }
     ensures { λ _. ⌜ length (now (to .exit)) ≡ length (now (to .entry)) ⌝ }
 {
     let control = m.control;
     let candidate = control.candidate;
-    let numbers = numbers_of(m.filter_cursor, m.rx_cursor, control, told);
-    let last = (m.rx_cursor % 1920 + 1919) % 1920;
+    let numbers = numbers_of(m.rate, m.filter_cursor, m.rx_cursor, control, told);
+    let last = place_before(m.rate, m.rx_cursor);
     let newest = m.rx_win[last];
     let four = four_of(candidate, newest);
     wire::put_numbers(to, &numbers);
-    wire::put_floats(&mut to[168..], &four);
+    wire::put_floats(&mut to[176..], &four);
 }
 
 fn lay_rings(to: &mut [u8], rx_win: [f32; 1920], filter_win: [i16; 162])
-    requires { ⌜ 8188 ≤ length (now to) ⌝ }
+    requires { ⌜ 8196 ≤ length (now to) ⌝ }
     ensures { λ _. ⌜ length (now (to .exit)) ≡ length (now (to .entry)) ⌝ }
 {
-    wire::put_floats(&mut to[184..], &rx_win);
-    wire::put_samples(&mut to[7864..], &filter_win);
+    wire::put_floats(&mut to[192..], &rx_win);
+    wire::put_samples(&mut to[7872..], &filter_win);
 }
 
 pub(crate) fn put_record(m: SoftDemodulator, told: Words) {
     let rx_win = m.rx_win;
     let filter_win = m.filter_win;
-    let mut bytes = [0u8; 8188];
+    let mut bytes = [0u8; 8196];
     lay_front(&mut bytes, m, told);
     lay_rings(&mut bytes, rx_win, filter_win);
     io::write_all(STDOUT_FILENO, &bytes);
@@ -276,7 +299,7 @@ pub(crate) fn put_record(m: SoftDemodulator, told: Words) {
 
 // What is noted of a sample.
 pub(crate) fn put_front(m: SoftDemodulator, told: Words) {
-    let mut bytes = [0u8; 184];
+    let mut bytes = [0u8; 192];
     lay_front(&mut bytes, m, told);
     io::write_all(STDOUT_FILENO, &bytes);
 }

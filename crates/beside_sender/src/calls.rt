@@ -4,6 +4,7 @@ use crate::layout::Words;
 use crate::room;
 use given_symbols::Traffic;
 use modulator::DelaySteps;
+use modulator::Made;
 use modulator::ModulatorAction;
 use modulator::ModulatorFrame;
 use modulator::Provided;
@@ -57,6 +58,13 @@ fn refused(why: Refusal) -> Words {
     }
 }
 
+fn made(answer: Made) -> Words {
+    match answer {
+        Made::Refused(why) => refused(why),
+        Made::Done => told(0, 0, 0),
+    }
+}
+
 fn provided(answer: Provided) -> Words {
     match answer {
         Provided::Refused(why) => refused(why),
@@ -105,6 +113,14 @@ pub(crate) fn symbols_given(asked: [u64; 4]) -> usize
     }
 }
 
+fn begin(rate: u64) {
+    let named = rate % 0x1_0000_0000;
+    let after = SoftModulator::new(named as u32);
+    let answer = after.answer;
+    let next = after.modulator;
+    layout::put_record(next, made(answer));
+}
+
 fn provide(sender: SoftModulator, asked: [u64; 4], symbols: &[f32]) {
     let after = sender.provide_next_frame(frame_of(asked[1], asked[2]), symbols);
     let answer = after.answer;
@@ -149,7 +165,7 @@ fn run(sender: SoftModulator) {
 pub(crate) fn call(sender: SoftModulator, asked: [u64; 4], symbols: &[f32]) {
     let number = asked[0];
     if number == FRESH {
-        layout::put_record(SoftModulator::new(), told(0, 0, 0));
+        begin(asked[1]);
     } else if number == PROVIDE {
         provide(sender, asked, symbols);
     } else if number == READ {

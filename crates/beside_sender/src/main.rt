@@ -1,6 +1,6 @@
 // The sender as tools/compare asks it, beside the old one: a call for each request on standard input, on the record that comes with it, and on standard output what the call left. All is laid
 // as the library wire lays it, so that whoever asks sees the whole record and can make one up.
-// A request is four numbers, the record, and the symbols that go with a frame. The numbers are the call and, for a frame, its number, its steps and how many symbols there are, 400 at most;
+// A request is four numbers, the record, and the symbols that go with a frame. The numbers are the call and, for a fresh record, its rate; for a frame its number, its steps and how many symbols there are, 400 at most;
 // for a read the size of the room, 130,000 places at most; for an update fill, capacity and latency. An answer is the record, with what the call told, and after a read the room.
 use libc::STDIN_FILENO;
 ghost use Prim.Native.Nat.{_*_, _≤_};
@@ -38,7 +38,7 @@ fn answer_one() -> bool {
     }
     let mut asked = [0u64; 4];
     wire::numbers(&head, &mut asked);
-    let mut record = [0u8; 8444];
+    let mut record = [0u8; 8452];
     io::read_full(STDIN_FILENO, &mut record);
     let given = calls::symbols_given(asked);
     let mut bytes = [0u8; 1600];

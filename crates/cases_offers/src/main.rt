@@ -1,4 +1,4 @@
-// Replays the list `offers`: reads its streams of samples with their scripts of replies, feeds them to the receiver, and writes each line again with the changes that it led to.
+// Replays the list `offers` of both rates: reads its streams of samples with their scripts of replies, feeds them to the receiver, and writes each line again with the changes that it led to.
 mod changes;
 mod stream;
 
@@ -50,6 +50,12 @@ fn script(letters: &[u8]) -> [u8; 16] {
     script
 }
 
+// A stream's line has its name, its rate and the replies.
+fn begun(line: &[u8]) -> Session {
+    let rate = cases_text::decimal(cases_text::word(line, 2)) % 100_000;
+    stream::fresh(rate as u32, script(cases_text::word(line, 3)))
+}
+
 fn put_end(session: Session) {
     let receiver = session.receiver;
     let control = receiver.control;
@@ -72,12 +78,12 @@ fn answer_line(session: Session, line: &[u8]) -> Session {
     } else if check::same(name, b"zeros") {
         feed_zeros(session, cases_text::decimal(cases_text::word(line, 1)))
     } else {
-        stream::fresh(script(cases_text::word(line, 2)))
+        begun(line)
     }
 }
 
 fn replay(text: &[u8]) {
-    let mut session = stream::fresh([b'-'; 16]);
+    let mut session = stream::fresh(48_000, [b'-'; 16]);
     let mut at: usize = 0;
     while at < text.len() {
         let end = bytes::scan::find(text, at, text.len(), b'\n');
@@ -87,10 +93,10 @@ fn replay(text: &[u8]) {
 }
 
 // Room for the streams. Only its length is told, which lending it as a slice needs.
-fn room() -> [u8; 262144]
-    ensures { λ r. ⌜ 262144 ≡ length r ⌝ }
+fn room() -> [u8; 393_216]
+    ensures { λ r. ⌜ 393216 ≡ length r ⌝ }
 {
-    [0; 262144]
+    [0; 393_216]
 }
 
 fn main() {

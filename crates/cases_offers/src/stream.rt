@@ -16,8 +16,9 @@ pub(crate) struct Session {
     pub replies: u64,
 }
 
-pub(crate) fn fresh(script: [u8; 16]) -> Session {
-    let receiver = SoftDemodulator::new();
+pub(crate) fn fresh(rate: u32, script: [u8; 16]) -> Session {
+    let made = SoftDemodulator::new(rate);
+    let receiver = made.demodulator;
     let seen = changes::look_at(receiver);
     Session {
         receiver,

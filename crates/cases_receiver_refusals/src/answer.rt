@@ -22,7 +22,7 @@ fn same_found(a: Found, b: Found) -> bool {
 // Its word; the refusal's number; whether record or room is not as it was; how many samples went in or bytes were taken,
 // with the text that says which; how many of the ring's values are new; how many of the room's first places are written,
 // as many as an offer or a line has, and of those past them; the age of the candidate that is held then, 256 where none is;
-// whether a byte waits; and what an offer reports.
+// whether a byte waits; what an offer reports; and whether a place that the record's rate does not use is not as it was.
 pub(crate) struct Answer {
     pub word: usize,
     pub number: u32,
@@ -35,6 +35,7 @@ pub(crate) struct Answer {
     pub age: u64,
     pub waits: bool,
     pub found: Found,
+    pub unused_changed: bool,
 }
 
 pub(crate) fn same_answer(a: Answer, b: Answer) -> bool {
@@ -50,9 +51,10 @@ pub(crate) fn same_answer(a: Answer, b: Answer) -> bool {
         & (a.age == b.age)
         & (a.waits == b.waits)
         & same_found(found, other)
+        & (a.unused_changed == b.unused_changed)
 }
 
-// The texts that are written, by their places among them; those of a call that is taken and leaves a record come before those of the carrier.
+// The texts that are written, by their places among them; those of a call that is admitted and leaves a record come first.
 pub(crate) const REFUSED: usize = 0;
 
 pub(crate) const QUIET: usize = 1;
@@ -103,9 +105,13 @@ const KEPT: usize = 23;
 
 const MARKED: usize = 24;
 
+pub(crate) const MADE: usize = 25;
+
+const UNUSED_CHANGED: usize = 26;
+
 pub(crate) fn put_text(k: usize) {
     let texts =
-        b"refused|quiet|offered|done|admitted|no|yes|; | in| places| and changed|,| new| written| past|, age||, unchanged|no such call| fed| taken|, a byte waits|, taken at|, kept age|, marked";
+        b"refused|quiet|offered|done|admitted|no|yes|; | in| places| and changed|,| new| written| past|, age||, unchanged|no such call| fed| taken|, a byte waits|, taken at|, kept age|, marked|made|, unused changed";
     io::write_all(1, cases_text::cell(texts, k));
 }
 
@@ -147,6 +153,9 @@ fn put_taken(a: Answer) {
     }
     if !a.changed {
         put_text(UNCHANGED);
+    }
+    if a.unused_changed {
+        put_text(UNUSED_CHANGED);
     }
 }
 

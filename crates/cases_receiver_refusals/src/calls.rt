@@ -1,13 +1,11 @@
 // The receiver's calls on a made-up record.
 use crate::answer;
 use crate::answer::Answer;
-use crate::answer::Found;
 use crate::made;
 use crate::many;
+use crate::said;
+use crate::said::Said;
 use crate::same;
-use demodulator::Carrier;
-use demodulator::Heard;
-use demodulator::Replied;
 use demodulator::Reply;
 use demodulator::SoftDemodulator;
 use std::num::wrapping_add_u64;
@@ -28,54 +26,6 @@ pub(crate) fn written(room: [f32; 200], from: usize, to: usize) -> u64 {
     count
 }
 
-// An answer's word, the number of a refusal, and what an offer reports.
-pub(crate) struct Said {
-    pub word: usize,
-    pub number: u32,
-    pub found: Found,
-}
-
-pub(crate) fn no_offer(word: usize, number: u32) -> Said {
-    Said {
-        word,
-        number,
-        found: answer::nothing_found(),
-    }
-}
-
-pub(crate) fn heard(answer: Heard) -> Said {
-    match answer {
-        Heard::Refused(why) => no_offer(answer::REFUSED, why.number()),
-        Heard::Quiet => no_offer(answer::QUIET, 0),
-        Heard::Offered(offer) => Said {
-            word: answer::OFFERED,
-            number: 0,
-            found: Found {
-                at: offer.taken_at,
-                kept: offer.age as u64,
-                marked: offer.replaced,
-            },
-        },
-    }
-}
-
-fn replied(answer: Replied) -> Said {
-    match answer {
-        Replied::Refused(why) => no_offer(answer::REFUSED, why.number()),
-        Replied::Done => no_offer(answer::DONE, 0),
-    }
-}
-
-fn queried(answer: Carrier) -> Said {
-    match answer {
-        Carrier::Refused(why) => no_offer(answer::REFUSED, why.number()),
-        Carrier::Detected(yes) => {
-            let word = if yes { answer::YES } else { answer::NO };
-            no_offer(word, 0)
-        }
-    }
-}
-
 // The answer of a call that lays so many symbols and leaves another record.
 pub(crate) fn left(
     said: Said,
@@ -89,7 +39,7 @@ pub(crate) fn left(
     let control = after.control;
     let candidate = control.candidate;
     let held = same::held_of(candidate);
-    let new = same::new_values(ring, rings);
+    let new = same::new_values(0, ring, rings);
     let found = said.found;
     Answer {
         word: said.word,
@@ -103,6 +53,7 @@ pub(crate) fn left(
         age: held.age,
         waits: false,
         found,
+        unused_changed: !same::unused_same(before, after),
     }
 }
 
@@ -121,7 +72,7 @@ fn sample(words: &[u8], place: usize) -> Answer {
     let after = m.demod(100, &mut room[..length]);
     let answer = after.answer;
     left(
-        heard(answer),
+        said::heard(answer),
         written(room, 0, 192),
         written(room, 192, 200),
         m,
@@ -133,13 +84,21 @@ fn reply(words: &[u8], place: usize, reply: Reply) -> Answer {
     let m = made::record(words, place);
     let after = m.reply(reply);
     let answer = after.answer;
-    left(replied(answer), 0, 0, m, after.demodulator)
+    left(said::replied(answer), 0, 0, m, after.demodulator)
 }
 
 // The query gives no record back: what it was given is what it leaves.
 fn carrier(words: &[u8], place: usize) -> Answer {
     let m = made::record(words, place);
-    left(queried(m.data_carrier_detect()), 0, 0, m, m)
+    left(said::queried(m.data_carrier_detect()), 0, 0, m, m)
+}
+
+// A fresh record of the line's rate: there is none before it to be kept.
+fn begin(words: &[u8]) -> Answer {
+    let begun = SoftDemodulator::new(made::rate(words));
+    let answer = begun.answer;
+    let m = begun.demodulator;
+    left(said::begun(answer), 0, 0, m, m)
 }
 
 // A word that names no call.
@@ -156,12 +115,13 @@ fn unknown() -> Answer {
         age: 256,
         waits: false,
         found: answer::nothing_found(),
+        unused_changed: false,
     }
 }
 
 // The answer to a call on the record that the words make up, their value in this place of the ring.
 pub(crate) fn called(words: &[u8], call: &[u8], place: usize) -> Answer {
-    let which = cases_text::place_behind(b"sample accept reject carrier feed rest hear", call);
+    let which = cases_text::place_behind(b"sample accept reject carrier feed rest hear new", call);
     if which == 1 {
         return sample(words, place);
     }
@@ -182,6 +142,9 @@ pub(crate) fn called(words: &[u8], call: &[u8], place: usize) -> Answer {
     }
     if which == 7 {
         return many::hear(words, place);
+    }
+    if which == 8 {
+        return begin(words);
     }
     unknown()
 }

@@ -1,4 +1,5 @@
 // Made-up records: a fit one, which holds nothing, owes nothing and has taken a thousand samples, but for the parts that a line names.
+use crate::layout;
 use demodulator::Candidate;
 use demodulator::Control;
 use demodulator::SoftDemodulator;
@@ -6,84 +7,23 @@ use demodulator::Timer;
 use demodulator::Wait;
 use demodulator::Waiting;
 use protocol::Kind;
+ghost use Prim.Native.Nat.{_≤_};
 
-// A value of its own in so many places, which lie ten apart, back from the first, and others elsewhere; with 1,920 there are no others, and none of the values can move unseen.
-fn laid(others: f32, but: usize, from: usize) -> [f32; 1920] {
-    let newest = from % 1920;
-    let mut ring = [others; 1920];
-    let mut own: f32 = 0.0;
-    let mut place: usize = 0;
-    while place < 1920 {
-        let back = (newest + 1920 - place) % 1920;
-        if (1920 <= but) | ((back % 10 == 0) & (back / 10 < but)) {
-            ring[place] = own;
-        }
-        own = own + 1.0;
-        place += 1;
-    }
-    ring
+// The line's rate, 48,000 if it is not named.
+pub(crate) fn rate(words: &[u8]) -> u32 {
+    let named = cases_text::count_behind(words, b"rate", 48000) % 0x1_0000_0000;
+    named as u32
 }
 
-fn plain_ring(words: &[u8], place: usize) -> [f32; 1920] {
+fn plain_ring(words: &[u8], p: usize, place: usize) -> [f32; 1920]
+    requires { ⌜ p ≤ 10 ⌝ }
+{
     let others = cases_text::float_behind(words, b"others", 0.0);
     let but = cases_text::count_behind(words, b"but", 1920) as usize;
-    let mut ring = laid(others, but, place);
+    let mut ring = layout::laid(p, others, but, place);
     let at = place % 1920;
     ring[at] = cases_text::float_behind(words, b"value", ring[at]);
     ring
-}
-
-// The LSF's word, 55F7, in the first eight places that a window reads, for the gain 20 and the shift 5.
-fn headed(word: bool, plain: [f32; 1920]) -> [f32; 1920] {
-    let mut ring = plain;
-    if word {
-        ring[10] = 25.0;
-        ring[20] = 25.0;
-        ring[30] = 25.0;
-        ring[40] = 25.0;
-        ring[50] = -15.0;
-        ring[60] = -15.0;
-        ring[70] = 25.0;
-        ring[80] = -15.0;
-    }
-    ring
-}
-
-// A burst lays seven values of the LSF's in the places that a sample searches.
-fn ring(burst: bool, plain: [f32; 1920]) -> [f32; 1920] {
-    let mut ring = plain;
-    if burst {
-        ring[1850] = 32.0;
-        ring[1860] = 32.0;
-        ring[1870] = 32.0;
-        ring[1880] = 32.0;
-        ring[1890] = -32.0;
-        ring[1900] = -32.0;
-        ring[1910] = 32.0;
-    }
-    ring
-}
-
-// Each sample twice. Beside the LSF's seven values the middle tap brings the eighth.
-fn window(burst: bool) -> [i16; 162] {
-    let mut window = [0i16; 162];
-    if burst {
-        window[41] = -89;
-        window[122] = -89;
-    } else {
-        window[7] = 12345;
-        window[88] = 12345;
-    }
-    window
-}
-
-// One sample more in this place, but not in that of its other half; past the window there is none.
-fn unlike(plain: [i16; 162], place: u64) -> [i16; 162] {
-    let mut window = plain;
-    if place < 162 {
-        window[place as usize] = 1;
-    }
-    window
 }
 
 fn kind(words: &[u8]) -> Kind {
@@ -145,17 +85,30 @@ fn control(words: &[u8]) -> Control {
 }
 
 // With the value that the words name, if any, in this place of the ring; where they name others, the places that those leave out lie back from it.
-pub(crate) fn record(words: &[u8], place: usize) -> SoftDemodulator {
+fn laid_out(words: &[u8], place: usize) -> SoftDemodulator {
+    let rate = rate(words);
+    let p = layout::samples_in(rate);
     let burst = cases_text::names(words, b"burst");
     let word = cases_text::names(words, b"word");
+    let headed = layout::headed(p, word, plain_ring(words, p, place));
     SoftDemodulator {
-        filter_win: unlike(
-            window(burst),
+        rate,
+        filter_win: layout::unlike(
+            layout::window(p, burst),
             cases_text::count_behind(words, b"unlike", 162),
         ),
         filter_cursor: cases_text::count_behind(words, b"filter_cursor", 0) as usize,
-        rx_win: ring(burst, headed(word, plain_ring(words, place))),
+        rx_win: layout::searched(p, burst, headed),
         rx_cursor: cases_text::count_behind(words, b"ring_cursor", 0) as usize,
         control: control(words),
     }
+}
+
+// A fresh record of the line's rate, whatever it is, or one that the words lay out.
+pub(crate) fn record(words: &[u8], place: usize) -> SoftDemodulator {
+    if cases_text::names(words, b"fresh") {
+        let begun = SoftDemodulator::new(rate(words));
+        return begun.demodulator;
+    }
+    laid_out(words, place)
 }

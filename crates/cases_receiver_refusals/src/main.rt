@@ -1,9 +1,13 @@
-// What the receiver refuses and what it still takes, on made-up records. A line of the table has three cells, between them bars: the phrase of document 01 that decides it, the record in words, and the calls in words, each made on that same record. The line is written again, and after one more bar the answers to its calls. The expected answers are written by hand from document 01, by the phrase in the first cell.
+// What the receiver refuses and what it still admits, on made-up records. A line of the table has three cells, between them bars: the phrase of
+// document 01 or 02 that decides it, the record in words, and the calls in words, each made on that same record. The line is written again, and
+// after one more bar the answers to its calls. The expected answers are written by hand from the documents, by the phrase in the first cell.
 mod answer;
 mod calls;
+mod layout;
 mod made;
 mod many;
 mod places;
+mod said;
 mod same;
 
 // The calls from the second on. Words are counted from 1, since the space after a bar ends an empty one.

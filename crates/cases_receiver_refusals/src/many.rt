@@ -2,8 +2,9 @@
 use crate::answer;
 use crate::answer::Answer;
 use crate::calls;
-use crate::calls::Said;
 use crate::made;
+use crate::said;
+use crate::said::Said;
 use demodulator::SoftDemodulator;
 use receiving::Odd;
 use receiving::Receipt;
@@ -40,6 +41,7 @@ fn counted(plain: Answer, text: usize, count: u64) -> Answer {
         age: plain.age,
         waits: plain.waits,
         found,
+        unused_changed: plain.unused_changed,
     }
 }
 
@@ -59,7 +61,7 @@ fn fed(m: SoftDemodulator, count: usize, length: usize) -> AfterFeed
     let answer = after.answer;
     let next = after.demodulator;
     let plain = calls::left(
-        calls::heard(answer),
+        said::heard(answer),
         calls::written(room, 0, 192),
         calls::written(room, 192, 200),
         m,
@@ -101,8 +103,8 @@ pub(crate) fn rest(words: &[u8], place: usize) -> Answer {
 
 fn admitted(answer: Receipt) -> Said {
     match answer {
-        Receipt::Refused(why) => calls::no_offer(answer::REFUSED, why.number()),
-        Receipt::Admitted => calls::no_offer(answer::ADMITTED, 0),
+        Receipt::Refused(why) => said::no_offer(answer::REFUSED, why.number()),
+        Receipt::Admitted => said::no_offer(answer::ADMITTED, 0),
     }
 }
 
@@ -149,6 +151,7 @@ fn with_odd(plain: Answer, before: u64, after: u64) -> Answer {
         age: plain.age,
         waits: after < 256,
         found,
+        unused_changed: plain.unused_changed,
     }
 }
 

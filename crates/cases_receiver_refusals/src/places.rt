@@ -2,17 +2,20 @@
 use crate::answer;
 use crate::answer::Answer;
 use crate::calls;
+use crate::layout;
+use crate::made;
 use std::num::wrapping_add_u64;
 
-// In how many of so many places, ten apart, back from the first, the value in that place only brings this answer.
+// In how many of so many places, a symbol apart, back from the first, the value in that place only brings this answer.
 fn alike(answer: Answer, words: &[u8], call: &[u8], from: usize, places: u64) -> u64 {
+    let p = layout::samples_in(made::rate(words));
     let mut place = from;
     let mut alike: u64 = 0;
     let mut j: u64 = 0;
     while j < places {
         let same = answer::same_answer(answer, calls::called(words, call, place));
         alike = wrapping_add_u64(alike, same as u64);
-        place = (place % 1920 + 1910) % 1920;
+        place = layout::symbol_before(p, place % 1920);
         j += 1;
     }
     alike

@@ -1,4 +1,5 @@
 // What is as it was.
+use crate::layout;
 use demodulator::Candidate;
 use demodulator::Control;
 use demodulator::SoftDemodulator;
@@ -7,10 +8,10 @@ use demodulator::Wait;
 use protocol::Kind;
 use std::num::wrapping_add_u64;
 
-// How many of the ring's places hold another value.
-pub(crate) fn new_values(a: [f32; 1920], b: [f32; 1920]) -> u64 {
+// How many of the ring's places from `from` on hold another value.
+pub(crate) fn new_values(from: usize, a: [f32; 1920], b: [f32; 1920]) -> u64 {
     let mut count: u64 = 0;
-    let mut i: usize = 0;
+    let mut i = from;
     while i < 1920 {
         let new = !cases_text::same_float(a[i], b[i]);
         count = wrapping_add_u64(count, new as u64);
@@ -19,9 +20,10 @@ pub(crate) fn new_values(a: [f32; 1920], b: [f32; 1920]) -> u64 {
     count
 }
 
-fn same_window(a: [i16; 162], b: [i16; 162]) -> bool {
+// From `from` on.
+fn same_window(from: usize, a: [i16; 162], b: [i16; 162]) -> bool {
     let mut all = true;
-    let mut i: usize = 0;
+    let mut i = from;
     while i < 162 {
         all = all & (a[i] == b[i]);
         i += 1;
@@ -129,8 +131,19 @@ fn same_control(a: Control, b: Control) -> bool {
 pub(crate) fn same_rest(a: SoftDemodulator, b: SoftDemodulator) -> bool {
     let window = a.filter_win;
     let windows = b.filter_win;
-    (a.filter_cursor == b.filter_cursor)
+    (a.rate == b.rate)
+        & (a.filter_cursor == b.filter_cursor)
         & (a.rx_cursor == b.rx_cursor)
-        & same_window(window, windows)
+        & same_window(0, window, windows)
         & same_control(a.control, b.control)
+}
+
+// The places of window and ring that lie past those of the rate.
+pub(crate) fn unused_same(a: SoftDemodulator, b: SoftDemodulator) -> bool {
+    let p = layout::samples_in(a.rate);
+    let window = a.filter_win;
+    let windows = b.filter_win;
+    let ring = a.rx_win;
+    let rings = b.rx_win;
+    same_window(16 * p + 2, window, windows) & (new_values(192 * p, ring, rings) == 0)
 }

@@ -2,6 +2,7 @@
 use modulator::EndReport;
 use modulator::ModulatorAction;
 use modulator::SoftModulator;
+ghost use Prim.Native.Nat.{_≤_};
 
 // What stands in each place of the room before a read.
 pub(crate) const UNWRITTEN: i16 = 12345;
@@ -54,11 +55,19 @@ pub(crate) fn put_action(action: ModulatorAction) {
     }
 }
 
+// The places of the window that a rate uses.
+fn window_places(rate: u32) -> usize
+    ensures { λ r. ⌜ r ≤ 81 ⌝ }
+{
+    if rate == 24000 { 41 } else { 81 }
+}
+
 pub(crate) fn put_window(m: SoftModulator) {
     cases_text::put_count(m.filter_cursor as u64);
     let window = m.filter_win;
+    let places = window_places(m.rate);
     let mut i: usize = 0;
-    while i < 81 {
+    while i < places {
         cases_text::put_float(window[i]);
         i += 1;
     }

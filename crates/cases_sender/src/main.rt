@@ -1,4 +1,4 @@
-// Replays the list `sender`: reads the calls of its sessions, makes them on the sender, and writes each line again with the answer and what the sender keeps.
+// Replays the list `sender` of both rates: reads the calls of its sessions, makes them on the sender, and writes each line again with the answer and what the sender keeps.
 mod answers;
 mod calls;
 
@@ -36,12 +36,19 @@ fn answer(m: SoftModulator, line: &[u8]) -> SoftModulator {
     }
 }
 
+// A session's line has its name and its rate.
+fn begun(line: &[u8]) -> SoftModulator {
+    let rate = cases_text::decimal(cases_text::word(line, 2)) % 100_000;
+    let made = SoftModulator::new(rate as u32);
+    made.modulator
+}
+
 // A line that names a session starts afresh.
 fn answer_line(m: SoftModulator, line: &[u8]) -> SoftModulator {
     io::write_all(1, line);
     if check::same(cases_text::word(line, 0), b"session") {
         cases_text::end_line();
-        return SoftModulator::new();
+        return begun(line);
     }
     io::write_all(1, b" =");
     let next = answer(m, line);
@@ -51,7 +58,7 @@ fn answer_line(m: SoftModulator, line: &[u8]) -> SoftModulator {
 }
 
 fn replay(text: &[u8]) {
-    let mut m = SoftModulator::new();
+    let mut m = begun(text);
     let mut at: usize = 0;
     while at < text.len() {
         let end = bytes::scan::find(text, at, text.len(), b'\n');
@@ -61,10 +68,10 @@ fn replay(text: &[u8]) {
 }
 
 // Room for the whole list. Only its length is told, which lending it as a slice needs.
-fn list_room() -> [u8; 131_072]
-    ensures { λ r. ⌜ 131072 ≡ length r ⌝ }
+fn list_room() -> [u8; 262_144]
+    ensures { λ r. ⌜ 262144 ≡ length r ⌝ }
 {
-    [0; 131_072]
+    [0; 262_144]
 }
 
 fn main() {

@@ -1,4 +1,5 @@
 // A call's answer: its words, the number and the place that go with them, whether a refusal changed anything, and what stands in the room of a read.
+use modulator::Made;
 use modulator::ModulatorAction;
 use modulator::Provided;
 use modulator::Read;
@@ -61,6 +62,14 @@ fn refused(why: Refusal, kept: bool) -> Answer {
         place: why.place(),
         changed: !kept,
         room: [UNWRITTEN; 16],
+    }
+}
+
+// There is no record before it to be kept.
+pub(crate) fn of_new(answer: Made) -> Answer {
+    match answer {
+        Made::Refused(why) => refused(why, true),
+        Made::Done => plain(DONE, 0),
     }
 }
 

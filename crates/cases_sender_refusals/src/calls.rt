@@ -118,9 +118,21 @@ fn ran(m: SoftModulator) -> Left {
     }
 }
 
+// A fresh record of the line's rate.
+fn begun(parts: &[u8]) -> Left {
+    let left = SoftModulator::new(made::rate(parts));
+    let answer = left.answer;
+    let after = left.modulator;
+    Left {
+        answer: answer::of_new(answer),
+        after,
+    }
+}
+
 // The calls by their places in this list, the looks at a record and the turn among them; 0 for any other word.
 pub(crate) fn number(name: &[u8]) -> usize {
-    let list = b"none preamble symbols end read update action shown first turn bert-preamble bert";
+    let list =
+        b"none preamble symbols end read update action shown first turn bert-preamble bert new";
     cases_text::place_behind(list, name)
 }
 
@@ -142,6 +154,7 @@ pub(crate) fn called(before: SoftModulator, parts: &[u8], call: usize, place: us
         5 => read(m, parts),
         6 => updated(m, parts),
         7 => ran(m),
+        13 => begun(parts),
         _ => provided(m, parts, frame(call)),
     }
 }

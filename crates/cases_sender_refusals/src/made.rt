@@ -35,10 +35,12 @@ pub(crate) const TO_LATENCY: usize = 24;
 
 pub(crate) const SECOND_PLACE: usize = 26;
 
+const RATE: usize = 28;
+
 // The number that a line names, or else the fit line's. It has the counts of the fit record, and then the operands of the calls.
 pub(crate) fn count(parts: &[u8], place: usize) -> usize {
     let fit =
-        b"cursor 3 length 8 read_place 2 padding 5 fill 100 capacity 200 latency 30 given 192 place 0 room 16 to_fill 0 to_capacity 2000 to_latency 0 second_place 0";
+        b"cursor 3 length 8 read_place 2 padding 5 fill 100 capacity 200 latency 30 given 192 place 0 room 16 to_fill 0 to_capacity 2000 to_latency 0 second_place 0 rate 48000";
     let name = cases_text::word(fit, place);
     let own = cases_text::count_behind(fit, name, 0);
     cases_text::count_behind(parts, name, own) as usize
@@ -119,8 +121,14 @@ fn buffer(parts: &[u8]) -> OutputBuffer {
     }
 }
 
+pub(crate) fn rate(parts: &[u8]) -> u32 {
+    let named = count(parts, RATE) % 0x1_0000_0000;
+    named as u32
+}
+
 fn record(parts: &[u8], place: usize) -> SoftModulator {
     SoftModulator {
+        rate: rate(parts),
         next_transmission: store(),
         filter_win: window(parts, place),
         filter_cursor: count(parts, CURSOR),
@@ -130,11 +138,17 @@ fn record(parts: &[u8], place: usize) -> SoftModulator {
     }
 }
 
+// Of the line's rate, whatever it is.
+fn fresh(parts: &[u8]) -> SoftModulator {
+    let left = SoftModulator::new(rate(parts));
+    left.modulator
+}
+
 // The record that the line before left, a fresh one, or a made-up one. The cell begins with a space.
 pub(crate) fn start(before: SoftModulator, parts: &[u8], place: usize) -> SoftModulator {
     match cases_text::place_behind(b"then fresh", cases_text::word(parts, 1)) {
         1 => before,
-        2 => SoftModulator::new(),
+        2 => fresh(parts),
         _ => record(parts, place),
     }
 }

@@ -64,7 +64,8 @@ pub(crate) fn same(a: SoftModulator, b: SoftModulator) -> bool {
     let other_store = b.next_transmission;
     let window = a.filter_win;
     let other_window = b.filter_win;
-    same_store(store, other_store)
+    (a.rate == b.rate)
+        & same_store(store, other_store)
         & same_window(window, other_window)
         & (a.filter_cursor == b.filter_cursor)
         & same_progress(a.progress, b.progress)

@@ -1,25 +1,50 @@
 // The list `filters`: the samples of each run go into a window of its own, and each line is written again with the filtered value.
+ghost use Prim.Native.Nat.{_<_, _≤_};
 
+// The samples in a symbol are `p`.
 struct Window {
+    p: usize,
     samples: [i16; 162],
     oldest: usize,
 }
 
-fn fresh() -> Window {
+fn fresh(p: usize) -> Window {
     Window {
+        p,
         samples: [0i16; 162],
         oldest: 0,
     }
 }
 
-// The newest sample takes the oldest's two places, 81 apart.
+// A line that names a run has its name and its rate.
+fn begun(line: &[u8]) -> Window {
+    let rate = cases_text::decimal(cases_text::word(line, 2));
+    fresh(if rate == 24_000 { 5 } else { 10 })
+}
+
+// The samples that a window keeps, each twice.
+fn places_of(p: usize) -> usize
+    ensures { λ r. ⌜ (1 ≤ r) × (r ≤ 81) ⌝ }
+{
+    if p == 10 { 81 } else { 41 }
+}
+
+fn place_in(places: usize, oldest: usize) -> usize
+    requires { ⌜ 1 ≤ places ⌝ }
+    ensures { λ r. ⌜ r < places ⌝ }
+{
+    if oldest < places { oldest } else { 0 }
+}
+
+// The newest sample takes the oldest's two places.
 fn fed(window: Window, sample: i16) -> Window {
     let mut next = window;
-    let at = next.oldest % 81;
-    let again = at + 81;
+    let places = places_of(next.p);
+    let at = place_in(places, next.oldest);
+    let again = at + places;
     next.samples[at] = sample;
     next.samples[again] = sample;
-    next.oldest = (at + 1) % 81;
+    next.oldest = at + 1;
     next
 }
 
@@ -28,11 +53,12 @@ fn answer_line(window: Window, line: &[u8]) -> Window {
     io::write_all(1, line);
     if cases_text::begins(line, b'r') {
         cases_text::end_line();
-        return fresh();
+        return begun(line);
     }
     let next = fed(window, cases_text::sample(line));
+    let p = next.p;
     let oldest = next.oldest;
-    let value = shaping::filter_samples(&next.samples, oldest);
+    let value = shaping::filter_samples(p, &next.samples, oldest);
     io::write_all(1, b" =");
     cases_text::put_float(value);
     cases_text::end_line();
@@ -40,7 +66,7 @@ fn answer_line(window: Window, line: &[u8]) -> Window {
 }
 
 pub(crate) fn replay(text: &[u8]) {
-    let mut window = fresh();
+    let mut window = fresh(10);
     let mut at: usize = 0;
     while at < text.len() {
         let end = bytes::scan::find(text, at, text.len(), b'\n');

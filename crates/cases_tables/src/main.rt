@@ -1,4 +1,4 @@
-// Writes the lists `taps`, `bursts` and `frames` from the port's tables, and replays the list `filters`.
+// Writes the lists `taps` of both rates, `bursts` and `frames` from the port's tables, and replays the list `filters` of both rates.
 use protocol::Kind;
 use protocol::SyncBurst;
 
@@ -10,10 +10,11 @@ fn put_tap(i: usize, tap: f32) {
     cases_text::end_line();
 }
 
-fn put_taps() {
-    let taps = shaping::rrc_48k();
-    for i in 0..81 {
+fn put_taps(taps: &[f32]) {
+    let mut i: usize = 0;
+    while i < taps.len() {
         put_tap(i, taps[i]);
+        i += 1;
     }
 }
 
@@ -35,7 +36,10 @@ fn put_frame(name: &[u8], symbols: [f32; 192]) {
 }
 
 fn main() {
-    put_taps();
+    let taps = shaping::rrc_48k();
+    let half = shaping::rrc_24k();
+    put_taps(&taps);
+    put_taps(&half);
     put_burst(b"preamble", SyncBurst::Preamble);
     put_burst(b"end", SyncBurst::EndOfTransmission);
     put_burst(b"lsf", SyncBurst::Frame(Kind::Lsf));

@@ -10,9 +10,9 @@ use lib.IntN.{ℤ}
 use lib.ListN.{length, getD, drop}
 use lib.Ieee.{Float}
 use Rattle.numbers.proofs.Answer.{same-answer}
-use Rattle.shaping.specs.Rate.{Rate, at48}
+use Rattle.shaping.specs.Rate.{Rate, rateFit, samplesIn, rateAt, rateOf}
 use Rattle.protocol.specs.declared.Refusal.{Refusal}
-use Rattle.protocol.specs.declared.Refusal.the-variants.{RecordUnfit}
+use Rattle.protocol.specs.declared.Refusal.the-variants.{RecordUnfit, WrongRate}
 use Rattle.protocol.specs.Refusals.{PaperRefusal, onPaper}
 use Rattle.search.specs.Turn.{Outcome, quiet, offer, sampled}
 use Rattle.search.proofs.AgeInPass.{by-test}
@@ -22,9 +22,10 @@ use Rattle.demodulator.specs.declared.Heard.the-variants.{Refused, Quiet
 use Rattle.demodulator.specs.declared.AfterStretch.{AfterStretch}
 use Rattle.demodulator.specs.Spans.{eight}
 use Rattle.demodulator.specs.Record.{back, stored}
-use Rattle.demodulator.specs.Fit.{recordFit, fitForSample}
-use Rattle.demodulator.specs.Calls.{Paper, refusal, nothing, frame, done, carrier, Left, refused, finished, admittedBy, heardPaper, demodulated, demod-says}
+use Rattle.demodulator.specs.Fit.{unfitNumber, recordFit, fitForSample}
+use Rattle.demodulator.specs.Calls.{Paper, refusal, nothing, frame, done, carrier, Left, refused, finished, admittedBy, heardPaper, demodulated, demod-at}
 use Rattle.demodulator.specs.Feed.{Stretch, stopsBefore, goesOn, fedFrom, fed, sampleSaid, sampleNext, sampleRoom, fedInto, isQuiet, wentIn, toldAfter, feed-says, FeedsNothing}
+use Rattle.demodulator.proofs.CallCases.{sample-other-rate}
 use Rattle.demodulator.proofs.OnlyAnswer.{once, heard, heard-back}
 
 -- the samples from one of them on
@@ -38,19 +39,19 @@ drop-at (suc i) (x ∷ xs) d l = drop-at i xs d (le-of-suc-le-suc l)
 abbrev Unmoved : SoftDemodulator → List Float → Left → Type 0
 Unmoved m room l = (number : PaperRefusal) → l .answer ≡ refusal number → (l .demodulator ≡ m) × (l .room ≡ room)
 
-finished-unmoved : (m n : SoftDemodulator) (room : List Float) (o : Outcome) → Unmoved m room (finished 10 n room o)
-finished-unmoved m n room (quiet c) number e = let z : _≡_ {A = ℕ} 0 1 = cc in absurd (omega arith)
-finished-unmoved m n room (offer shown c) number e = let z : _≡_ {A = ℕ} 0 1 = cc in absurd (omega arith)
+finished-unmoved : (p : ℕ) (m n : SoftDemodulator) (room : List Float) (o : Outcome) → Unmoved m room (finished p n room o)
+finished-unmoved p m n room (quiet c) number e = let z : _≡_ {A = ℕ} 0 1 = cc in absurd (omega arith)
+finished-unmoved p m n room (offer shown c) number e = let z : _≡_ {A = ℕ} 0 1 = cc in absurd (omega arith)
 
-pub refused-unmoved : (m : SoftDemodulator) (x : ℤ) (room : List Float) → Unmoved m room (demodulated at48 m x room)
+pub refused-unmoved : (R : Rate) (m : SoftDemodulator) (x : ℤ) (room : List Float) → Unmoved m room (demodulated R m x room)
 unfolding demodulated admittedBy
-refused-unmoved m x room =
+refused-unmoved R m x room =
     let c = m .control in
-    by-test (Unmoved m room) (not (fitForSample 10 m)) (refused 1 m room) _ (λ e number r. (refl, refl)) λ e.
+    by-test (Unmoved m room) (not (fitForSample (R .p) m)) (refused (unfitNumber m) m room) _ (λ e number r. (refl, refl)) λ e.
     by-test (Unmoved m room) (c .owed) (refused 2 m room) _ (λ e number r. (refl, refl)) λ e.
     by-test (Unmoved m room) (ltb (length room) 192) (refused 4 m room) _ (λ e number r. (refl, refl)) λ e.
     by-test (Unmoved m room) (eqb (c .sample) (2 ^ 63)) (refused 5 m room) _ (λ e number r. (refl, refl)) λ e.
-    finished-unmoved m (stored at48 m x) room (sampled 10 (eight 10 (back 10 (stored at48 m x))) c)
+    finished-unmoved (R .p) m (stored R m x) room (sampled (R .p) (eight (R .p) (back (R .p) (stored R m x))) c)
 
 -- ---- by a sample's answer
 -- whatever holds of the stretch that stops before it, of the one that ends with it and of the rest holds of what is picked
@@ -74,33 +75,33 @@ stops : (b : Bool) (why : Refusal) → heardPaper (cond b (Refused why) Quiet) �
 stops true why = refl
 stops false why = refl
 
-module _ (m : SoftDemodulator) (x : ℤ) (xs : List ℤ) (room : List Float) (n : ℕ) (m′ : SoftDemodulator) (room′ : List Float) where
+module _ (R : Rate) (m : SoftDemodulator) (x : ℤ) (xs : List ℤ) (room : List Float) (n : ℕ) (m′ : SoftDemodulator) (room′ : List Float) where
   -- by the answer that the step gave
-  turned : (answer : Heard) → demod-says m x room (record { answer = answer; demodulator = m′ }) room′
-      → restFrom at48 n m (x ∷ xs) room ≡ goesOn (heardPaper answer) (stopsBefore (heardPaper answer) n m room) (record { answer = heardPaper answer; fed = n + 1; state = m′; room = room′ }) (restFrom at48 (n + 1) m′ xs room′)
+  turned : (answer : Heard) → demod-at R m x room (record { answer = answer; demodulator = m′ }) room′
+      → restFrom R n m (x ∷ xs) room ≡ goesOn (heardPaper answer) (stopsBefore (heardPaper answer) n m room) (record { answer = heardPaper answer; fed = n + 1; state = m′; room = room′ }) (restFrom R (n + 1) m′ xs room′)
   unfolding fedFrom
   turned answer says = rw (says .answers, says .leaves, says .writes)
 
-  pub fed-on : (answer : Heard) → demod-says m x room (record { answer = answer; demodulator = m′ }) room′ → isQuiet answer ≡ true → restFrom at48 n m (x ∷ xs) room ≡ restFrom at48 (n + 1) m′ xs room′
+  pub fed-on : (answer : Heard) → demod-at R m x room (record { answer = answer; demodulator = m′ }) room′ → isQuiet answer ≡ true → restFrom R n m (x ∷ xs) room ≡ restFrom R (n + 1) m′ xs room′
   unfolding goesOn
   fed-on (Refused why) says e = absurd (subst T (sym e) tt)
   fed-on Quiet says e = (turned Quiet says)
   fed-on (Offered o) says e = absurd (subst T (sym e) tt)
 
-  pub fed-ends : (answer : Heard) → demod-says m x room (record { answer = answer; demodulator = m′ }) room′ → isQuiet answer ≡ false → restFrom at48 n m (x ∷ xs) room ≡ ends n answer m′ room′
+  pub fed-ends : (answer : Heard) → demod-at R m x room (record { answer = answer; demodulator = m′ }) room′ → isQuiet answer ≡ false → restFrom R n m (x ∷ xs) room ≡ ends n answer m′ room′
   unfolding goesOn
   fed-ends (Refused why) says e =
       let none : n + 0 ≡ n = omega arith in
-      let stays = refused-unmoved m x room _ (sym (says .answers)) in
+      let stays = refused-unmoved R m x room _ (sym (says .answers)) in
       let same : m′ ≡ m = says .leaves ∙ stays .0 in
       let same-room : room′ ≡ room = says .writes ∙ stays .1 in
       rw (same, same-room, none, stops (eqb n 0) why) (turned (Refused why) says)
   fed-ends Quiet says e = absurd (subst T e tt)
   fed-ends (Offered o) says e = (turned (Offered o) says)
 
-pub fed-out : (n : ℕ) (m : SoftDemodulator) (room : List Float) → restFrom at48 n m [] room ≡ record { answer = heardPaper Quiet; fed = n; state = m; room = room }
+pub fed-out : (R : Rate) (n : ℕ) (m : SoftDemodulator) (room : List Float) → restFrom R n m [] room ≡ record { answer = heardPaper Quiet; fed = n; state = m; room = room }
 unfolding fedFrom
-fed-out n m room = refl
+fed-out R n m room = refl
 
 -- where there is a sample
 pub fed-some : (R : Rate) (m : SoftDemodulator) (xs : List ℤ) (room : List Float) → 0 < length xs → fedInto R m xs room ≡ restFrom R 0 m xs room
@@ -114,13 +115,16 @@ one-at-most Quiet = lit≤ tt
 one-at-most (Offered o) = lit≤ tt
 
 -- ---- the promise
-pub feeds : (m : SoftDemodulator) (xs : List ℤ) (room : List Float) (r : AfterStretch) (after : List Float) → fedInto at48 m xs room ≡ record { answer = heardPaper (r .answer); fed = r .fed; state = r .demodulator; room = after } → feed-says m xs room r after
-feeds m xs room r after e = record {
-  answers = sym (ap (λ (s : Stretch SoftDemodulator). s .answer) e);
-  counts = sym (ap (λ (s : Stretch SoftDemodulator). s .fed) e);
-  leaves = sym (ap (λ (s : Stretch SoftDemodulator). s .state) e);
-  writes = sym (ap (λ (s : Stretch SoftDemodulator). s .room) e);
-}
+pub feeds : (p : ℕ) (m : SoftDemodulator) → p ≡ samplesIn (m .rate) → (xs : List ℤ) (room : List Float) (r : AfterStretch) (after : List Float)
+    → fedInto (rateAt p) m xs room ≡ record { answer = heardPaper (r .answer); fed = r .fed; state = r .demodulator; room = after } → feed-says m xs room r after
+feeds p m own xs room r after s =
+    let e = rw own at s in
+    record {
+      answers = sym (ap (λ (f : Stretch SoftDemodulator). f .answer) e);
+      counts = sym (ap (λ (f : Stretch SoftDemodulator). f .fed) e);
+      leaves = sym (ap (λ (f : Stretch SoftDemodulator). f .state) e);
+      writes = sym (ap (λ (f : Stretch SoftDemodulator). f .room) e);
+    }
 
 pub feed-only-answer : (m : SoftDemodulator) (xs : List ℤ) (room : List Float) (r s : AfterStretch) (after other : List Float) → feed-says m xs room r after → feed-says m xs room s other → (r ≡ s) × (after ≡ other)
 feed-only-answer m xs room r s after other p q =
@@ -130,14 +134,23 @@ feed-only-answer m xs room r s after other p q =
     (λ i. record { answer = answers i; fed = counts i; demodulator = leaves i }, same-answer (p .writes) (q .writes))
 
 -- no sample is given
-module _ (m : SoftDemodulator) where
-  pub nothing-unfit : recordFit 10 m ≡ false → FeedsNothing m (record { answer = Refused RecordUnfit; fed = 0; demodulator = m })
+module _ (p : ℕ) (m : SoftDemodulator) (known : rateFit (m .rate) ≡ true) (own : p ≡ samplesIn (m .rate)) where
+  pub nothing-unfit : recordFit p m ≡ false → FeedsNothing m (record { answer = Refused RecordUnfit; fed = 0; demodulator = m })
   unfolding fed
-  nothing-unfit e room = record { answers = rw e; counts = refl; leaves = refl; writes = refl }
+  nothing-unfit e room = record { answers = rw (rw own at e, known); counts = refl; leaves = refl; writes = refl }
 
-  pub nothing-fed : recordFit 10 m ≡ true → FeedsNothing m (record { answer = Quiet; fed = 0; demodulator = m })
+  pub nothing-fed : recordFit p m ≡ true → FeedsNothing m (record { answer = Quiet; fed = 0; demodulator = m })
   unfolding fed
-  nothing-fed e room = record { answers = rw e; counts = refl; leaves = refl; writes = refl }
+  nothing-fed e room = record { answers = rw (rw own at e); counts = refl; leaves = refl; writes = refl }
+
+-- a rate that is none: the stretch is refused, whatever it gives
+pub feeds-other-rate : (m : SoftDemodulator) → rateFit (m .rate) ≡ false → (xs : List ℤ) (room : List Float) → feed-says m xs room (record { answer = Refused WrongRate; fed = 0; demodulator = m }) room
+unfolding fed recordFit
+feeds-other-rate m other [] room = record { answers = rw other; counts = refl; leaves = refl; writes = refl }
+feeds-other-rate m other (x ∷ xs) room =
+    let d = sample-other-rate (rateOf (m .rate)) m x room other in
+    feeds (samplesIn (m .rate)) m refl (x ∷ xs) room _ room
+    (fed-ends (rateOf (m .rate)) m x xs room 0 m room (Refused WrongRate) (record { answers = rw d; leaves = rw d; writes = rw d }) refl)
 
 pub feeds-nothing : (m : SoftDemodulator) (xs : List ℤ) (room : List Float) (r : AfterStretch) → length xs ≡ 0 → FeedsNothing m r → feed-says m xs room r room
 feeds-nothing m [] room r e says = says room

@@ -1,18 +1,18 @@
 -- What a fit record is known to be, clause by clause. Assumes nothing.
-use mathlib.Core.List.{List, [], _∷_}
-use mathlib.Core.Path.{_≡_, refl, sym, _∙_}
-use mathlib.Core.Bool.{Bool, true, false, not, cond}
+use mathlib.Core.List.{List}
+use mathlib.Core.Path.{_≡_, sym, _∙_}
+use mathlib.Core.Bool.{Bool, true, false, not, _&&_, cond}
 use Prim.Native.Nat.{ℕ, _+_, _-_, _*_, _≤_, _<_}
 use native.Mathlib.Nat.{lt-of-lt-of-le}
 use lib.Dec.{T, ltb, eqb, ltb→lt, lit≤}
 use borrow.Author.Tests.{not-true, not-false}
-use lib.IntN.{ℤ, pos}
+use lib.IntN.{ℤ}
 use lib.Ieee.{Float}
 use lib.Ieee.Bits.{is-true}
 use Rattle.numbers.specs.Below.{allBelow}
 use Rattle.numbers.proofs.Tests.{holds}
 use Rattle.numbers.proofs.Below.{all-below}
-use Rattle.shaping.specs.Rate.{tapCount, ringPlaces}
+use Rattle.shaping.specs.Rate.{rateFit, tapCount, ringPlaces}
 use Rattle.decode.specs.Correlator.{inRange}
 use Rattle.search.specs.declared.Waiting.{Waiting}
 use Rattle.search.specs.declared.Wait.{Wait}
@@ -27,6 +27,7 @@ use Rattle.demodulator.specs.Parts.{TestsRecord}
 
 -- ---- the facts
 pub record RecordFacts (p : ℕ) (m : SoftDemodulator) : Type 0 where
+  pub rate : rateFit (m .rate) ≡ true
   pub halves : halvesAgree p (m .«filter_win») ≡ true
   pub window-cursor : m .«filter_cursor» < tapCount p
   pub ring-cursor : m .«rx_cursor» < ringPlaces p
@@ -35,10 +36,12 @@ pub record RecordFacts (p : ℕ) (m : SoftDemodulator) : Type 0 where
 pub record-facts : (p : ℕ) (m : SoftDemodulator) → recordFit p m ≡ true → RecordFacts p m
 unfolding recordFit
 record-facts p m e =
-    let all = both (ringsFit p m) (controlFit p (m .control)) (holds e) in
-    let rings = both (halvesAgree p (m .«filter_win»)) (cursorsFit p m) (all .0) in
+    let all = both (rateFit (m .rate) && ringsFit p m) (controlFit p (m .control)) (holds e) in
+    let own = both (rateFit (m .rate)) (ringsFit p m) (all .0) in
+    let rings = both (halvesAgree p (m .«filter_win»)) (cursorsFit p m) (own .1) in
     let cursors = both (ltb (m .«filter_cursor») (tapCount p)) (ltb (m .«rx_cursor») (ringPlaces p)) (rings .1) in
     record {
+      rate = is-true (rateFit (m .rate)) (own .0);
       halves = is-true (halvesAgree p (m .«filter_win»)) (rings .0);
       window-cursor = ltb→lt (m .«filter_cursor») (tapCount p) (cursors .0);
       ring-cursor = ltb→lt (m .«rx_cursor») (ringPlaces p) (cursors .1);
@@ -46,22 +49,23 @@ record-facts p m e =
     }
 
 -- ---- what code knows once it has tested a record by its parts
--- either outcome of the halves' test is some window's
-window-for : (b : Bool) → (w : List ℤ) × (b ≡ halvesAgree 10 w)
-unfolding halvesAgree allBelow
-window-for true = ([], refl)
-window-for false = (pos 1 ∷ [], refl)
+module _ (p : ℕ) (halves : Bool) (windowCursor ringCursor : ℕ) (c : Control) (r : Bool) (tests : TestsRecord p halves windowCursor ringCursor c r) where
+  module _ (rate : ℕ) (window : List ℤ) (ring : List Float) (known : rateFit rate ≡ true) (same : halves ≡ halvesAgree p window) where
+    tested : recordFit p (assembled rate window windowCursor ring ringCursor c) ≡ r
+    unfolding recordFit
+    tested = rw (known, sym same) (sym tests)
 
-module _ (halves : Bool) (windowCursor ringCursor : ℕ) (c : Control) (r : Bool) (tests : TestsRecord halves windowCursor ringCursor c r) where
-  module _ (window : List ℤ) (ring : List Float) (same : halves ≡ halvesAgree 10 window) where
-    pub tested-unfit : not r ≡ true → recordFit 10 (assembled window windowCursor ring ringCursor c) ≡ false
-    tested-unfit e = sym (tests window ring same) ∙ not-true r e
+    pub tested-unfit : not r ≡ true → recordFit p (assembled rate window windowCursor ring ringCursor c) ≡ false
+    tested-unfit e = tested ∙ not-true r e
 
-    pub tested-fit : not r ≡ false → recordFit 10 (assembled window windowCursor ring ringCursor c) ≡ true
-    tested-fit e = sym (tests window ring same) ∙ not-false r e
+    pub tested-fit : not r ≡ false → recordFit p (assembled rate window windowCursor ring ringCursor c) ≡ true
+    tested-fit e = tested ∙ not-false r e
 
-  pub tested-inside : not r ≡ false → ringCursor < 1920
-  tested-inside e = let w = window-for halves in record-facts 10 (assembled (w .0) windowCursor [] ringCursor c) (tested-fit (w .0) [] (w .1) e) .ring-cursor
+  pub tested-inside : not r ≡ false → ringCursor < ringPlaces p
+  tested-inside e =
+      let all = both (halves && (ltb windowCursor (tapCount p) && ltb ringCursor (ringPlaces p))) (controlFit p c) (holds (sym tests ∙ not-false r e)) in
+      let rings = both halves (ltb windowCursor (tapCount p) && ltb ringCursor (ringPlaces p)) (all .0) in
+      ltb→lt ringCursor (ringPlaces p) (both (ltb windowCursor (tapCount p)) (ltb ringCursor (ringPlaces p)) (rings .1) .1)
 
 -- ---- the values that a call would read
 either : (b : Bool) → (7 ≤ cond b 191 7) × (cond b 191 7 ≤ 191)

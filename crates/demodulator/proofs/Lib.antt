@@ -1,4 +1,6 @@
 -- The laws of the receiver's record and of its calls. Assumes nothing.
+-- a place brought back into its ring
+pub mod Wrap
 -- the ring's reader, and what a store does to it
 pub mod Readers
 -- the window that keeps each sample twice

@@ -3,25 +3,41 @@
 use mathlib.Core.Path.{_≡_, refl, sym, ap, _∙_}
 use mathlib.Core.Bool.{false}
 use mathlib.Core.List.{List}
+use Prim.Native.Nat.{ℕ}
 use lib.IntN.{ℤ}
 use lib.Ieee.{Float}
 use Rattle.numbers.proofs.Answer.{same-answer}
 use Rattle.protocol.proofs.Numbers.{numbered, numbered-back}
 use Rattle.search.specs.declared.Reply.{Reply}
 use Rattle.demodulator.specs.declared.SoftDemodulator.{SoftDemodulator}
+use Rattle.demodulator.specs.declared.Made.{Made}
+use Rattle.demodulator.specs.declared.Made.the-variants.{Refused as MakeRefused, Done as Begun}
 use Rattle.demodulator.specs.declared.Heard.{Heard}
 use Rattle.demodulator.specs.declared.Heard.the-variants.{Refused as HeardRefused, Quiet, Offered}
 use Rattle.demodulator.specs.declared.Replied.{Replied}
 use Rattle.demodulator.specs.declared.Replied.the-variants.{Refused as ReplyRefused, Done}
 use Rattle.demodulator.specs.declared.Carrier.{Carrier}
 use Rattle.demodulator.specs.declared.Carrier.the-variants.{Refused as CarrierRefused, Detected}
+use Rattle.demodulator.specs.declared.AfterNew.{AfterNew}
 use Rattle.demodulator.specs.declared.AfterSample.{AfterSample}
 use Rattle.demodulator.specs.declared.AfterReply.{AfterReply}
-use Rattle.demodulator.specs.Calls.{Paper, refusal, nothing, frame, done, carrier, heardPaper, repliedPaper, carrierPaper, new-says, demod-says, reply-says, data-carrier-detect-says}
+use Rattle.demodulator.specs.Calls.{Paper, refusal, nothing, frame, done, carrier, madePaper, heardPaper, repliedPaper, carrierPaper, new-says, demod-says, reply-says, data-carrier-detect-says}
 
 -- ---- the answer of which the paper writes this
 pub once : {A B : Type 0} (paper : A → B) (unwritten : B → A) → ((r : A) → unwritten (paper r) ≡ r) → (r s : A) → paper r ≡ paper s → r ≡ s
 once paper unwritten back r s e = sym (back r) ∙ ap unwritten e ∙ back s
+
+made-as : Paper → Made
+made-as (refusal n) = MakeRefused (numbered n)
+made-as nothing = Begun
+made-as (frame o) = Begun
+made-as done = Begun
+made-as (carrier there) = Begun
+
+made-back : (r : Made) → made-as (madePaper r) ≡ r
+unfolding made-as
+made-back (MakeRefused why) = ap MakeRefused (numbered-back why)
+made-back Begun = refl
 
 pub heard : Paper → Heard
 heard (refusal n) = HeardRefused (numbered n)
@@ -61,8 +77,11 @@ detected-back (CarrierRefused why) = ap CarrierRefused (numbered-back why)
 detected-back (Detected there) = refl
 
 -- ---- the calls
-pub new-only-answer : (r s : SoftDemodulator) → new-says r → new-says s → r ≡ s
-new-only-answer r s = same-answer
+pub new-only-answer : (rate : ℕ) (r s : AfterNew) → new-says rate r → new-says rate s → r ≡ s
+new-only-answer rate r s p q =
+    let answers = once madePaper made-as made-back (r .answer) (s .answer) (same-answer (p .answers) (q .answers)) in
+    let leaves : r .demodulator ≡ s .demodulator = same-answer (p .leaves) (q .leaves) in
+    λ i. record { answer = answers i; demodulator = leaves i }
 
 pub demod-only-answer : (m : SoftDemodulator) (x : ℤ) (room : List Float) (r s : AfterSample) (after other : List Float) → demod-says m x room r after → demod-says m x room s other → (r ≡ s) × (after ≡ other)
 demod-only-answer m x room r s after other p q =

@@ -6,13 +6,13 @@ use Prim.Native.Nat.{ℕ, _+_}
 use lib.Dec.{eqb}
 use lib.IntN.{ℤ}
 use lib.Ieee.{Float}
-use Rattle.shaping.specs.Rate.{Rate, at48}
+use Rattle.shaping.specs.Rate.{Rate, rateOf}
 use Rattle.protocol.specs.Refusals.{bare}
 use Rattle.demodulator.specs.declared.SoftDemodulator.{SoftDemodulator}
 use Rattle.demodulator.specs.declared.Heard.{Heard}
 use Rattle.demodulator.specs.declared.Heard.the-variants.{Refused, Quiet, Offered}
 use Rattle.demodulator.specs.declared.AfterStretch.{AfterStretch}
-use Rattle.demodulator.specs.Fit.{recordFit}
+use Rattle.demodulator.specs.Fit.{unfitNumber, recordFit}
 use Rattle.demodulator.specs.Calls.{Paper, refusal, nothing, frame, done, carrier, heardPaper, demodulated}
 
 -- what a stretch leaves: its answer, how many samples went in, the receiver and the room
@@ -46,11 +46,10 @@ module _ (S : Type 0) (said : S → ℤ → List Float → Paper) (next : S → 
       (record { answer = said s x room; fed = n + 1; state = next s x room; room = after s x room })
       (fedFrom (n + 1) (next s x room) xs (after s x room))
 
-  -- "a call that gives neither tests no filtered value": an empty stretch gives no sample, and is refused with 1 where the receiver
-  -- is unfit even so
-  unfoldable pub fed : (S → Bool) → S → List ℤ → List Float → Stretch S
-  fed fit s [] room = record { answer = cond (fit s) nothing (refusal (bare 1)); fed = 0; state = s; room = room }
-  fed fit s (x ∷ xs) room = fedFrom 0 s (x ∷ xs) room
+  -- "a call that gives neither tests no filtered value": an empty stretch gives no sample, and what it is answered with is given
+  unfoldable pub fed : (S → Paper) → S → List ℤ → List Float → Stretch S
+  fed none s [] room = record { answer = none s; fed = 0; state = s; room = room }
+  fed none s (x ∷ xs) room = fedFrom 0 s (x ∷ xs) room
 
 -- ---- the record
 abbrev pub sampleSaid : Rate → SoftDemodulator → ℤ → List Float → Paper
@@ -62,8 +61,12 @@ sampleNext R m x room = demodulated R m x room .demodulator
 abbrev pub sampleRoom : Rate → SoftDemodulator → ℤ → List Float → List Float
 sampleRoom R m x room = demodulated R m x room .room
 
+-- no sample: quiet, or refused where the receiver is unfit even so
+abbrev pub emptySaid : ℕ → SoftDemodulator → Paper
+emptySaid p m = cond (recordFit p m) nothing (refusal (bare (unfitNumber m)))
+
 abbrev pub fedInto : Rate → SoftDemodulator → List ℤ → List Float → Stretch SoftDemodulator
-fedInto R = fed SoftDemodulator (sampleSaid R) (sampleNext R) (sampleRoom R) (recordFit (R .p))
+fedInto R = fed SoftDemodulator (sampleSaid R) (sampleNext R) (sampleRoom R) (emptySaid (R .p))
 
 -- ---- an answer, as the code looks at it
 abbrev pub isQuiet : Heard → Bool
@@ -83,10 +86,10 @@ toldAfter n (Offered o) = Offered o
 
 -- ---- what the function promises
 pub record feed-says (m : SoftDemodulator) (xs : List ℤ) (room : List Float) (r : AfterStretch) (after : List Float) : Type 0 where
-  pub answers : heardPaper (r .answer) ≡ fedInto at48 m xs room .answer
-  pub counts : r .fed ≡ fedInto at48 m xs room .fed
-  pub leaves : r .demodulator ≡ fedInto at48 m xs room .state
-  pub writes : after ≡ fedInto at48 m xs room .room
+  pub answers : heardPaper (r .answer) ≡ fedInto (rateOf (m .rate)) m xs room .answer
+  pub counts : r .fed ≡ fedInto (rateOf (m .rate)) m xs room .fed
+  pub leaves : r .demodulator ≡ fedInto (rateOf (m .rate)) m xs room .state
+  pub writes : after ≡ fedInto (rateOf (m .rate)) m xs room .room
 
 abbrev pub FeedsNothing : SoftDemodulator → AfterStretch → Type 0
 FeedsNothing m r = (room : List Float) → feed-says m [] room r room

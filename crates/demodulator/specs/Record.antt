@@ -17,8 +17,10 @@ abbrev pub freshControl : Control
 freshControl = record { candidate = Nothing; wait = Free; dcd = Off; owed = false; sample = 0 }
 
 -- "Samples before the first are 0. F(k) is 0.0 for k below 1."
-unfoldable pub fresh : SoftDemodulator
-fresh = record {
+-- The arrays have the lengths of 48 kHz at either rate.
+unfoldable pub fresh : ℕ → SoftDemodulator
+fresh rate = record {
+  rate = rate;
   «filter_win» = replicate (windowPlaces (at48 .p)) (pos 0);
   «filter_cursor» = 0;
   «rx_win» = replicate (ringPlaces (at48 .p)) (ofBits binary32 0);
@@ -28,6 +30,7 @@ fresh = record {
 
 abbrev pub withControl : Control → SoftDemodulator → SoftDemodulator
 withControl c m = record {
+  rate = m .rate;
   «filter_win» = m .«filter_win»;
   «filter_cursor» = m .«filter_cursor»;
   «rx_win» = m .«rx_win»;
@@ -36,8 +39,9 @@ withControl c m = record {
 }
 
 -- a record by its parts, for functions that are lent the window and the ring
-abbrev pub assembled : List ℤ → ℕ → List Float → ℕ → Control → SoftDemodulator
-assembled window windowCursor ring ringCursor c = record {
+abbrev pub assembled : ℕ → List ℤ → ℕ → List Float → ℕ → Control → SoftDemodulator
+assembled rate window windowCursor ring ringCursor c = record {
+  rate = rate;
   «filter_win» = window;
   «filter_cursor» = windowCursor;
   «rx_win» = ring;
@@ -67,6 +71,7 @@ filteredAfter R m x = dot (R .taps) (sampleFrom (windowAfter (R .p) m x) (m .«f
 
 unfoldable pub stored : Rate → SoftDemodulator → ℤ → SoftDemodulator
 stored R m x = record {
+  rate = m .rate;
   «filter_win» = windowAfter (R .p) m x;
   «filter_cursor» = (m .«filter_cursor» + 1) % tapCount (R .p);
   «rx_win» = set (m .«rx_win») (m .«rx_cursor») (filteredAfter R m x);

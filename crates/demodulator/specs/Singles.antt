@@ -2,7 +2,7 @@
 use mathlib.Core.List.{List, []}
 use lib.IntN.{ℤ}
 use lib.Ieee.{Float}
-use Rattle.shaping.specs.Rate.{Rate}
+use Rattle.shaping.specs.Rate.{Rate, rateOf}
 use Rattle.search.specs.declared.Reply.{Reply}
 use Rattle.demodulator.specs.declared.SoftDemodulator.{SoftDemodulator}
 use Rattle.demodulator.specs.Calls.{Paper, Left, demodulated, answered, detected}
@@ -18,11 +18,15 @@ pub record Said : Type 0 where
   pub answer : Paper
   pub room : List Float
 
--- one call on a record; a query leaves the record as it was
-unfoldable pub left : Rate → SoftDemodulator → Single → Left
-left R m (sample x room) = demodulated R m x room
-left R m (reply r) = answered (R .p) m r []
-left R m query = record { answer = detected (R .p) m; demodulator = m; room = [] }
+-- one call on a record at a rate; a query leaves the record as it was
+unfoldable pub leftAt : Rate → SoftDemodulator → Single → Left
+leftAt R m (sample x room) = demodulated R m x room
+leftAt R m (reply r) = answered (R .p) m r []
+leftAt R m query = record { answer = detected (R .p) m; demodulator = m; room = [] }
+
+-- at its own, as the functions promise
+abbrev pub left : SoftDemodulator → Single → Left
+left m c = leftAt (rateOf (m .rate)) m c
 
 -- what the caller sees of it, besides the record
 abbrev pub saidBy : Left → Said

@@ -8,6 +8,8 @@ use crate::step::Places;
 use protocol::Refusal;
 use search::Control;
 ghost use mathlib.Core.Path.{_≡_};
+ghost use mathlib.Core.Bool.{true};
+ghost use Rattle.shaping.specs.Rate.{rateFit, samplesIn};
 ghost use Rattle.demodulator.specs.Record.{assembled};
 ghost use Rattle.demodulator.specs.Feed.{isQuiet, wentIn, toldAfter, FeedsNothing, feed-says};
 
@@ -44,12 +46,14 @@ fn tell(answer: Heard, fed: usize) -> Heard
 }
 
 // No sample is given, so no filtered value is tested.
-fn feed_nothing(demodulator: SoftDemodulator) -> AfterStretch
+fn feed_nothing(p: usize, demodulator: SoftDemodulator) -> AfterStretch
+    requires { ⌜ (rateFit (demodulator .rate) ≡ true) × (p ≡ samplesIn (demodulator .rate)) ⌝ }
     ensures { λ r. ⌜ FeedsNothing demodulator r ⌝ }
 {
     let control = demodulator.control;
-    let halves = fit::halves_agree(&demodulator.filter_win);
+    let halves = fit::halves_agree(p, &demodulator.filter_win);
     if !fit::record_fit(
+        p,
         halves,
         demodulator.filter_cursor,
         demodulator.rx_cursor,
@@ -69,14 +73,16 @@ fn feed_nothing(demodulator: SoftDemodulator) -> AfterStretch
 }
 
 fn rebuild(
+    rate: u32,
     filter_win: [i16; 162],
     rx_win: [f32; 1920],
     places: Places,
     control: Control,
 ) -> SoftDemodulator
-    ensures { λ r. ⌜ r ≡ assembled «filter_win» (places .«filter_cursor») «rx_win» (places .«rx_cursor») control ⌝ }
+    ensures { λ r. ⌜ r ≡ assembled rate «filter_win» (places .«filter_cursor») «rx_win» (places .«rx_cursor») control ⌝ }
 {
     SoftDemodulator {
+        rate,
         filter_win,
         filter_cursor: places.filter_cursor,
         rx_win,
@@ -91,10 +97,19 @@ impl SoftDemodulator {
     pub fn feed(self, samples: &[i16], room: &mut [f32]) -> AfterStretch
         ensures { λ r. ⌜ feed-says self (now (samples .entry)) (now (room .entry)) r (now (room .exit)) ⌝ }
     {
-        if samples.len() == 0 {
-            return feed_nothing(self);
+        let rate = self.rate;
+        if !shaping::is_rate(rate) {
+            return AfterStretch {
+                answer: Heard::Refused(Refusal::WrongRate),
+                fed: 0,
+                demodulator: self,
+            };
         }
-        let halves = fit::halves_agree(&self.filter_win);
+        let p = shaping::samples_in(rate);
+        if samples.len() == 0 {
+            return feed_nothing(p, self);
+        }
+        let halves = fit::halves_agree(p, &self.filter_win);
         let mut filter_win = self.filter_win;
         let mut rx_win = self.rx_win;
         let mut control = self.control;
@@ -106,6 +121,7 @@ impl SoftDemodulator {
         while fed < samples.len() {
             let sample = samples[fed];
             let stepped = step::step(
+                p,
                 &mut filter_win,
                 &mut rx_win,
                 places,
@@ -123,7 +139,7 @@ impl SoftDemodulator {
                 return AfterStretch {
                     answer: tell(answer, fed),
                     fed: count,
-                    demodulator: rebuild(filter_win, rx_win, places, control),
+                    demodulator: rebuild(rate, filter_win, rx_win, places, control),
                 };
             }
             fed += 1;
@@ -131,7 +147,7 @@ impl SoftDemodulator {
         AfterStretch {
             answer: Heard::Quiet,
             fed,
-            demodulator: rebuild(filter_win, rx_win, places, control),
+            demodulator: rebuild(rate, filter_win, rx_win, places, control),
         }
     }
 }

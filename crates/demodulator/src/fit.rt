@@ -3,17 +3,21 @@ use crate::ring;
 use search::Control;
 use search::Wait;
 ghost use mathlib.Core.Path.{_≡_};
+ghost use Prim.Native.Nat.{_≤_};
+ghost use Rattle.shaping.specs.Rate.{Known};
 ghost use Rattle.demodulator.specs.Fit.{halvesAgree, placesRead};
 ghost use Rattle.demodulator.specs.Parts.{TestsRecord, TestsForSample, TestsForReply};
 
-// Whether the window's two halves are the same. All 81 pairs are compared, whatever the first ones are: so several are compared at a time.
-pub(crate) fn halves_agree(filter_win: &[i16; 162]) -> bool
-    ensures { λ r. ⌜ r ≡ halvesAgree 10 (now («filter_win» .entry)) ⌝ }
+// Whether the window's two halves are the same. All pairs, 81 or 41, are compared, whatever the first ones are: so several are compared at a time.
+pub(crate) fn halves_agree(p: usize, filter_win: &[i16; 162]) -> bool
+    requires { ⌜ p ≤ 10 ⌝ }
+    ensures { λ r. ⌜ r ≡ halvesAgree p (now («filter_win» .entry)) ⌝ }
 {
+    let count = 8 * p + 1;
     let mut all = true;
     let mut i: usize = 0;
-    while i < 81 {
-        let again = i + 81;
+    while i < count {
+        let again = i + count;
         all = all & (filter_win[i] == filter_win[again]);
         i += 1;
     }
@@ -22,14 +26,19 @@ pub(crate) fn halves_agree(filter_win: &[i16; 162]) -> bool
 
 // All but the filtered values.
 pub(crate) fn record_fit(
+    p: usize,
     halves: bool,
     filter_cursor: usize,
     rx_cursor: usize,
     control: Control,
 ) -> bool
-    ensures { λ r. ⌜ TestsRecord halves «filter_cursor» «rx_cursor» control r ⌝ }
+    requires { ⌜ p ≤ 10 ⌝ }
+    ensures { λ r. ⌜ TestsRecord p halves «filter_cursor» «rx_cursor» control r ⌝ }
 {
-    halves & ((filter_cursor < 81) & (rx_cursor < 1920)) & search::control_fit(control)
+    let symbol = p as u8;
+    halves
+        & ((filter_cursor < 8 * p + 1) & (rx_cursor < 192 * p))
+        & search::control_fit(symbol, control)
 }
 
 // How many filtered values a sample could read besides its own: those of a search, or of a window that is due.
@@ -43,33 +52,38 @@ fn places_read(wait: Wait) -> usize
 }
 
 pub(crate) fn fit_for_sample(
+    p: usize,
     halves: bool,
     rx_win: &[f32; 1920],
     filter_cursor: usize,
     rx_cursor: usize,
     control: Control,
 ) -> bool
-    ensures { λ r. ⌜ TestsForSample halves (now («rx_win» .entry)) «filter_cursor» «rx_cursor» control r ⌝ }
+    requires { ⌜ Known p ⌝ }
+    ensures { λ r. ⌜ TestsForSample p halves (now («rx_win» .entry)) «filter_cursor» «rx_cursor» control r ⌝ }
 {
-    if !record_fit(halves, filter_cursor, rx_cursor, control) {
+    if !record_fit(p, halves, filter_cursor, rx_cursor, control) {
         return false;
     }
     let wait = control.wait;
     let count = places_read(wait);
-    ring::places_in_range(rx_win, rx_cursor, 9, count)
+    let newest = p - 1;
+    ring::places_in_range(p, rx_win, rx_cursor, newest, count)
 }
 
 pub(crate) fn fit_for_reply(
+    p: usize,
     halves: bool,
     rx_win: &[f32; 1920],
     filter_cursor: usize,
     rx_cursor: usize,
     control: Control,
 ) -> bool
-    ensures { λ r. ⌜ TestsForReply halves (now («rx_win» .entry)) «filter_cursor» «rx_cursor» control r ⌝ }
+    requires { ⌜ Known p ⌝ }
+    ensures { λ r. ⌜ TestsForReply p halves (now («rx_win» .entry)) «filter_cursor» «rx_cursor» control r ⌝ }
 {
-    if !record_fit(halves, filter_cursor, rx_cursor, control) {
+    if !record_fit(p, halves, filter_cursor, rx_cursor, control) {
         return false;
     }
-    ring::places_in_range(rx_win, rx_cursor, 0, 8)
+    ring::places_in_range(p, rx_win, rx_cursor, 0, 8)
 }

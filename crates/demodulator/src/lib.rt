@@ -1,4 +1,4 @@
-// The receiver: SoftDemodulator of the Rust's modem.rs as a record by value. Samples go in one by one, and windows of 192 symbols are offered to the caller, who replies.
+// The receiver: SoftDemodulator of the Rust's modem.rs as a record by value, which says its rate in samples a second. Samples go in one by one, and windows of 192 symbols are offered to the caller, who replies.
 use protocol::Kind;
 use protocol::Refusal;
 use step::Places;
@@ -16,7 +16,9 @@ pub use search::Timer;
 pub use search::Wait;
 pub use search::Waiting;
 
+// At 24 kHz the first 82 places of the window and the first 960 of the ring are used.
 pub struct SoftDemodulator {
+    pub rate: u32,
     pub filter_win: [i16; 162],
     pub filter_cursor: usize,
     pub rx_win: [f32; 1920],
@@ -33,6 +35,12 @@ pub struct Offer {
     pub taken_at: u64,
     pub age: u8,
     pub replaced: bool,
+}
+
+// What comes of asking for a fresh record.
+pub enum Made {
+    Refused(Refusal),
+    Done,
 }
 
 // What a sample is answered with.
@@ -54,6 +62,11 @@ pub enum Carrier {
 }
 
 // An answer, and the record that the next call is given.
+pub struct AfterNew {
+    pub answer: Made,
+    pub demodulator: SoftDemodulator,
+}
+
 pub struct AfterSample {
     pub answer: Heard,
     pub demodulator: SoftDemodulator,
@@ -73,10 +86,12 @@ pub struct AfterReply {
 }
 
 impl SoftDemodulator {
-    pub fn new() -> Self
-        ensures { λ r. ⌜ new-says r ⌝ }
+    // A fresh record of a rate. A rate that is none is refused, and beside the refusal comes a fresh record that says it: every call refuses that.
+    pub fn new(rate: u32) -> AfterNew
+        ensures { λ r. ⌜ new-says rate r ⌝ }
     {
-        SoftDemodulator {
+        let demodulator = SoftDemodulator {
+            rate,
             filter_win: [0i16; 162],
             filter_cursor: 0,
             rx_win: [0.0f32; 1920],
@@ -88,6 +103,16 @@ impl SoftDemodulator {
                 owed: false,
                 sample: 0,
             },
+        };
+        if !shaping::is_rate(rate) {
+            return AfterNew {
+                answer: Made::Refused(Refusal::WrongRate),
+                demodulator,
+            };
+        }
+        AfterNew {
+            answer: Made::Done,
+            demodulator,
         }
     }
 
@@ -95,8 +120,16 @@ impl SoftDemodulator {
     pub fn demod(self, sample: i16, room: &mut [f32]) -> AfterSample
         ensures { λ r. ⌜ demod-says self sample (now (room .entry)) r (now (room .exit)) ⌝ }
     {
-        let halves = fit::halves_agree(&self.filter_win);
+        let rate = self.rate;
+        if !shaping::is_rate(rate) {
+            return AfterSample {
+                answer: Heard::Refused(Refusal::WrongRate),
+                demodulator: self,
+            };
+        }
+        let p = shaping::samples_in(rate);
         let mut filter_win = self.filter_win;
+        let halves = fit::halves_agree(p, &filter_win);
         let mut rx_win = self.rx_win;
         let control = self.control;
         let places = Places {
@@ -104,6 +137,7 @@ impl SoftDemodulator {
             rx_cursor: self.rx_cursor,
         };
         let stepped = step::step(
+            p,
             &mut filter_win,
             &mut rx_win,
             places,
@@ -118,6 +152,7 @@ impl SoftDemodulator {
         AfterSample {
             answer,
             demodulator: SoftDemodulator {
+                rate,
                 filter_win,
                 filter_cursor: next.filter_cursor,
                 rx_win,
@@ -131,9 +166,18 @@ impl SoftDemodulator {
     pub fn reply(self, reply: Reply) -> AfterReply
         ensures { λ r. ⌜ reply-says self reply r ⌝ }
     {
+        let rate = self.rate;
+        if !shaping::is_rate(rate) {
+            return AfterReply {
+                answer: Replied::Refused(Refusal::WrongRate),
+                demodulator: self,
+            };
+        }
+        let p = shaping::samples_in(rate);
         let control = self.control;
-        let halves = fit::halves_agree(&self.filter_win);
+        let halves = fit::halves_agree(p, &self.filter_win);
         if !fit::fit_for_reply(
+            p,
             halves,
             &self.rx_win,
             self.filter_cursor,
@@ -151,8 +195,9 @@ impl SoftDemodulator {
                 demodulator: self,
             };
         }
-        let values = ring::eight(&self.rx_win, self.rx_cursor);
-        let settled = search::replied(control, reply, values);
+        let values = ring::eight(p, &self.rx_win, self.rx_cursor);
+        let symbol = p as u8;
+        let settled = search::replied(symbol, control, reply, values);
         let mut demodulator = self;
         demodulator.control = settled;
         AfterReply {
@@ -165,9 +210,14 @@ impl SoftDemodulator {
     pub fn data_carrier_detect(self) -> Carrier
         ensures { λ r. ⌜ data-carrier-detect-says self r ⌝ }
     {
+        let rate = self.rate;
+        if !shaping::is_rate(rate) {
+            return Carrier::Refused(Refusal::WrongRate);
+        }
+        let p = shaping::samples_in(rate);
         let control = self.control;
-        let halves = fit::halves_agree(&self.filter_win);
-        if !fit::record_fit(halves, self.filter_cursor, self.rx_cursor, control) {
+        let halves = fit::halves_agree(p, &self.filter_win);
+        if !fit::record_fit(p, halves, self.filter_cursor, self.rx_cursor, control) {
             return Carrier::Refused(Refusal::RecordUnfit);
         }
         let timer = control.dcd;

@@ -1,4 +1,4 @@
-// One sample, over a window and a ring that the caller lends: nothing large is copied.
+// One sample at p samples a symbol, over a window and a ring that the caller lends: nothing large is copied.
 use crate::Heard;
 use crate::Offer;
 use crate::fit;
@@ -8,6 +8,7 @@ use search::Control;
 use search::LAST_COUNT;
 use search::Turn;
 ghost use mathlib.Core.Path.{_≡_};
+ghost use Rattle.shaping.specs.Rate.{Known};
 ghost use Rattle.demodulator.specs.Fit.{halvesAgree};
 ghost use Rattle.demodulator.specs.Steps.{Accepts, Steps, unmoved};
 
@@ -26,6 +27,7 @@ pub(crate) struct Stepped {
 
 // The sample is taken: nothing refuses it.
 fn advance(
+    p: usize,
     filter_win: &mut [i16; 162],
     rx_win: &mut [f32; 1920],
     places: Places,
@@ -33,14 +35,14 @@ fn advance(
     sample: i16,
     room: &mut [f32],
 ) -> Stepped
-    requires { ⌜ Accepts (now «filter_win») (now «rx_win») places control (now room) ⌝ }
-    ensures { λ r. ⌜ Steps (now («filter_win» .entry)) (now («rx_win» .entry)) places control sample (now (room .entry)) r (now («filter_win» .exit)) (now («rx_win» .exit)) (now (room .exit)) ⌝ }
+    requires { ⌜ Accepts p (now «filter_win») (now «rx_win») places control (now room) ⌝ }
+    ensures { λ r. ⌜ Steps p (now («filter_win» .entry)) (now («rx_win» .entry)) places control sample (now (room .entry)) r (now («filter_win» .exit)) (now («rx_win» .exit)) (now (room .exit)) ⌝ }
 {
     let filter_cursor = places.filter_cursor;
     let rx_cursor = places.rx_cursor;
-    ring::store(filter_win, filter_cursor, rx_win, rx_cursor, sample);
-    let filter_next = (filter_cursor + 1) % 81;
-    let rx_next = (rx_cursor + 1) % 1920;
+    ring::store(p, filter_win, filter_cursor, rx_win, rx_cursor, sample);
+    let filter_next = ring::place_after(8 * p + 1, filter_cursor);
+    let rx_next = ring::place_after(192 * p, rx_cursor);
     let places = Places {
         filter_cursor: filter_next,
         rx_cursor: rx_next,
@@ -57,7 +59,7 @@ fn advance(
             shown,
             control: owing,
         } => {
-            ring::write_window(&*rx_win, rx_next, shown, room);
+            ring::write_window(p, &*rx_win, rx_next, shown, room);
             let kind = shown.kind;
             Stepped {
                 answer: Heard::Offered(Offer {
@@ -72,8 +74,9 @@ fn advance(
             }
         }
         Turn::Look(looking) => {
-            let values = ring::eight(&*rx_win, rx_next);
-            let found = search::searched(looking, values);
+            let values = ring::eight(p, &*rx_win, rx_next);
+            let symbol = p as u8;
+            let found = search::searched(symbol, looking, values);
             Stepped {
                 answer: Heard::Quiet,
                 places,
@@ -95,6 +98,7 @@ fn refused(why: Refusal, places: Places, control: Control) -> Stepped
 
 // All that can refuse a sample is tested before anything is written; whether the window's halves agree is the caller's to test, once for all its samples.
 pub(crate) fn step(
+    p: usize,
     filter_win: &mut [i16; 162],
     rx_win: &mut [f32; 1920],
     places: Places,
@@ -103,10 +107,11 @@ pub(crate) fn step(
     sample: i16,
     room: &mut [f32],
 ) -> Stepped
-    requires { ⌜ halves ≡ halvesAgree 10 (now «filter_win») ⌝ }
-    ensures { λ r. ⌜ Steps (now («filter_win» .entry)) (now («rx_win» .entry)) places control sample (now (room .entry)) r (now («filter_win» .exit)) (now («rx_win» .exit)) (now (room .exit)) ⌝ }
+    requires { ⌜ (Known p) × (halves ≡ halvesAgree p (now «filter_win»)) ⌝ }
+    ensures { λ r. ⌜ Steps p (now («filter_win» .entry)) (now («rx_win» .entry)) places control sample (now (room .entry)) r (now («filter_win» .exit)) (now («rx_win» .exit)) (now (room .exit)) ⌝ }
 {
     if !fit::fit_for_sample(
+        p,
         halves,
         &*rx_win,
         places.filter_cursor,
@@ -124,5 +129,5 @@ pub(crate) fn step(
     if control.sample == LAST_COUNT {
         return refused(Refusal::CountAtItsEnd, places, control);
     }
-    advance(filter_win, rx_win, places, control, sample, room)
+    advance(p, filter_win, rx_win, places, control, sample, room)
 }

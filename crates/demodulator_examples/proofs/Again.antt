@@ -109,7 +109,7 @@ module _ (S : Sketch) where
   ]
 
   -- ---- what is heard
-  hears-again : (n : ℕ) → 223 ≤ n → n ≤ 2045 → (i : ℕ) → earOf taps 10 twice n i ≡ listed (S .table) (n - 1972) i
+  hears-again : (n : ℕ) → 223 ≤ n → n ≤ 2045 → (i : ℕ) → earOf taps 10 twice n i ≡ listed 10 (S .table) (n - 1972) i
   hears-again n a b i =
       filtered-taken taps 10 (taps-size at48 facts48) n twice (n - 10 * (7 - i)) (omega arith)
       ∙ again (n - 10 * (7 - i)) (omega arith) (omega arith)
@@ -117,5 +117,5 @@ module _ (S : Sketch) where
       ∙ sym (firsts-at (filtered taps 10 begun) 74 ((n - 1972) - 10 * (7 - i)) nought (omega arith))
       ∙ ap (λ (t : List Float). getD t ((n - 1972) - 10 * (7 - i)) nought) (S .tabled)
 
-  pub hits-again : (n : ℕ) → 223 ≤ n → n ≤ 2045 → (hit : Kind → Bool) → Hits (listed (S .table) (n - 1972)) hit → Hits (earOf taps 10 twice n) hit
-  hits-again n a b hit h j = matches-same (Frame j) (earOf taps 10 twice n) (listed (S .table) (n - 1972)) (λ i l. hears-again n a b i) ∙ h j
+  pub hits-again : (n : ℕ) → 223 ≤ n → n ≤ 2045 → (hit : Kind → Bool) → Hits (listed 10 (S .table) (n - 1972)) hit → Hits (earOf taps 10 twice n) hit
+  hits-again n a b hit h j = matches-same (Frame j) (earOf taps 10 twice n) (listed 10 (S .table) (n - 1972)) (λ i l. hears-again n a b i) ∙ h j

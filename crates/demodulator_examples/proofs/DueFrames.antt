@@ -21,7 +21,7 @@ use Rattle.search.specs.TakenBurst.{aged}
 use Rattle.demodulator_run.specs.Marks.{logAll, FellDue}
 use Rattle.demodulator_run.specs.Demands.{at, In, Started, DueAt, shownAt, Cause, Corner, Replaces, Ear, DueBy, LiesAt, takenAt}
 use Rattle.demodulator_run.proofs.KindOrder.{no→⊥}
-use Rattle.demodulator_run.proofs.Demand48.{due-once-48, due-from-48, symbol-zero-48}
+use Rattle.demodulator_run.proofs.DemandEachRate.{due-once-48, due-from-48, symbol-zero-48}
 use Rattle.demodulator_run.proofs.Pass.{Step, pass-lost, pass-hit}
 use Rattle.demodulator_examples.proofs.Table.{listed}
 use Rattle.demodulator_examples.proofs.Sketch.{Sketch, calls, shaped, sampled, ear-same, correlates, at-72, started, spans, spans-sharp, due-mark, cause, taken-at-71, of-kind, failed-at-72}
@@ -89,7 +89,7 @@ one-burst-symbol-zero xs n =
 earlier-above : lt (at (shaped earlierLarger) Stream 71 .diff) (at (shaped earlierLarger) Lsf 72 .diff) ≡ true
 earlier-above =
     ap (λ (c : Correlation). lt (c .diff) (at (shaped earlierLarger) Lsf 72 .diff)) (correlates earlierLarger 71 (lit≤ tt) Stream)
-    ∙ ap (λ (c : Correlation). lt (correlation (Frame Stream) (listed (earlierLarger .table) 71) .diff) (c .diff)) (correlates earlierLarger 72 (lit≤ tt) Lsf)
+    ∙ ap (λ (c : Correlation). lt (correlation (Frame Stream) (listed 10 (earlierLarger .table) 71) .diff) (c .diff)) (correlates earlierLarger 72 (lit≤ tt) Lsf)
     ∙ larger-diff
 
 pub corner-due : In (FellDue 1910 (shownAt (shaped earlierLarger) Stream 71 2 false)) (logAll taps 10 (calls earlierLarger))
@@ -114,7 +114,7 @@ corner-symbol-zero xs n =
 later-not-above : lt (at (shaped laterSmaller) Lsf 71 .diff) (at (shaped laterSmaller) Stream 72 .diff) ≡ false
 later-not-above =
     ap (λ (c : Correlation). lt (c .diff) (at (shaped laterSmaller) Stream 72 .diff)) (correlates laterSmaller 71 (lit≤ tt) Lsf)
-    ∙ ap (λ (c : Correlation). lt (correlation (Frame Lsf) (listed (laterSmaller .table) 71) .diff) (c .diff)) (correlates laterSmaller 72 (lit≤ tt) Stream)
+    ∙ ap (λ (c : Correlation). lt (correlation (Frame Lsf) (listed 10 (laterSmaller .table) 71) .diff) (c .diff)) (correlates laterSmaller 72 (lit≤ tt) Stream)
     ∙ smaller-diff
 
 pub replaced-due : In (FellDue 1911 (shownAt (shaped laterSmaller) Stream 72 1 true)) (logAll taps 10 (calls laterSmaller))

@@ -51,12 +51,12 @@ passes = tt
 pub facts : Fits front (negsuc 69) (pos 207) table Stream (sameKind Lsf)
 facts = fits front (negsuc 69) (pos 207) table Stream (sameKind Lsf) passes
 
-pub over : T (silent table 73)
+pub over : T (silent 10 table 73)
 unfolding matched table ofBits matches correlation diffOf summed sumTo distanceOf symbolOf shiftOf gainOf highest lowest zeroUnsigned larger smaller sizeOf add sub mul div lt eq neg ofInt signsOf anyBelow
 over = tt
 
 -- the second diff is above the first
-pub diffs : lt (correlation (Frame Stream) (listed table 71) .diff) (correlation (Frame Lsf) (listed table 72) .diff) ≡ true
+pub diffs : lt (correlation (Frame Stream) (listed 10 table 71) .diff) (correlation (Frame Lsf) (listed 10 table 72) .diff) ≡ true
 unfolding table ofBits matches correlation diffOf summed sumTo distanceOf symbolOf shiftOf gainOf highest lowest zeroUnsigned larger smaller sizeOf add sub mul div lt eq neg ofInt signsOf anyBelow
 diffs = refl
 

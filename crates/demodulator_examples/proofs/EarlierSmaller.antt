@@ -57,6 +57,6 @@ pub facts : Fits front x y table Packet (sameKind Stream)
 facts = fits front x y table Packet (sameKind Stream) passes
 
 -- the second diff is not above the first
-pub diffs : lt (correlation (Frame Packet) (listed table 71) .diff) (correlation (Frame Stream) (listed table 72) .diff) ≡ false
+pub diffs : lt (correlation (Frame Packet) (listed 10 table 71) .diff) (correlation (Frame Stream) (listed 10 table 72) .diff) ≡ false
 unfolding table ofBits matches correlation diffOf summed sumTo distanceOf symbolOf shiftOf gainOf highest lowest zeroUnsigned larger smaller sizeOf add sub mul div lt eq neg ofInt signsOf anyBelow
 diffs = refl

@@ -10,7 +10,7 @@ use lib.ListN.{length}
 use lib.Ieee.{Float}
 use lib.Ieee.Bits.{is-false}
 use Rattle.machine.specs.Runs.{run, Each}
-use Rattle.shaping.specs.Taps.{taps}
+use Rattle.shaping.specs.Rate.{Rate}
 use Rattle.search.specs.declared.Reply.the-variants.{Accepted}
 use Rattle.search.specs.Turn.{Outcome, quiet, offer, owing, sampled, replied}
 use Rattle.demodulator.specs.Spans.{eight}
@@ -43,53 +43,55 @@ unfolding fed Sixteen Each Callable
 fed-sampled [] s = tt
 fed-sampled (x ∷ xs) s = (s .0, (tt, fed-sampled xs (s .1)))
 
--- ---- one sample and its reply
-abbrev pub next : History → ℤ → History
-next h x = single taps 10 (single taps 10 h (sample x room) .history) (reply Accepted) .history
-
--- what is heard when the newest is x
-abbrev pub eightAt : List ℤ → ℕ → Float
-eightAt xs = eight 10 (ago taps 10 xs)
-
+-- ---- a count that is not full
 pub not-full : (n : ℕ) → n < 2 ^ 63 → eqb n (2 ^ 63) ≡ false
 not-full n l = is-false (eqb n (2 ^ 63)) (not-T (eqb n (2 ^ 63)) (λ u. let e : n ≡ 2 ^ 63 = eqb→eq n (2 ^ 63) u in omega arith))
 
-pub taken-in : (h : History) (x : ℤ) → h .control .owed ≡ false → h .control .sample < 2 ^ 63 → single taps 10 h (sample x room) ≡ admitted taps 10 h x room
-unfolding single given
-taken-in h x o l = rw (o, not-full (h .control .sample) l)
+module _ (R : Rate) where
+  -- ---- one sample and its reply
+  abbrev pub next : History → ℤ → History
+  next h x = single (R .taps) (R .p) (single (R .taps) (R .p) h (sample x room) .history) (reply Accepted) .history
 
-replied-in : (h : History) → single taps 10 h (reply Accepted) .history ≡ record { samples = h .samples; control = owing false (h .control) }
-unfolding single answered replied
-replied-in h = go (h .control .owed) refl
-  where
-    go : (b : Bool) → h .control .owed ≡ b
-        → (cond (not b) (refused 3 [] h) (record {
-          said = record { answer = done; room = [] };
-          history = record { samples = h .samples; control = owing false (h .control) };
-        })) .history ≡ record { samples = h .samples; control = owing false (h .control) }
-    go true e = refl
-    go false e = ap (λ (b : Bool). record { samples = h .samples; control = owing b (h .control) }) e
+  -- what is heard when the newest is x
+  abbrev pub eightAt : List ℤ → ℕ → Float
+  eightAt xs = eight (R .p) (ago (R .taps) (R .p) xs)
 
-pub settled-heard : (xs : List ℤ) (o : Outcome) → settled taps 10 xs room o .history ≡ record { samples = xs; control = controlOf o }
-unfolding settled
-settled-heard xs (quiet c) = refl
-settled-heard xs (offer shown c) = refl
+  pub taken-in : (h : History) (x : ℤ) → h .control .owed ≡ false → h .control .sample < 2 ^ 63 → single (R .taps) (R .p) h (sample x room) ≡ admitted (R .taps) (R .p) h x room
+  unfolding single given
+  taken-in h x o l = rw (o, not-full (h .control .sample) l)
 
-pub next-is : (h : History) (x : ℤ) → h .control .owed ≡ false → h .control .sample < 2 ^ 63
-    → next h x ≡ record { samples = h .samples ++ (x ∷ []); control = owing false (controlOf (sampled 10 (eightAt (h .samples ++ (x ∷ []))) (h .control))) }
-next-is h x o l =
-    replied-in (single taps 10 h (sample x room) .history)
-    ∙ ap (λ (g : History). record { samples = g .samples; control = owing false (g .control) })
-    (ap (λ (a : After). a .history) (taken-in h x o l) ∙ settled-heard (h .samples ++ (x ∷ [])) (sampled 10 (eightAt (h .samples ++ (x ∷ []))) (h .control)))
+  replied-in : (h : History) → single (R .taps) (R .p) h (reply Accepted) .history ≡ record { samples = h .samples; control = owing false (h .control) }
+  unfolding single answered replied
+  replied-in h = go (h .control .owed) refl
+    where
+      go : (b : Bool) → h .control .owed ≡ b
+          → (cond (not b) (refused 3 [] h) (record {
+            said = record { answer = done; room = [] };
+            history = record { samples = h .samples; control = owing false (h .control) };
+          })) .history ≡ record { samples = h .samples; control = owing false (h .control) }
+      go true e = refl
+      go false e = ap (λ (b : Bool). record { samples = h .samples; control = owing b (h .control) }) e
 
--- ---- all of them
-pub fed-heard : (xs : List ℤ) (h : History) → h .control .owed ≡ false → h .control .sample + length xs ≤ 2 ^ 63 → run (singleRules taps 10) h (fed xs) .samples ≡ h .samples ++ xs
-unfolding run fed
-fed-heard [] h o l = sym (append-nil (h .samples))
-fed-heard (x ∷ xs) h o l =
-    let e = next-is h x o (omega arith) in
-    let count : next h x .control .sample ≡ h .control .sample + 1 =
-    ap (λ (g : History). g .control .sample) e ∙ sampled-count 10 (eightAt (h .samples ++ (x ∷ []))) (h .control) in
-    fed-heard xs (next h x) (ap (λ (g : History). g .control .owed) e) (omega arith)
-    ∙ ap (λ (g : History). g .samples ++ xs) e
-    ∙ append-assoc (h .samples) (x ∷ []) xs
+  pub settled-heard : (xs : List ℤ) (o : Outcome) → settled (R .taps) (R .p) xs room o .history ≡ record { samples = xs; control = controlOf o }
+  unfolding settled
+  settled-heard xs (quiet c) = refl
+  settled-heard xs (offer shown c) = refl
+
+  pub next-is : (h : History) (x : ℤ) → h .control .owed ≡ false → h .control .sample < 2 ^ 63
+      → next h x ≡ record { samples = h .samples ++ (x ∷ []); control = owing false (controlOf (sampled (R .p) (eightAt (h .samples ++ (x ∷ []))) (h .control))) }
+  next-is h x o l =
+      replied-in (single (R .taps) (R .p) h (sample x room) .history)
+      ∙ ap (λ (g : History). record { samples = g .samples; control = owing false (g .control) })
+      (ap (λ (a : After). a .history) (taken-in h x o l) ∙ settled-heard (h .samples ++ (x ∷ [])) (sampled (R .p) (eightAt (h .samples ++ (x ∷ []))) (h .control)))
+
+  -- ---- all of them
+  pub fed-heard : (xs : List ℤ) (h : History) → h .control .owed ≡ false → h .control .sample + length xs ≤ 2 ^ 63 → run (singleRules (R .taps) (R .p)) h (fed xs) .samples ≡ h .samples ++ xs
+  unfolding run fed
+  fed-heard [] h o l = sym (append-nil (h .samples))
+  fed-heard (x ∷ xs) h o l =
+      let e = next-is h x o (omega arith) in
+      let count : next h x .control .sample ≡ h .control .sample + 1 =
+      ap (λ (g : History). g .control .sample) e ∙ sampled-count (R .p) (eightAt (h .samples ++ (x ∷ []))) (h .control) in
+      fed-heard xs (next h x) (ap (λ (g : History). g .control .owed) e) (omega arith)
+      ∙ ap (λ (g : History). g .samples ++ xs) e
+      ∙ append-assoc (h .samples) (x ∷ []) xs

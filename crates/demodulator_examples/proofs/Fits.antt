@@ -18,28 +18,28 @@ module _ (front : List ℤ) (x y : ℤ) (table : List Float) where
   pub record Fits (kind : Kind) (hit : Kind → Bool) : Type 0 where
     pub seventy : length front ≡ 70
     pub small : T (allSixteen (front ++ (x ∷ y ∷ [])))
-    pub quiet : T (allBelow 71 (silent table))
-    pub first : Hits (listed table 71) (sameKind kind)
-    pub second : Hits (listed table 72) hit
+    pub quiet : T (allBelow 71 (silent 10 table))
+    pub first : Hits (listed 10 table 71) (sameKind kind)
+    pub second : Hits (listed 10 table 72) hit
 
   module _ (kind : Kind) (hit : Kind → Bool) where
     abbrev heard : Bool
-    heard = matched table 71 (sameKind kind) && matched table 72 hit
+    heard = matched 10 table 71 (sameKind kind) && matched 10 table 72 hit
 
     abbrev sized : Bool
     sized = eqb (length front) 70 && allSixteen (front ++ (x ∷ y ∷ []))
 
     unfoldable pub tested : Bool
-    tested = sized && (allBelow 71 (silent table) && heard)
+    tested = sized && (allBelow 71 (silent 10 table) && heard)
 
     pub fits : T tested → Fits kind hit
     unfolding tested
     fits t =
         let seventy = eqb (length front) 70 in
         let small = allSixteen (front ++ (x ∷ y ∷ [])) in
-        let quiet = allBelow 71 (silent table) in
-        let first = matched table 71 (sameKind kind) in
-        let second = matched table 72 hit in
+        let quiet = allBelow 71 (silent 10 table) in
+        let first = matched 10 table 71 (sameKind kind) in
+        let second = matched 10 table 72 hit in
         let size = and-l sized (quiet && heard) t in
         let rest = and-r sized (quiet && heard) t in
         let found = and-r quiet heard rest in
@@ -47,6 +47,6 @@ module _ (front : List ℤ) (x y : ℤ) (table : List Float) where
           seventy = eqb→eq (length front) 70 (and-l seventy small size);
           small = and-r seventy small size;
           quiet = and-l quiet heard rest;
-          first = hits-matched table 71 (sameKind kind) (and-l first second found);
-          second = hits-matched table 72 hit (and-r first second found);
+          first = hits-matched 10 table 71 (sameKind kind) (and-l first second found);
+          second = hits-matched 10 table 72 hit (and-r first second found);
         }

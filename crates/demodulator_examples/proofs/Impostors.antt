@@ -40,7 +40,7 @@ use Rattle.demodulator_run.proofs.LogExact.{not-refused}
 use Rattle.demodulator_run.proofs.EarLaws.{filtered-taken}
 use Rattle.demodulator_run.proofs.Sixteen.{taps-size}
 use Rattle.demodulator_run.proofs.SinglesRun.{next-single}
-use Rattle.demodulator_run.proofs.Demand48.{due-offered-48}
+use Rattle.demodulator_run.proofs.DemandEachRate.{due-offered-48}
 use Rattle.demodulator_examples.proofs.Fed.{fed}
 use Rattle.demodulator_examples.proofs.Table.{listed}
 use Rattle.demodulator_examples.proofs.Sketch.{Sketch, samples, calls, shaped, hears, correlates, heard-samples, fed-number, sampled as small}
@@ -76,7 +76,7 @@ module _ {cs : List Single} {d : ℕ} {w : Shown} (O : OfferedAt taps 10 d w cs)
       settled-samples taps 10 (h .samples ++ (x ∷ [])) room (sampled 10 (eight 10 (ago taps 10 (h .samples ++ (x ∷ [])))) (h .control))
 
   -- and so does the record
-  pub record-answers : Each Callable cs → left at48 (recordAfter at48 (O .before)) (sample (O .value) (O .room)) .answer ≡ frame (offerOf w d)
+  pub record-answers : Each Callable cs → left (recordAfter at48 (O .before)) (sample (O .value) (O .room)) .answer ≡ frame (offerOf w d)
   record-answers s =
       ap (λ (a : Said). a .answer) (next-single at48 facts48 (O .before) (each-front Callable (O .before) (sample (O .value) (O .room) ∷ O .after) (subst (Each Callable) (O .split) s)) (sample (O .value) (O .room)) ∙ O .said)
 
@@ -109,11 +109,11 @@ module _ {cs : List Single} {d : ℕ} {w : Shown} (O : OfferedAt taps 10 d w cs)
       ∙ filtered-taken taps 10 (taps-size at48 facts48) (length zs) (zs ++ m) (d - 1910) (omega arith)
       ∙ ap (λ (l : List ℤ). filtered taps 10 l (d - 1910)) (sym e))
 
-pub record-finds : left at48 (recordAfter at48 (finds .before)) (sample (finds .value) (finds .room)) .answer ≡ frame (record { kind = Stream; sample = 1911; «taken_at» = 71; age = 1; replaced = false })
+pub record-finds : left (recordAfter at48 (finds .before)) (sample (finds .value) (finds .room)) .answer ≡ frame (record { kind = Stream; sample = 1911; «taken_at» = 71; age = 1; replaced = false })
 record-finds = record-answers finds (small oneBurst)
 
 -- the first symbol of each, by its table
-at-table : (S : Sketch) (k : ℕ) → k ≤ 73 → filtered taps 10 (historyAll taps 10 (calls S) .samples) k ≡ listed (S .table) k 7
+at-table : (S : Sketch) (k : ℕ) → k ≤ 73 → filtered taps 10 (historyAll taps 10 (calls S) .samples) k ≡ listed 10 (S .table) k 7
 at-table S k l =
     ap (λ (zs : List ℤ). filtered taps 10 zs k) (heard-samples S)
     ∙ sym (filtered-taken taps 10 (taps-size at48 facts48) k (samples S) k (omega arith))
@@ -121,20 +121,20 @@ at-table S k l =
     ∙ hears S k l 7
 
 symbol-by-table : (S : Sketch) (k : ℕ) → k ≤ 73 → symbolOf (at (shaped S) Stream 71 .gain) (at (shaped S) Stream 71 .shift) (filtered taps 10 (historyAll taps 10 (calls S) .samples) k)
-    ≡ symbolOf (correlation (Frame Stream) (listed (S .table) 71) .gain) (correlation (Frame Stream) (listed (S .table) 71) .shift) (listed (S .table) k 7)
+    ≡ symbolOf (correlation (Frame Stream) (listed 10 (S .table) 71) .gain) (correlation (Frame Stream) (listed 10 (S .table) 71) .shift) (listed 10 (S .table) k 7)
 symbol-by-table S k l =
     ap (λ (c : Correlation). symbolOf (c .gain) (c .shift) (filtered taps 10 (historyAll taps 10 (calls S) .samples) k)) (correlates S 71 (lit≤ tt) Stream)
-    ∙ ap (symbolOf (correlation (Frame Stream) (listed (S .table) 71) .gain) (correlation (Frame Stream) (listed (S .table) 71) .shift)) (at-table S k l)
+    ∙ ap (symbolOf (correlation (Frame Stream) (listed 10 (S .table) 71) .gain) (correlation (Frame Stream) (listed 10 (S .table) 71) .shift)) (at-table S k l)
 
 -- -0.5
 abbrev half : Float
 half = ofBits binary32 0xbf00_0000
 
-one-below : lt (symbolOf (correlation (Frame Stream) (listed oneTable 71) .gain) (correlation (Frame Stream) (listed oneTable 71) .shift) (listed oneTable 1 7)) half ≡ true
+one-below : lt (symbolOf (correlation (Frame Stream) (listed 10 oneTable 71) .gain) (correlation (Frame Stream) (listed 10 oneTable 71) .shift) (listed 10 oneTable 1 7)) half ≡ true
 unfolding oneTable ofBits correlation diffOf summed sumTo distanceOf symbolOf shiftOf gainOf highest lowest zeroUnsigned larger smaller sizeOf add sub mul div lt eq neg ofInt signsOf anyBelow
 one-below = refl
 
-corner-above : lt (symbolOf (correlation (Frame Stream) (listed cornerTable 71) .gain) (correlation (Frame Stream) (listed cornerTable 71) .shift) (listed cornerTable 0 7)) half ≡ false
+corner-above : lt (symbolOf (correlation (Frame Stream) (listed 10 cornerTable 71) .gain) (correlation (Frame Stream) (listed 10 cornerTable 71) .shift) (listed 10 cornerTable 0 7)) half ≡ false
 unfolding cornerTable ofBits correlation diffOf summed sumTo distanceOf symbolOf shiftOf gainOf highest lowest zeroUnsigned larger smaller sizeOf add sub mul div lt eq neg ofInt signsOf anyBelow
 corner-above = refl
 

@@ -35,14 +35,15 @@ use Rattle.demodulator_run.proofs.Pass.{Step, controlled, searchStep, passBy, s
 use Rattle.demodulator_run.proofs.Phase.{kept-past}
 use Rattle.demodulator_run.proofs.Run.{kept-all}
 use Rattle.demodulator_run.proofs.Demand.{earAll}
-use Rattle.demodulator_run.proofs.Demand48.{switch-earlier-48, switch-held-48}
+use Rattle.demodulator_run.proofs.DemandEachRate.{switch-earlier-48, switch-held-48}
 use Rattle.demodulator_run.proofs.DemandAt.{size-at, alone-at, again-at}
 use Rattle.demodulator_run.proofs.Worked.{room}
 use Rattle.demodulator_run.proofs.Sixteen.{sixteen-front}
 use Rattle.demodulator_examples.proofs.Fed.{fed, fed-split, fed-sampled, eightAt, taken-in, settled-heard}
 use Rattle.demodulator_examples.proofs.Steps.{standing, Hits, none, hears}
 use Rattle.demodulator_examples.proofs.Table.{sixteen-test, listed, hits-listed, at-listed, silent-listed}
-use Rattle.demodulator_examples.proofs.Burst.{is-admitted, marked-after, part71, length71, after-71}
+use Rattle.demodulator_examples.proofs.Take.{is-admitted, marked-after}
+use Rattle.demodulator_examples.proofs.Burst.{part71, length71, after-71}
 use Rattle.demodulator_examples.proofs.EarlierSmaller.{front, x, y, table, tabled, facts, diffs}
 
 abbrev pub samples : List ℤ
@@ -71,18 +72,18 @@ whole : samples ≡ samples ++ []
 whole = sym (append-nil samples)
 
 quiet-before : (n : ℕ) → n ≤ 70 → Hits (ear n) none
-quiet-before = silent-listed samples samples [] whole 72 number table tabled 70 (lit≤ tt) (facts .quiet)
+quiet-before = silent-listed at48 facts48 samples samples [] whole 72 number table tabled 70 (lit≤ tt) (facts .quiet)
 
 at-71 : Hits (ear 71) (sameKind Packet)
-at-71 = hits-listed samples samples [] whole 72 number table tabled 71 (lit≤ tt) (sameKind Packet) (facts .first)
+at-71 = hits-listed at48 facts48 samples samples [] whole 72 number table tabled 71 (lit≤ tt) (sameKind Packet) (facts .first)
 
 at-72 : Hits (ear 72) (sameKind Stream)
-at-72 = hits-listed samples samples [] whole 72 number table tabled 72 (lit≤ tt) (sameKind Stream) (facts .second)
+at-72 = hits-listed at48 facts48 samples samples [] whole 72 number table tabled 72 (lit≤ tt) (sameKind Stream) (facts .second)
 
 below : lt (at ear Packet 71 .diff) (at ear Stream 72 .diff) ≡ false
 below =
-    ap (λ (c : Correlation). lt (c .diff) (at ear Stream 72 .diff)) (at-listed samples samples [] whole 72 number table tabled 71 (lit≤ tt) Packet)
-    ∙ ap (λ (c : Correlation). lt (correlation (Frame Packet) (listed table 71) .diff) (c .diff)) (at-listed samples samples [] whole 72 number table tabled 72 (lit≤ tt) Stream)
+    ap (λ (c : Correlation). lt (c .diff) (at ear Stream 72 .diff)) (at-listed at48 facts48 samples samples [] whole 72 number table tabled 71 (lit≤ tt) Packet)
+    ∙ ap (λ (c : Correlation). lt (correlation (Frame Packet) (listed 10 table 71) .diff) (c .diff)) (at-listed at48 facts48 samples samples [] whole 72 number table tabled 72 (lit≤ tt) Stream)
     ∙ diffs
 
 -- ---- the take at 71
@@ -102,7 +103,7 @@ part = part71 front x y [] (facts .seventy) sixteen few
 pub switched : Switched (logAll taps 10 calls) 72 Packet Stream
 switched =
     let (t, e) = held in (
-      marked-after samples sixteen few (Anew 72 Packet Stream) before y [] part (holding t) e refl (lit< tt)
+      marked-after at48 facts48 samples sixteen few (Anew 72 Packet Stream) before y [] part (holding t) e refl (lit< tt)
           (counted (holding t .control), (refl, refl), (refl, holds (at-72 Stream), (takenAt ear Packet 71, (refl, refl), below))),
       λ q. let r = ap rank q in omega arith,
     )
@@ -119,13 +120,13 @@ search-72 t =
           ∙ pass-hit 10 (λ i. at ear i 72) u false 72 (takenAt ear Packet 71) Stream false below,
     )
 
-heard-72 : ear 72 ≡ eightAt (before ++ (y ∷ []))
-heard-72 = hears samples before y [] 71 (length71 front x y [] (facts .seventy) sixteen few) part (lit< tt)
+heard-72 : ear 72 ≡ eightAt at48 (before ++ (y ∷ []))
+heard-72 = hears at48 samples before y [] 71 (length71 front x y [] (facts .seventy) sixteen few) part (lit< tt)
 
 called-72 : (t : Timer) → calledMarks taps 10 (holding t) (sample y room) ≡ Anew 72 Packet Stream ∷ []
 unfolding calledMarks stepMarks sampledMarks waitedMarks
 called-72 t =
-    ap (λ (b : Bool). cond b [] (stepMarks taps 10 (holding t) (sample y room))) (is-admitted (holding t) y refl (lit< tt))
+    ap (λ (b : Bool). cond b [] (stepMarks taps 10 (holding t) (sample y room))) (is-admitted at48 facts48 (holding t) y refl (lit< tt))
     ∙ ap (λ (v : ℕ → Float). searchedMarks 10 v (counted (holding t .control))) (sym heard-72)
     ∙ ap (λ (s : Step). s .marks) (search-72 (cleared 72 t) .1)
 
@@ -189,8 +190,8 @@ held-after =
     let (u, f) = search-72 (cleared 72 t) in (
       u,
       ap (λ (h : History). single taps 10 h (sample y room) .history .control) e
-          ∙ ap (λ (a : After). a .history .control) (taken-in (holding t) y refl (lit< tt))
-          ∙ ap (λ (h : History). h .control) (settled-heard (before ++ (y ∷ [])) (turned 10 (eightAt (before ++ (y ∷ []))) (holding t .control)))
+          ∙ ap (λ (a : After). a .history .control) (taken-in at48 (holding t) y refl (lit< tt))
+          ∙ ap (λ (h : History). h .control) (settled-heard at48 (before ++ (y ∷ [])) (turned 10 (eightAt at48 (before ++ (y ∷ []))) (holding t .control)))
           ∙ ap (λ (v : ℕ → Float). searchStep 10 v (counted (holding t .control)) .control) (sym heard-72)
           ∙ ap (λ (s : Step). s .control) f,
     )

@@ -51,12 +51,12 @@ passes = tt
 pub facts : Fits front (pos 68) (negsuc 197) table Lsf (sameKind Stream)
 facts = fits front (pos 68) (negsuc 197) table Lsf (sameKind Stream) passes
 
-pub over : T (silent table 73)
+pub over : T (silent 10 table 73)
 unfolding matched table ofBits matches correlation diffOf summed sumTo distanceOf symbolOf shiftOf gainOf highest lowest zeroUnsigned larger smaller sizeOf add sub mul div lt eq neg ofInt signsOf anyBelow
 over = tt
 
 -- the second diff is not above the first
-pub diffs : lt (correlation (Frame Lsf) (listed table 71) .diff) (correlation (Frame Stream) (listed table 72) .diff) ≡ false
+pub diffs : lt (correlation (Frame Lsf) (listed 10 table 71) .diff) (correlation (Frame Stream) (listed 10 table 72) .diff) ≡ false
 unfolding table ofBits matches correlation diffOf summed sumTo distanceOf symbolOf shiftOf gainOf highest lowest zeroUnsigned larger smaller sizeOf add sub mul div lt eq neg ofInt signsOf anyBelow
 diffs = refl
 

@@ -3,6 +3,8 @@
 pub mod Fed
 -- one fed sample, and many
 pub mod Steps
+-- the first sample at which a kind matches
+pub mod Take
 -- a burst that ends at sample 71
 pub mod Burst
 -- what is heard, from a table
@@ -16,8 +18,12 @@ pub mod EarlierLarger
 pub mod LaterSmaller
 -- their due frames: the rule, its corner, a replacement
 pub mod DueFrames
--- the first of them as a caller sees it
+-- the same as a caller sees it
+pub mod AsCalls
 pub mod Seen
+-- a burst at 24 kHz
+pub mod OneBurst24
+pub mod Seen24
 -- a switch of kind without a wait
 pub mod EarlierSmaller
 pub mod KindSwitch

@@ -48,7 +48,7 @@ passes = tt
 pub facts : Fits front (negsuc 0) (pos 0) table Stream none
 facts = fits front (negsuc 0) (pos 0) table Stream none passes
 
-pub over : T (silent table 73)
+pub over : T (silent 10 table 73)
 unfolding matched table ofBits matches correlation diffOf summed sumTo distanceOf symbolOf shiftOf gainOf highest lowest zeroUnsigned larger smaller sizeOf add sub mul div lt eq neg ofInt signsOf anyBelow
 over = tt
 

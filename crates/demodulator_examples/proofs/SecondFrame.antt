@@ -15,6 +15,8 @@ use Rattle.numbers.proofs.Below.{all-below}
 use Rattle.machine.specs.Runs.{run, Each}
 use Rattle.machine.proofs.Parts.{run-joined}
 use Rattle.shaping.specs.Taps.{taps}
+use Rattle.shaping.specs.Rate.{at48}
+use Rattle.shaping.proofs.RateFacts.{facts48}
 use Rattle.protocol.specs.declared.Kind.{Kind}
 use Rattle.search.specs.declared.Candidate.the-variants.{Nothing}
 use Rattle.search.specs.declared.Wait.the-variants.{Free}
@@ -32,17 +34,18 @@ use Rattle.demodulator_run.specs.Stretch.{Sixteen}
 use Rattle.demodulator_run.specs.Run.{Callable}
 use Rattle.demodulator_run.proofs.KindOrder.{no→⊥, same-self, same→≡}
 use Rattle.demodulator_run.proofs.Demand.{fedAll}
-use Rattle.demodulator_run.proofs.Demand48.{due-cause-48, due-offered-48}
+use Rattle.demodulator_run.proofs.DemandEachRate.{due-cause-48, due-offered-48}
 use Rattle.demodulator_run.proofs.Pass.{Step, controlled, pass-lost}
 use Rattle.demodulator_run.proofs.Sixteen.{sixteen-append}
 use Rattle.demodulator_examples.proofs.Fed.{fed, fed-append, fed-sampled, next}
 use Rattle.demodulator_examples.proofs.Steps.{standing, Hits, none, next-due, quiet-run}
 use Rattle.demodulator_examples.proofs.Table.{pause, pause-split, pause-suc, pause-length, listed, silent, hits-matched, hits-listed, silent-listed}
-use Rattle.demodulator_examples.proofs.Burst.{one-more, ear-all, fed-all, marked-after, part72, length71, before-due, falls-due}
+use Rattle.demodulator_examples.proofs.Take.{one-more, ear-all, fed-all, marked-after}
+use Rattle.demodulator_examples.proofs.Burst.{part72, length71, before-due, falls-due}
 use Rattle.demodulator_examples.proofs.Sketch.{Sketch, samples, sixteen, number, part, long}
 use Rattle.demodulator_examples.proofs.Again.{twice, begun, hits-again}
 
-module _ (S : Sketch) (fades : Hits (listed (S .table) 72) none) where
+module _ (S : Sketch) (fades : Hits (listed 10 (S .table) 72) none) where
   -- all the samples
   abbrev pub both : List ℤ
   both = S .front ++ (S .x ∷ S .y ∷ (pause 1900 ++ samples S))
@@ -70,13 +73,13 @@ module _ (S : Sketch) (fades : Hits (listed (S .table) 72) none) where
   begins = same ∙ ap (λ (l : List ℤ). l ++ samples S) (part S) ∙ append-assoc (begun S) (pause 1899) (samples S)
 
   none-before : (n : ℕ) → n ≤ 70 → Hits (hear n) none
-  none-before = silent-listed both (begun S) (pause 1899 ++ samples S) begins 73 (long S) (S .table) (S .tabled) 70 (lit≤ tt) (S .facts .quiet)
+  none-before = silent-listed at48 facts48 both (begun S) (pause 1899 ++ samples S) begins 73 (long S) (S .table) (S .tabled) 70 (lit≤ tt) (S .facts .quiet)
 
   at-71 : Hits (hear 71) (sameKind (S .kind))
-  at-71 = hits-listed both (begun S) (pause 1899 ++ samples S) begins 73 (long S) (S .table) (S .tabled) 71 (lit≤ tt) (sameKind (S .kind)) (S .facts .first)
+  at-71 = hits-listed at48 facts48 both (begun S) (pause 1899 ++ samples S) begins 73 (long S) (S .table) (S .tabled) 71 (lit≤ tt) (sameKind (S .kind)) (S .facts .first)
 
   at-72 : Hits (hear 72) none
-  at-72 = hits-listed both (begun S) (pause 1899 ++ samples S) begins 73 (long S) (S .table) (S .tabled) 72 (lit≤ tt) none fades
+  at-72 = hits-listed at48 facts48 both (begun S) (pause 1899 ++ samples S) begins 73 (long S) (S .table) (S .tabled) 72 (lit≤ tt) none fades
 
   goes : pause 1900 ++ samples S ≡ pause 1838 ++ (pos 0 ∷ (pause 61 ++ samples S))
   goes = ap (λ (l : List ℤ). l ++ samples S) (pause-split 1838 62 ∙ ap (λ (l : List ℤ). pause 1838 ++ l) (pause-suc 61)) ∙ append-assoc (pause 1838) (pos 0 ∷ pause 61) (samples S)
@@ -103,7 +106,7 @@ module _ (S : Sketch) (fades : Hits (listed (S .table) 72) none) where
   after-offer : (t : Timer) × (historyAll taps 10 (fed offered1911) ≡ standing offered1911 Nothing Free t 1911)
   after-offer =
       let (t, e) = waits in
-      (_, one-more upToDue (pos 0) ∙ ap (λ (h : History). next h (pos 0)) e ∙ next-due 1 false upToDue (pos 0) 1910 (lit< tt) held71 t)
+      (_, one-more at48 facts48 upToDue (pos 0) ∙ ap (λ (h : History). next at48 h (pos 0)) e ∙ next-due at48 1 false upToDue (pos 0) 1910 (lit< tt) held71 t)
 
   length-offered : length offered1911 ≡ 1911
   length-offered =
@@ -126,11 +129,11 @@ module _ (S : Sketch) (fades : Hits (listed (S .table) 72) none) where
   length-between : length between ≡ 131
   length-between = length-append (pause 61) (S .front) ∙ (let a = pause-length 61 in let b = S .facts .seventy in omega arith)
 
-  heard-again : (n : ℕ) → 223 ≤ n → n ≤ 2045 → (hit : Kind → Bool) → Hits (listed (S .table) (n - 1972)) hit → Hits (hear n) hit
+  heard-again : (n : ℕ) → 223 ≤ n → n ≤ 2045 → (hit : Kind → Bool) → Hits (listed 10 (S .table) (n - 1972)) hit → Hits (hear n) hit
   heard-again n a b hit h = subst (λ (l : List ℤ). Hits (earOf taps 10 l n) hit) (sym same) (hits-again S n a b hit h)
 
   silent-again : (n : ℕ) → 1911 < n → n ≤ 2042 → Hits (hear n) none
-  silent-again n a b = heard-again n (omega arith) (omega arith) none (hits-matched (S .table) (n - 1972) none (all-below 71 (silent (S .table)) (S .facts .quiet) (n - 1972) (omega arith)))
+  silent-again n a b = heard-again n (omega arith) (omega arith) none (hits-matched 10 (S .table) (n - 1972) none (all-below 71 (silent 10 (S .table)) (S .facts .quiet) (n - 1972) (omega arith)))
 
   abbrev upTo2042 : List ℤ
   upTo2042 = offered1911 ++ between
@@ -138,7 +141,7 @@ module _ (S : Sketch) (fades : Hits (listed (S .table) 72) none) where
   rests : (t : Timer) × (historyAll taps 10 (fed upTo2042) ≡ standing upTo2042 Nothing Free t 2042)
   rests =
       let (t, e) = after-offer in
-      let (u, f) = quiet-run both between offered1911 (S .x ∷ S .y ∷ pause 1900) t 1911 length-offered rest-split (let n = length-between in omega arith) (λ n a b. silent-again n a (let l = length-between in omega arith)) in (
+      let (u, f) = quiet-run at48 both between offered1911 (S .x ∷ S .y ∷ pause 1900) t 1911 length-offered rest-split (let n = length-between in omega arith) (λ n a b. silent-again n a (let l = length-between in omega arith)) in (
         u,
         ap (run (singleRules taps 10) start) (fed-append offered1911 between) ∙ run-joined (singleRules taps 10) (fed offered1911) (fed between) start ∙ ap (λ (h : History). run (singleRules taps 10) h (fed between)) e ∙ f
             ∙ ap (λ (n : ℕ). standing upTo2042 Nothing Free u (1911 + n)) length-between,
@@ -154,12 +157,12 @@ module _ (S : Sketch) (fades : Hits (listed (S .table) 72) none) where
   pub takes-again : In (First 2043 (S .kind)) (logAll taps 10 (fed both))
   takes-again =
       let (t, e) = rests in
-      marked-after both both-sixteen few (First 2043 (S .kind)) upTo2042 (S .x) (S .y ∷ pause 1900) (rest-split ∙ sym (append-assoc offered1911 between (S .x ∷ S .y ∷ pause 1900)))
+      marked-after at48 facts48 both both-sixteen few (First 2043 (S .kind)) upTo2042 (S .x) (S .y ∷ pause 1900) (rest-split ∙ sym (append-assoc offered1911 between (S .x ∷ S .y ∷ pause 1900)))
       (standing upTo2042 Nothing Free t 2042) e refl (lit< tt)
       (counted (controlled Nothing Free t false 2042), (refl, refl), (refl, refl, holds (at-2043 (S .kind) ∙ is-true (sameKind (S .kind) (S .kind)) (same-self (S .kind)))))
 
   both-fed : fedAll taps 10 (fed both) ≡ 3944
-  both-fed = fed-all both both-sixteen few ∙ both-number
+  both-fed = fed-all at48 facts48 both both-sixteen few ∙ both-number
 
   -- both frames are offered
   pub first-frame : OfferedAt taps 10 1911 (shownAt hear (S .kind) 71 1 false) (fed both)
@@ -197,7 +200,7 @@ module _ (S : Sketch) (fades : Hits (listed (S .table) 72) none) where
   pub second-frame : (w : Shown) × (w .kind ≡ S .kind) × OfferedAt taps 10 3883 w (fed both)
   second-frame =
       let (d, w, i, C, late, lasts) = subst (λ (e : Ear). (d : ℕ) × (w : Shown) × In (FellDue d w) (logAll taps 10 (fed both)) × (C : Cause e 10 (logAll taps 10 (fed both)) d w) × (2043 ≤ C .b)
-      × ((j : ℕ) → 2043 ≤ j → j < C .s → (k : Kind) × Matches e k j)) (sym (ear-all both both-sixteen few))
+      × ((j : ℕ) → 2043 ≤ j → j < C .s → (k : Kind) × Matches e k j)) (sym (ear-all at48 facts48 both both-sixteen few))
       (due-cause-48 (fed both) both-sampled 2043 (S .kind, takes-again) (let n = both-fed in omega arith)) in
       let k : w .kind ≡ S .kind = shows d w C late lasts in
       (w, k, subst (λ (n : ℕ). OfferedAt taps 10 n w (fed both)) (due-then d w C late lasts) (due-offered-48 (fed both) both-sampled d w i))

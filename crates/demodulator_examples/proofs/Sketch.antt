@@ -14,6 +14,8 @@ use Rattle.numbers.specs.Firsts.{firsts}
 use Rattle.numbers.proofs.Tests.{lt-or-le}
 use Rattle.machine.specs.Runs.{Each}
 use Rattle.shaping.specs.Taps.{taps}
+use Rattle.shaping.specs.Rate.{at48}
+use Rattle.shaping.proofs.RateFacts.{facts48}
 use Rattle.protocol.specs.declared.Kind.{Kind}
 use Rattle.protocol.specs.declared.SyncBurst.the-variants.{Frame}
 use Rattle.decode.specs.Correlator.{correlation}
@@ -30,14 +32,15 @@ use Rattle.demodulator_run.specs.Stretch.{Sixteen}
 use Rattle.demodulator_run.specs.Run.{Callable}
 use Rattle.demodulator_run.proofs.KindOrder.{same→≡, no→⊥}
 use Rattle.demodulator_run.proofs.Demand.{earAll, fedAll}
-use Rattle.demodulator_run.proofs.Demand48.{due-span-48, due-span-sharp-48, due-rule-48}
+use Rattle.demodulator_run.proofs.DemandEachRate.{due-span-48, due-span-sharp-48, due-rule-48}
 use Rattle.demodulator_run.proofs.Pass.{controlled, passBy}
 use Rattle.demodulator_run.proofs.Sixteen.{sixteen-append}
 use Rattle.demodulator_examples.proofs.Fed.{fed, fed-sampled}
 use Rattle.demodulator_examples.proofs.Steps.{Hits, none, waiting}
 use Rattle.demodulator_examples.proofs.Table.{pause, pause-split, pause-suc, pause-length, sixteen-test, sixteen-pause, listed, silent, hits-matched, listens, hits-listed, at-listed, silent-listed}
 use Rattle.demodulator_examples.proofs.Fits.{Fits}
-use Rattle.demodulator_examples.proofs.Burst.{heard-all, ear-all, fed-all, takes, falls-due}
+use Rattle.demodulator_examples.proofs.Take.{heard-all, ear-all, fed-all, takes}
+use Rattle.demodulator_examples.proofs.Burst.{falls-due}
 
 pub record Sketch : Type 0 where
   pub front : List ℤ
@@ -49,7 +52,7 @@ pub record Sketch : Type 0 where
   pub tabled : firsts (filtered taps 10 (front ++ (x ∷ y ∷ pos 0 ∷ []))) 74 ≡ table
   pub facts : Fits front x y table kind hit
   pub lost : hit kind ≡ false
-  pub over : T (silent table 73)
+  pub over : T (silent 10 table 73)
 
 module _ (S : Sketch) where
   -- the samples and 1,900 zeros, and the calls that feed them
@@ -75,10 +78,10 @@ module _ (S : Sketch) where
   few = let e = number in omega arith
 
   pub heard-samples : historyAll taps 10 calls .samples ≡ samples
-  heard-samples = heard-all samples sixteen few
+  heard-samples = heard-all at48 facts48 samples sixteen few
 
   pub fed-number : fedAll taps 10 calls ≡ 1972
-  fed-number = fed-all samples sixteen few ∙ number
+  fed-number = fed-all at48 facts48 samples sixteen few ∙ number
 
   -- ---- what is heard
   pub long : length (S .front ++ (S .x ∷ S .y ∷ pos 0 ∷ [])) ≡ 73
@@ -91,17 +94,17 @@ module _ (S : Sketch) where
   pub part : samples ≡ (S .front ++ (S .x ∷ S .y ∷ pos 0 ∷ [])) ++ pause 1899
   part = ap (λ (l : List ℤ). S .front ++ (S .x ∷ S .y ∷ l)) first-zero ∙ sym (append-assoc (S .front) (S .x ∷ S .y ∷ pos 0 ∷ []) (pause 1899))
 
-  pub hears : (k : ℕ) → k ≤ 73 → (i : ℕ) → shaped k i ≡ listed (S .table) k i
-  hears = listens samples (S .front ++ (S .x ∷ S .y ∷ pos 0 ∷ [])) (pause 1899) part 73 long (S .table) (S .tabled)
+  pub hears : (k : ℕ) → k ≤ 73 → (i : ℕ) → shaped k i ≡ listed 10 (S .table) k i
+  hears = listens at48 facts48 samples (S .front ++ (S .x ∷ S .y ∷ pos 0 ∷ [])) (pause 1899) part 73 long (S .table) (S .tabled)
 
-  hits : (k : ℕ) → k ≤ 73 → (hit : Kind → Bool) → Hits (listed (S .table) k) hit → Hits (shaped k) hit
-  hits = hits-listed samples (S .front ++ (S .x ∷ S .y ∷ pos 0 ∷ [])) (pause 1899) part 73 long (S .table) (S .tabled)
+  hits : (k : ℕ) → k ≤ 73 → (hit : Kind → Bool) → Hits (listed 10 (S .table) k) hit → Hits (shaped k) hit
+  hits = hits-listed at48 facts48 samples (S .front ++ (S .x ∷ S .y ∷ pos 0 ∷ [])) (pause 1899) part 73 long (S .table) (S .tabled)
 
-  pub correlates : (k : ℕ) → k ≤ 73 → (j : Kind) → at shaped j k ≡ correlation (Frame j) (listed (S .table) k)
-  correlates = at-listed samples (S .front ++ (S .x ∷ S .y ∷ pos 0 ∷ [])) (pause 1899) part 73 long (S .table) (S .tabled)
+  pub correlates : (k : ℕ) → k ≤ 73 → (j : Kind) → at shaped j k ≡ correlation (Frame j) (listed 10 (S .table) k)
+  correlates = at-listed at48 facts48 samples (S .front ++ (S .x ∷ S .y ∷ pos 0 ∷ [])) (pause 1899) part 73 long (S .table) (S .tabled)
 
   none-before : (n : ℕ) → n ≤ 70 → Hits (shaped n) none
-  none-before = silent-listed samples (S .front ++ (S .x ∷ S .y ∷ pos 0 ∷ [])) (pause 1899) part 73 long (S .table) (S .tabled) 70 (lit≤ tt) (S .facts .quiet)
+  none-before = silent-listed at48 facts48 samples (S .front ++ (S .x ∷ S .y ∷ pos 0 ∷ [])) (pause 1899) part 73 long (S .table) (S .tabled) 70 (lit≤ tt) (S .facts .quiet)
 
   at-71 : Hits (shaped 71) (sameKind (S .kind))
   at-71 = hits 71 (lit≤ tt) (sameKind (S .kind)) (S .facts .first)
@@ -110,11 +113,11 @@ module _ (S : Sketch) where
   at-72 = hits 72 (lit≤ tt) (S .hit) (S .facts .second)
 
   at-73 : Hits (shaped 73) none
-  at-73 = hits 73 (lit≤ tt) none (hits-matched (S .table) 73 none (S .over))
+  at-73 = hits 73 (lit≤ tt) none (hits-matched 10 (S .table) 73 none (S .over))
 
   -- ---- the take, and the span
   pub started : Started (logAll taps 10 calls) 71
-  started = (S .kind, takes (S .front) (S .x) (S .y) (pause 1900) (S .facts .seventy) sixteen few none-before (S .kind) at-71)
+  started = (S .kind, takes at48 facts48 70 (S .front) (S .x) (S .y ∷ pause 1900) (S .facts .seventy) sixteen few none-before (S .kind) at-71)
 
   pub spans : (d : ℕ) × DueAt (logAll taps 10 calls) d × (71 + 1839 ≤ d) × (d ≤ 71 + 1879)
   spans = due-span-48 calls sampled 71 started (let e = fed-number in omega arith)
@@ -135,7 +138,7 @@ module _ (S : Sketch) where
 
   -- ---- where it comes from
   pub ear-same : shaped ≡ earAll taps 10 calls
-  ear-same = ear-all samples sixteen few
+  ear-same = ear-all at48 facts48 samples sixteen few
 
   pub cause : (d : ℕ) (w : Shown) → In (FellDue d w) (logAll taps 10 calls) → Cause shaped 10 (logAll taps 10 calls) d w
   cause d w i = subst (λ (e : Ear). Cause e 10 (logAll taps 10 calls) d w) (sym ear-same) (due-rule-48 calls sampled .exact d w .0 i .1)

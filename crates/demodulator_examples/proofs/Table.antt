@@ -18,9 +18,8 @@ use Rattle.numbers.specs.Firsts.{firsts}
 use Rattle.numbers.specs.Below.{allBelow}
 use Rattle.numbers.proofs.Firsts.{firsts-at}
 use Rattle.numbers.proofs.Below.{all-below}
-use Rattle.shaping.specs.Rate.{at48}
-use Rattle.shaping.proofs.RateFacts.{facts48}
-use Rattle.shaping.specs.Taps.{taps}
+use Rattle.shaping.specs.Rate.{Rate}
+use Rattle.shaping.proofs.RateFacts.{Facts}
 use Rattle.protocol.specs.declared.Kind.{Kind}
 use Rattle.protocol.specs.declared.Kind.the-variants.{Lsf, Bert, Stream, Packet}
 use Rattle.protocol.specs.declared.SyncBurst.the-variants.{Frame}
@@ -65,54 +64,55 @@ unfolding pause Sixteen
 sixteen-pause zero = tt
 sixteen-pause (suc n) = (record { sfits = ltb→lt 0 (2 ^ hbits w16) tt }, sixteen-pause n)
 
--- ---- the eight values at sample k, from F(0), F(1), ..
-abbrev pub listed : List Float → ℕ → ℕ → Float
-listed table k i = getD table (k - 10 * (7 - i)) nought
+module _ (p : ℕ) where
+  -- ---- the eight values at sample k, from F(0), F(1), ..
+  abbrev pub listed : List Float → ℕ → ℕ → Float
+  listed table k i = getD table (k - p * (7 - i)) nought
 
--- ---- which kinds match there
-abbrev level : Bool → Bool → Bool
-level a b = cond a b (not b)
+  -- ---- which kinds match there
+  abbrev level : Bool → Bool → Bool
+  level a b = cond a b (not b)
 
-levelled : (a b : Bool) → T (level a b) → a ≡ b
-levelled true true t = refl
-levelled false false t = refl
+  levelled : (a b : Bool) → T (level a b) → a ≡ b
+  levelled true true t = refl
+  levelled false false t = refl
 
-abbrev judged : List Float → ℕ → (Kind → Bool) → Kind → Bool
-judged table k hit j = level (matches (Frame j) (listed table k)) (hit j)
+  abbrev judged : List Float → ℕ → (Kind → Bool) → Kind → Bool
+  judged table k hit j = level (matches (Frame j) (listed table k)) (hit j)
 
--- those of `hit`, and no others
-unfoldable pub matched : List Float → ℕ → (Kind → Bool) → Bool
-matched table k hit = judged table k hit Lsf && (judged table k hit Bert && (judged table k hit Stream && judged table k hit Packet))
+  -- those of `hit`, and no others
+  unfoldable pub matched : List Float → ℕ → (Kind → Bool) → Bool
+  matched table k hit = judged table k hit Lsf && (judged table k hit Bert && (judged table k hit Stream && judged table k hit Packet))
 
-abbrev pub silent : List Float → ℕ → Bool
-silent table k = matched table k none
+  abbrev pub silent : List Float → ℕ → Bool
+  silent table k = matched table k none
 
-all-four : (m : Kind → Bool) → T (m Lsf && (m Bert && (m Stream && m Packet))) → (k : Kind) → T (m k)
-all-four m t Lsf = and-l (m Lsf) (m Bert && (m Stream && m Packet)) t
-all-four m t Bert = and-l (m Bert) (m Stream && m Packet) (and-r (m Lsf) (m Bert && (m Stream && m Packet)) t)
-all-four m t Stream = and-l (m Stream) (m Packet) (and-r (m Bert) (m Stream && m Packet) (and-r (m Lsf) (m Bert && (m Stream && m Packet)) t))
-all-four m t Packet = and-r (m Stream) (m Packet) (and-r (m Bert) (m Stream && m Packet) (and-r (m Lsf) (m Bert && (m Stream && m Packet)) t))
+  all-four : (m : Kind → Bool) → T (m Lsf && (m Bert && (m Stream && m Packet))) → (k : Kind) → T (m k)
+  all-four m t Lsf = and-l (m Lsf) (m Bert && (m Stream && m Packet)) t
+  all-four m t Bert = and-l (m Bert) (m Stream && m Packet) (and-r (m Lsf) (m Bert && (m Stream && m Packet)) t)
+  all-four m t Stream = and-l (m Stream) (m Packet) (and-r (m Bert) (m Stream && m Packet) (and-r (m Lsf) (m Bert && (m Stream && m Packet)) t))
+  all-four m t Packet = and-r (m Stream) (m Packet) (and-r (m Bert) (m Stream && m Packet) (and-r (m Lsf) (m Bert && (m Stream && m Packet)) t))
 
-pub hits-matched : (table : List Float) (k : ℕ) (hit : Kind → Bool) → T (matched table k hit) → Hits (listed table k) hit
-unfolding matched
-hits-matched table k hit t j = levelled (matches (Frame j) (listed table k)) (hit j) (all-four (judged table k hit) t j)
+  pub hits-matched : (table : List Float) (k : ℕ) (hit : Kind → Bool) → T (matched table k hit) → Hits (listed table k) hit
+  unfolding matched
+  hits-matched table k hit t j = levelled (matches (Frame j) (listed table k)) (hit j) (all-four (judged table k hit) t j)
 
-module _ (all ys more : List ℤ) (part : all ≡ ys ++ more) (n : ℕ) (long : length ys ≡ n) (table : List Float) (tabled : firsts (filtered taps 10 ys) (suc n) ≡ table) where
-  pub listens : (k : ℕ) → k ≤ n → (i : ℕ) → earOf taps 10 all k i ≡ listed table k i
+module _ (R : Rate) (F : Facts R) (all ys more : List ℤ) (part : all ≡ ys ++ more) (n : ℕ) (long : length ys ≡ n) (table : List Float) (tabled : firsts (filtered (R .taps) (R .p) ys) (suc n) ≡ table) where
+  pub listens : (k : ℕ) → k ≤ n → (i : ℕ) → earOf (R .taps) (R .p) all k i ≡ listed (R .p) table k i
   listens k l i =
-      let m : ℕ = k - 10 * (7 - i) in
-      filtered-taken taps 10 (taps-size at48 facts48) k all m (omega arith)
-      ∙ ap (λ (zs : List ℤ). filtered taps 10 zs m) part
-      ∙ sym (filtered-taken taps 10 (taps-size at48 facts48) n (ys ++ more) m (omega arith))
-      ∙ ap (λ (zs : List ℤ). filtered taps 10 zs m) (take-at ys more n long)
-      ∙ sym (firsts-at (filtered taps 10 ys) (suc n) m nought (omega arith))
+      let m : ℕ = k - R .p * (7 - i) in
+      filtered-taken (R .taps) (R .p) (taps-size R F) k all m (omega arith)
+      ∙ ap (λ (zs : List ℤ). filtered (R .taps) (R .p) zs m) part
+      ∙ sym (filtered-taken (R .taps) (R .p) (taps-size R F) n (ys ++ more) m (omega arith))
+      ∙ ap (λ (zs : List ℤ). filtered (R .taps) (R .p) zs m) (take-at ys more n long)
+      ∙ sym (firsts-at (filtered (R .taps) (R .p) ys) (suc n) m nought (omega arith))
       ∙ ap (λ (t : List Float). getD t m nought) tabled
 
-  pub hits-listed : (k : ℕ) → k ≤ n → (hit : Kind → Bool) → Hits (listed table k) hit → Hits (earOf taps 10 all k) hit
-  hits-listed k l hit h j = matches-same (Frame j) (earOf taps 10 all k) (listed table k) (λ i b. listens k l i) ∙ h j
+  pub hits-listed : (k : ℕ) → k ≤ n → (hit : Kind → Bool) → Hits (listed (R .p) table k) hit → Hits (earOf (R .taps) (R .p) all k) hit
+  hits-listed k l hit h j = matches-same (Frame j) (earOf (R .taps) (R .p) all k) (listed (R .p) table k) (λ i b. listens k l i) ∙ h j
 
-  pub at-listed : (k : ℕ) → k ≤ n → (j : Kind) → at (earOf taps 10 all) j k ≡ correlation (Frame j) (listed table k)
-  at-listed k l j = correlation-same (Frame j) (earOf taps 10 all k) (listed table k) (λ i b. listens k l i)
+  pub at-listed : (k : ℕ) → k ≤ n → (j : Kind) → at (earOf (R .taps) (R .p) all) j k ≡ correlation (Frame j) (listed (R .p) table k)
+  at-listed k l j = correlation-same (Frame j) (earOf (R .taps) (R .p) all k) (listed (R .p) table k) (λ i b. listens k l i)
 
-  pub silent-listed : (m : ℕ) → m ≤ n → T (allBelow (suc m) (silent table)) → (k : ℕ) → k ≤ m → Hits (earOf taps 10 all k) none
-  silent-listed m l t k h = hits-listed k (omega arith) none (hits-matched table k none (all-below (suc m) (silent table) t k (omega arith)))
+  pub silent-listed : (m : ℕ) → m ≤ n → T (allBelow (suc m) (silent (R .p) table)) → (k : ℕ) → k ≤ m → Hits (earOf (R .taps) (R .p) all k) none
+  silent-listed m l t k h = hits-listed k (omega arith) none (hits-matched (R .p) table k none (all-below (suc m) (silent (R .p) table) t k (omega arith)))

@@ -8,7 +8,7 @@ use lib.Dec.{T, lit<, lit≤}
 use lib.IntN.{pos}
 use lib.Ieee.{Float, binary32, ofBits, lt, le}
 use Rattle.numbers.specs.Below.{allBelow}
-use Rattle.shaping.specs.Rate.{at48}
+use Rattle.shaping.specs.Rate.{Rate, at48}
 use Rattle.protocol.specs.declared.Kind.the-variants.{Bert}
 use Rattle.protocol.specs.declared.Refusal.the-variants.{RecordUnfit}
 use Rattle.protocol.specs.Refusals.{bare}
@@ -41,7 +41,7 @@ use Rattle.demodulator_laws.proofs.SearchFits.{Outgrown, Unnumbered}
 abbrev waiting : ℕ → Control
 waiting left = record { candidate = heldAt Bert 254; wait = Due (waitOf left); dcd = Until 3840; owed = false; sample = 1840 }
 
-abbrev owed : Control
+abbrev pub owed : Control
 owed = owing true freshControl
 
 waiting-two-fit : T (controlFit 10 (waiting 2))
@@ -96,17 +96,18 @@ replied-either-meets = replied-either 10 (lit≤ tt) silent silent-range owed ow
 
 -- ---- a sample
 past : SoftDemodulator
-past = assembled [] 81 [] 0 freshControl
+past = assembled 48000 [] 81 [] 0 freshControl
 
 past-unfit : fitForSample 10 past ≡ false
 unfolding past fitForSample recordFit halvesAgree allBelow
 past-unfit = refl
 
 sample-unfit-meets : demodulated at48 past (pos 1) [] ≡ refused 1 past []
-sample-unfit-meets = sample-unfit past (pos 1) [] past-unfit
+unfolding past
+sample-unfit-meets = sample-unfit at48 past (pos 1) [] refl past-unfit
 
 abbrev pub debtor : SoftDemodulator
-debtor = withControl owed fresh
+debtor = withControl owed (fresh 48000)
 
 debtor-for-sample : fitForSample 10 debtor ≡ true
 unfolding fresh fitForSample recordFit halvesAgree controlFit candidateFit waitFit allBelow inRange ofBits le lt
@@ -118,39 +119,38 @@ debtor-for-reply = refl
 
 -- 2 before 4
 sample-owed-meets : demodulated at48 debtor (pos 1) [] ≡ refused 2 debtor []
-sample-owed-meets = sample-owed debtor (pos 1) [] debtor-for-sample refl
+sample-owed-meets = sample-owed at48 debtor (pos 1) [] debtor-for-sample refl
 
-pub fresh-free : fresh .control .owed ≡ false
+pub fresh-free : fresh 48000 .control .owed ≡ false
 unfolding fresh
 fresh-free = refl
 
-sample-cramped-meets : demodulated at48 fresh (pos 1) [] ≡ refused 4 fresh []
-sample-cramped-meets = sample-cramped fresh (pos 1) [] fresh-for-sample fresh-free (lit< tt)
+sample-cramped-meets : demodulated at48 (fresh 48000) (pos 1) [] ≡ refused 4 (fresh 48000) []
+sample-cramped-meets = sample-cramped at48 (fresh 48000) (pos 1) [] fresh-for-sample fresh-free (lit< tt)
 
 abbrev last : SoftDemodulator
-last = withControl (record { candidate = Nothing; wait = Free; dcd = Off; owed = false; sample = 2 ^ 63 }) fresh
+last = withControl (record { candidate = Nothing; wait = Free; dcd = Off; owed = false; sample = 2 ^ 63 }) (fresh 48000)
 
 last-for-sample : fitForSample 10 last ≡ true
 unfolding fresh fitForSample recordFit halvesAgree controlFit candidateFit waitFit allBelow inRange ofBits le lt
 last-for-sample = refl
 
 sample-last-meets : demodulated at48 last (pos 1) room ≡ refused 5 last room
-sample-last-meets = sample-last last (pos 1) room last-for-sample refl room-enough refl
+sample-last-meets = sample-last at48 last (pos 1) room last-for-sample refl room-enough refl
 
-fresh-count : fresh .control .sample < 2 ^ 63
+pub answer-at : (R : Rate) (rate : ℕ) → fitForSample (R .p) (fresh rate) ≡ true → demodulated R (fresh rate) (pos 1) room .answer ≡ nothing
 unfolding fresh
-fresh-count = lit< tt
-
-pub fresh-answer : demodulated at48 fresh (pos 1) room .answer ≡ nothing
-unfolding fresh
-fresh-answer =
-    let v = eight 10 (back 10 (stored at48 fresh (pos 1))) in
+answer-at R rate fit =
+    let v = eight (R .p) (back (R .p) (stored R (fresh rate) (pos 1))) in
     ap (λ (left : Left). left .answer)
-    (sample-taken fresh (pos 1) room fresh-for-sample fresh-free room-enough fresh-count (quiet (searched 10 v (counted freshControl))) (sym (sampled-free 10 v freshControl refl)))
+    (sample-taken R (fresh rate) (pos 1) room fit refl room-enough (lit< tt) (quiet (searched (R .p) v (counted freshControl))) (sym (sampled-free (R .p) v freshControl refl)))
 
-refuses-meets : Steps [] [] (record { «filter_cursor» = 81; «rx_cursor» = 0 }) freshControl (pos 1) [] (unmoved RecordUnfit (record { «filter_cursor» = 81; «rx_cursor» = 0 }) freshControl) [] [] []
-unfolding past
-refuses-meets = refuses [] [] [] (record { «filter_cursor» = 81; «rx_cursor» = 0 }) freshControl (pos 1) RecordUnfit _ refl sample-unfit-meets
+pub fresh-answer : demodulated at48 (fresh 48000) (pos 1) room .answer ≡ nothing
+fresh-answer = answer-at at48 48000 fresh-for-sample
+
+refuses-meets : Steps 10 [] [] (record { «filter_cursor» = 81; «rx_cursor» = 0 }) freshControl (pos 1) [] (unmoved RecordUnfit (record { «filter_cursor» = 81; «rx_cursor» = 0 }) freshControl) [] [] []
+unfolding fitForSample recordFit halvesAgree allBelow
+refuses-meets = refuses 10 [] [] [] (record { «filter_cursor» = 81; «rx_cursor» = 0 }) freshControl (pos 1) RecordUnfit _ refl (λ rate known. sample-unfit at48 (assembled rate [] 81 [] 0 freshControl) (pos 1) [] known (rw known))
 
 -- ---- a reply, and the carrier
 past-for-reply : fitForReply 10 past ≡ false
@@ -158,19 +158,20 @@ unfolding past fitForReply recordFit halvesAgree allBelow
 past-for-reply = refl
 
 reply-unfit-meets : answered 10 past Accepted [] ≡ refused 1 past []
-reply-unfit-meets = reply-unfit past Accepted [] past-for-reply
+unfolding past
+reply-unfit-meets = reply-unfit 10 past Accepted [] refl past-for-reply
 
-reply-unasked-meets : answered 10 fresh Accepted [] ≡ refused 3 fresh []
-reply-unasked-meets = reply-unasked fresh Accepted [] fresh-for-reply fresh-free
+reply-unasked-meets : answered 10 (fresh 48000) Accepted [] ≡ refused 3 (fresh 48000) []
+reply-unasked-meets = reply-unasked 10 (fresh 48000) Accepted [] fresh-for-reply fresh-free
 
 pub reply-taken-meets : answered 10 debtor Rejected [] ≡ record { answer = done; demodulator = replyLeaves 10 debtor Rejected; room = [] }
-reply-taken-meets = reply-taken debtor Rejected [] debtor-for-reply refl
+reply-taken-meets = reply-taken 10 debtor Rejected [] debtor-for-reply refl
 
 carrier-unfit-meets : detected 10 past ≡ refusal (bare 1)
 unfolding past recordFit halvesAgree allBelow
-carrier-unfit-meets = carrier-unfit past refl
+carrier-unfit-meets = carrier-unfit 10 past refl refl
 
 -- a query is answered while a reply is owed
 carrier-told-meets : detected 10 debtor ≡ carrier false
 unfolding fresh recordFit halvesAgree controlFit candidateFit waitFit allBelow
-carrier-told-meets = carrier-told debtor refl
+carrier-told-meets = carrier-told 10 debtor refl

@@ -22,7 +22,7 @@ use Rattle.demodulator.specs.Spans.{eight}
 use Rattle.demodulator.specs.Record.{fresh, withControl, back, stored}
 use Rattle.demodulator.specs.Fit.{halvesAgree, recordFit, fitForSample}
 use Rattle.demodulator.specs.Calls.{refusal, nothing, demodulated}
-use Rattle.demodulator.specs.Feed.{Stretch, sampleSaid, sampleNext, sampleRoom, fedInto}
+use Rattle.demodulator.specs.Feed.{Stretch, sampleSaid, sampleNext, sampleRoom, emptySaid, fedInto}
 use Rattle.demodulator.proofs.StepInstances.{room, room-enough}
 use Rattle.demodulator.proofs.CallCases.{sample-last, sample-taken}
 use Rattle.demodulator.proofs.FeedSteps.{fed-some}
@@ -40,21 +40,21 @@ two = pos 1 ∷ pos 1 ∷ []
 
 -- ---- at the end of the count
 abbrev last : SoftDemodulator
-last = withControl (waiting 2 (2 ^ 63)) fresh
+last = withControl (waiting 2 (2 ^ 63)) (fresh 48000)
 
 last-fit : fitForSample 10 last ≡ true
 unfolding fresh fitForSample recordFit halvesAgree controlFit candidateFit waitFit allBelow inRange ofBits le lt
 last-fit = refl
 
 last-refused : fedInto at48 last two room .answer ≡ refusal (bare 5)
-last-refused = ap (λ (t : Stretch SoftDemodulator). t .answer) (fed-some at48 last two room (lit< tt) ∙ fed-stuck at48 last (pos 1) (pos 1 ∷ []) room 0 5 (sample-last last (pos 1) room last-fit refl room-enough refl))
+last-refused = ap (λ (t : Stretch SoftDemodulator). t .answer) (fed-some at48 last two room (lit< tt) ∙ fed-stuck at48 last (pos 1) (pos 1 ∷ []) room 0 5 (sample-last at48 last (pos 1) room last-fit refl room-enough refl))
 
 refused-feed-meets : fedInto at48 last two room ≡ record { answer = refusal (bare 5); fed = 0; state = last; room = room }
-refused-feed-meets = refused-feed SoftDemodulator (sampleSaid at48) (sampleNext at48) (sampleRoom at48) (recordFit 10) last two room (bare 5) last-refused
+refused-feed-meets = refused-feed SoftDemodulator (sampleSaid at48) (sampleNext at48) (sampleRoom at48) (emptySaid 10) last two room (bare 5) last-refused
 
 -- ---- one before it
 abbrev before : SoftDemodulator
-before = withControl (waiting 3 (2 ^ 63 - 1)) fresh
+before = withControl (waiting 3 (2 ^ 63 - 1)) (fresh 48000)
 
 before-fit : fitForSample 10 before ≡ true
 unfolding fresh fitForSample recordFit halvesAgree controlFit candidateFit waitFit allBelow inRange ofBits le lt
@@ -69,13 +69,13 @@ after-fit = refl
 
 taken : demodulated at48 before (pos 1) room ≡ record { answer = nothing; demodulator = after; room = room }
 unfolding cleared
-taken = sample-taken before (pos 1) room before-fit refl room-enough (lit< tt) (quiet (waitingOn (waitOf 2) (counted (before .control)))) (sym (sampled-rest 10 (eight 10 (back 10 (stored at48 before (pos 1)))) (before .control) (waitOf 3) refl (lit≤ tt)))
+taken = sample-taken at48 before (pos 1) room before-fit refl room-enough (lit< tt) (quiet (waitingOn (waitOf 2) (counted (before .control)))) (sym (sampled-rest 10 (eight 10 (back 10 (stored at48 before (pos 1)))) (before .control) (waitOf 3) refl (lit≤ tt)))
 
 before-stops : fedInto at48 before two room ≡ record { answer = nothing; fed = 1; state = after; room = room }
 before-stops =
     fed-some at48 before two room (lit< tt)
     ∙ fed-silent at48 before (pos 1) (pos 1 ∷ []) room 0 after taken
-    ∙ fed-stuck at48 after (pos 1) [] room 1 5 (sample-last after (pos 1) room after-fit refl room-enough refl)
+    ∙ fed-stuck at48 after (pos 1) [] room 1 5 (sample-last at48 after (pos 1) room after-fit refl room-enough refl)
 
 before-less : fedInto at48 before two room .fed < 2
 before-less = rw before-stops (lit< tt)

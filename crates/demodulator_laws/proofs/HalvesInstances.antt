@@ -21,7 +21,7 @@ use Rattle.demodulator.proofs.CallCases.{sample-unfit, reply-unfit, carrier-unf
 
 -- ---- a fresh record but for one place of the window
 abbrev with-sample : ℕ → SoftDemodulator
-with-sample at = assembled (set (fresh .«filter_win») at (pos 1)) 0 (fresh .«rx_win») 0 (fresh .control)
+with-sample at = assembled 48000 (set (fresh 48000 .«filter_win») at (pos 1)) 0 (fresh 48000 .«rx_win») 0 (fresh 48000 .control)
 
 abbrev agrees : ℕ → Bool → Type 0
 agrees at answer = recordFit 10 (with-sample at) ≡ answer
@@ -44,23 +44,23 @@ unfolding fresh recordFit halvesAgree allBelow
 last-differs = refl
 
 -- the same sample at both places: fit
-both-agree : recordFit 10 (assembled (set (set (fresh .«filter_win») 80 (negsuc 0)) 161 (negsuc 0)) 80 (fresh .«rx_win») 0 (fresh .control)) ≡ true
+both-agree : recordFit 10 (assembled 48000 (set (set (fresh 48000 .«filter_win») 80 (negsuc 0)) 161 (negsuc 0)) 80 (fresh 48000 .«rx_win») 0 (fresh 48000 .control)) ≡ true
 unfolding fresh recordFit halvesAgree controlFit candidateFit waitFit allBelow
 both-agree = refl
 
 -- every call is refused with 1
 sample-refused : demodulated at48 (with-sample 161) (pos 1) [] ≡ refused 1 (with-sample 161) []
-sample-refused = sample-unfit (with-sample 161) (pos 1) [] (unfold fresh fitForSample recordFit halvesAgree allBelow in refl)
+sample-refused = sample-unfit at48 (with-sample 161) (pos 1) [] refl (unfold fresh fitForSample recordFit halvesAgree allBelow in refl)
 
 reply-refused : answered 10 (with-sample 161) Accepted [] ≡ refused 1 (with-sample 161) []
-reply-refused = reply-unfit (with-sample 161) Accepted [] (unfold fresh fitForReply recordFit halvesAgree allBelow in refl)
+reply-refused = reply-unfit 10 (with-sample 161) Accepted [] refl (unfold fresh fitForReply recordFit halvesAgree allBelow in refl)
 
 carrier-refused : detected 10 (with-sample 161) ≡ refusal (bare 1)
-carrier-refused = carrier-unfit (with-sample 161) last-differs
+carrier-refused = carrier-unfit 10 (with-sample 161) refl last-differs
 
 -- ---- a store at the last cursor, whose sample then lies before the next cursor, 0, and at the end
 abbrev last : SoftDemodulator
-last = assembled (fresh .«filter_win») 80 (fresh .«rx_win») 0 (fresh .control)
+last = assembled 48000 (fresh 48000 .«filter_win») 80 (fresh 48000 .«rx_win») 0 (fresh 48000 .control)
 
 last-long : windowPlaces 10 ≤ length (last .«filter_win»)
 unfolding fresh

@@ -13,6 +13,10 @@ pub mod StoredFits
 pub mod SampleFits
 pub mod FitAgain
 pub mod FedFits
+-- at each of the two rates
+pub mod FitEachRate
+-- what is past a rate's places is neither tested nor changed
+pub mod UnusedPlaces
 -- what one sample comes to
 pub mod SampleComes
 -- a refused stretch changes nothing
@@ -25,5 +29,8 @@ pub mod CallInstances
 pub mod FitInstances
 pub mod FeedInstances
 pub mod HalvesInstances
+pub mod RateInstances
 -- each limit of a record, met and passed by one
 pub mod Limits
+pub mod RingLimits
+pub mod Limits24

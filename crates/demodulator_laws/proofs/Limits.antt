@@ -1,11 +1,9 @@
--- Each limit of 'Unfit receiver', met and passed by one, worked out: the clauses are those of `Fit`, and a call of a record that one of them shuts out is refused with 1
--- (`sample-unfit`, `reply-unfit`, `carrier-unfit`). Assumes nothing.
+-- Each limit of 'Unfit receiver' on the control, met and passed by one, worked out at 48 kHz: the clauses are those of `Fit`, and a call of a record that one of them
+-- shuts out is refused with 1 (`sample-unfit`, `reply-unfit`, `carrier-unfit`). Assumes nothing.
 use mathlib.Core.Path.{_≡_, refl}
 use mathlib.Core.Bool.{Bool, true, false}
 use Prim.Native.Nat.{ℕ, _+_, _^_}
 use lib.Ieee.{Float, nan, binary32, ofBits, lt, le}
-use lib.ListN.{set}
-use Rattle.numbers.specs.Below.{allBelow}
 use Rattle.protocol.specs.declared.Kind.the-variants.{Packet}
 use Rattle.decode.specs.Correlator.{inRange}
 use Rattle.search.specs.declared.Candidate.{Candidate}
@@ -16,14 +14,11 @@ use Rattle.search.specs.declared.Timer.the-variants.{Off, Until}
 use Rattle.search.specs.declared.Control.{Control}
 use Rattle.search.specs.TakenBurst.{heldAs}
 use Rattle.search.specs.Fit.{candidateFit, waitFit, controlFit}
-use Rattle.demodulator.specs.declared.SoftDemodulator.{SoftDemodulator}
-use Rattle.demodulator.specs.Record.{fresh, assembled}
-use Rattle.demodulator.specs.Fit.{halvesAgree, recordFit, fitForSample, fitForReply}
 use Rattle.demodulator_laws.proofs.Grown.{takenAs}
 use Rattle.demodulator_laws.proofs.ExampleBurst.{burstAt, waitOf}
 
 -- ---- the control
-abbrev control : ℕ → ℕ → ℕ → Float → Float → Float → ℕ → Control
+abbrev pub control : ℕ → ℕ → ℕ → Float → Float → Float → ℕ → Control
 control count end age diff gain shift left = record {
   candidate = heldAs (burstAt Packet age (record { diff = diff; gain = gain; shift = shift }));
   wait = Due (waitOf left);
@@ -32,17 +27,17 @@ control count end age diff gain shift left = record {
   sample = count;
 }
 
-abbrev million : Float
+abbrev pub million : Float
 million = ofBits binary32 0x4974_2400
 
-abbrev pastMillion : Float
+abbrev pub pastMillion : Float
 pastMillion = ofBits binary32 0x4974_2401
 
 -- the last float below 100, and 16
-abbrev underHundred : Float
+abbrev pub underHundred : Float
 underHundred = ofBits binary32 0x42c7_ffff
 
-abbrev sixteen : Float
+abbrev pub sixteen : Float
 sixteen = ofBits binary32 0x4180_0000
 
 abbrev fits : Control → Bool → Type 0
@@ -117,10 +112,10 @@ wait-none : fits (control 1 0 1 (ofBits binary32 0) sixteen million 0) false
 unfolding controlFit candidateFit waitFit inRange ofBits le lt
 wait-none = refl
 
-abbrev bare : Candidate → Wait → Bool → Control
+abbrev pub bare : Candidate → Wait → Bool → Control
 bare candidate wait owed = record { candidate = candidate; wait = wait; dcd = Off; owed = owed; sample = 1 }
 
-abbrev held : Candidate
+abbrev pub held : Candidate
 held = heldAs (burstAt Packet 1 (record { diff = ofBits binary32 0; gain = sixteen; shift = million }))
 
 wait-alone : fits (bare Nothing (Due (waitOf 1)) false) false
@@ -167,7 +162,7 @@ unfolding controlFit candidateFit waitFit inRange ofBits le lt
 taken-none = refl
 
 -- document 02 j): "a wait's kept age of 0"; any other is fit, whatever the candidate's own
-abbrev keptAt : ℕ → Bool → Control
+abbrev pub keptAt : ℕ → Bool → Control
 keptAt age mark = bare held (Due (record { left = 1; age = age; replaced = mark })) false
 
 kept-most : fits (keptAt 255 true) true
@@ -177,69 +172,3 @@ kept-most = refl
 kept-none : fits (keptAt 0 false) false
 unfolding controlFit candidateFit waitFit inRange ofBits le lt
 kept-none = refl
-
--- ---- the cursors: "a cursor at or past its ring's length (81, 1,920)"
-abbrev placed : ℕ → ℕ → Bool → Type 0
-placed windowCursor ringCursor answer = recordFit 10 (assembled (fresh .«filter_win») windowCursor (fresh .«rx_win») ringCursor (fresh .control)) ≡ answer
-
-cursors-last : placed 80 1919 true
-unfolding fresh recordFit halvesAgree controlFit candidateFit waitFit allBelow
-cursors-last = refl
-
-window-past : placed 81 1919 false
-unfolding fresh recordFit halvesAgree allBelow
-window-past = refl
-
-ring-past : placed 80 1920 false
-unfolding fresh recordFit halvesAgree allBelow
-ring-past = refl
-
--- ---- the filtered values, at a cursor of 0
-abbrev waiting : ℕ → Control
-waiting left = bare held (Due (waitOf left)) false
-
-abbrev with-value : Control → ℕ → Float → SoftDemodulator
-with-value c place value = assembled (fresh .«filter_win») 0 (set (fresh .«rx_win») place value) 0 c
-
--- "a filtered value not within ±1,000,000 in one of the seven ring places this sample's search would read besides the new value": 1910, 1900, .. 1850
-sample-value-last : fitForSample 10 (with-value (fresh .control) 1850 million) ≡ true
-unfolding fresh fitForSample recordFit halvesAgree controlFit candidateFit waitFit allBelow inRange ofBits le lt
-sample-value-last = refl
-
-sample-value-past : fitForSample 10 (with-value (fresh .control) 1850 pastMillion) ≡ false
-unfolding fresh fitForSample recordFit halvesAgree controlFit candidateFit waitFit allBelow inRange ofBits le lt
-sample-value-past = refl
-
-sample-value-below : fitForSample 10 (with-value (fresh .control) 1910 (ofBits binary32 0xc974_2401)) ≡ false
-unfolding fresh fitForSample recordFit halvesAgree controlFit candidateFit waitFit allBelow inRange ofBits le lt
-sample-value-below = refl
-
-sample-value-untested : fitForSample 10 (with-value (fresh .control) 1840 nan) ≡ true
-unfolding fresh fitForSample recordFit halvesAgree controlFit candidateFit waitFit allBelow inRange ofBits le lt
-sample-value-untested = refl
-
--- "or, where the wait is 1, in one of the other places the window reads": down to 10
-window-value-last : fitForSample 10 (with-value (waiting 1) 10 million) ≡ true
-unfolding fresh fitForSample recordFit halvesAgree controlFit candidateFit waitFit allBelow inRange ofBits le lt
-window-value-last = refl
-
-window-value-past : fitForSample 10 (with-value (waiting 1) 10 pastMillion) ≡ false
-unfolding fresh fitForSample recordFit halvesAgree controlFit candidateFit waitFit allBelow inRange ofBits le lt
-window-value-past = refl
-
-window-value-untested : fitForSample 10 (with-value (waiting 2) 10 nan) ≡ true
-unfolding fresh fitForSample recordFit halvesAgree controlFit candidateFit waitFit allBelow inRange ofBits le lt
-window-value-untested = refl
-
--- "on a reply: in one of the eight places": 1919, 1909, .. 1849
-reply-value-last : fitForReply 10 (with-value (fresh .control) 1849 million) ≡ true
-unfolding fresh fitForReply recordFit halvesAgree controlFit candidateFit waitFit allBelow inRange ofBits le lt
-reply-value-last = refl
-
-reply-value-past : fitForReply 10 (with-value (fresh .control) 1849 pastMillion) ≡ false
-unfolding fresh fitForReply recordFit halvesAgree controlFit candidateFit waitFit allBelow inRange ofBits le lt
-reply-value-past = refl
-
-reply-value-untested : fitForReply 10 (with-value (fresh .control) 1850 nan) ≡ true
-unfolding fresh fitForReply recordFit halvesAgree controlFit candidateFit waitFit allBelow inRange ofBits le lt
-reply-value-untested = refl

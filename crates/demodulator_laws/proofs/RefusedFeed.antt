@@ -48,11 +48,11 @@ module _ (S : Type 0) (said : S → ℤ → List Float → Paper) (next : S → 
       (λ k told. let more : n + 1 ≡ 0 = rest-unmoved xs (n + 1) (next s x room) (after s x room) k told .0 in omega arith)
       number e
 
-  pub refused-feed : (fit : S → Bool) (s : S) (xs : List ℤ) (room : List Float) (number : PaperRefusal) → fed S said next after fit s xs room .answer ≡ refusal number
-      → fed S said next after fit s xs room ≡ record { answer = refusal number; fed = 0; state = s; room = room }
+  pub refused-feed : (none : S → Paper) (s : S) (xs : List ℤ) (room : List Float) (number : PaperRefusal) → fed S said next after none s xs room .answer ≡ refusal number
+      → fed S said next after none s xs room ≡ record { answer = refusal number; fed = 0; state = s; room = room }
   unfolding fed
-  refused-feed fit s [] room number e = λ i. record { answer = e i; fed = 0; state = s; room = room }
-  refused-feed fit s (x ∷ xs) room number e = rest-unmoved (x ∷ xs) 0 s room number e .1
+  refused-feed none s [] room number e = λ i. record { answer = e i; fed = 0; state = s; room = room }
+  refused-feed none s (x ∷ xs) room number e = rest-unmoved (x ∷ xs) 0 s room number e .1
 
 -- ---- a stretch that stops before its end, with no offer: the caller who gives the rest gets the refusal
 abbrev refusedWith : ℕ → SoftDemodulator → List Float → Stretch SoftDemodulator

@@ -14,7 +14,7 @@ use Rattle.demodulator.specs.declared.SoftDemodulator.{SoftDemodulator}
 use Rattle.demodulator.specs.declared.Offer.{Offer}
 use Rattle.demodulator.specs.Spans.{eight}
 use Rattle.demodulator.specs.Record.{back, stored}
-use Rattle.demodulator.specs.Fit.{fitForSample}
+use Rattle.demodulator.specs.Fit.{unfitNumber, fitForSample}
 use Rattle.demodulator.specs.Calls.{refusal, nothing, frame, Left, refused, finished, admittedBy, demodulated}
 use Rattle.demodulator.specs.Feed.{Stretch, stopsBefore, goesOn, fedFrom}
 use Rattle.demodulator.proofs.FeedSteps.{restFrom}
@@ -42,7 +42,7 @@ module _ (R : Rate) where
       let counted : ℤ → Left = λ (y : ℤ). cond (eqb (m .control .sample) (2 ^ 63)) (refused 5 m room) (after y) in
       let roomy : ℤ → Left = λ (y : ℤ). cond (ltb (length room) 192) (refused 4 m room) (counted y) in
       let free : ℤ → Left = λ (y : ℤ). cond (m .control .owed) (refused 2 m room) (roomy y) in
-      by-both m room (not (fitForSample (R .p) m)) 1 free x
+      by-both m room (not (fitForSample (R .p) m)) (unfitNumber m) free x
       (by-both m room (m .control .owed) 2 roomy x
       (by-both m room (ltb (length room) 192) 4 counted x
       (by-both m room (eqb (m .control .sample) (2 ^ 63)) 5 after x

@@ -4,7 +4,7 @@ use mathlib.Core.Logic.{⊎-elim}
 use mathlib.Core.Bool.{true}
 use mathlib.Core.List.{List, [], _∷_}
 use Prim.Native.Nat.{ℕ, zero, suc, _+_, _-_, _*_, _≤_, _<_}
-use native.Mathlib.Nat.{eq-or-lt-of-le, le-of-suc-le-suc}
+use native.Mathlib.Nat.{eq-or-lt-of-le, le-of-suc-le-suc, mul-zero}
 use native.Mathlib.Omega.{arith}
 use lib.Dec.{T, lit≤}
 use lib.IntN.{ℤ, pos}
@@ -57,15 +57,20 @@ module _ (R : Rate) (F : Facts R) (m : SoftDemodulator) (x : ℤ) (rings : Rings
   }
 
 -- ---- the eight values, once the sample is stored
-module _ (m : SoftDemodulator) (x : ℤ) (rings : Rings 10 (m .«filter_win») (m .«rx_win»)) (fits : SFits w16 x) (fit : fitForSample 10 m ≡ true) where
-  inside : m .«rx_cursor» < 1920
-  inside = record-facts 10 m (sample-record 10 m fit) .ring-cursor
+module _ (R : Rate) (F : Facts R) (m : SoftDemodulator) (x : ℤ) (rings : Rings (R .p) (m .«filter_win») (m .«rx_win»)) (fits : SFits w16 x) (fit : fitForSample (R .p) m ≡ true) where
+  inside : m .«rx_cursor» < ringPlaces (R .p)
+  inside = record-facts (R .p) m (sample-record (R .p) m fit) .ring-cursor
 
-  pub stored-eight : (i : ℕ) → i < 8 → T (inRange (eight 10 (back 10 (stored at48 m x)) i))
+  some : 0 < R .p
+  some = omega (arith, F .some)
+
+  pub stored-eight : (i : ℕ) → i < 8 → T (inRange (eight (R .p) (back (R .p) (stored R m x)) i))
   stored-eight i l =
       ⊎-elim
-      (λ (e : i ≡ 7). rw (e, stored-newest at48 m x inside (rings .places)) (new-in-range at48 facts48 m x rings fits))
+      (λ (e : i ≡ 7).
+      let none : R .p * (7 - i) ≡ 0 = rw e (mul-zero (R .p)) in
+      rw (none, stored-newest R m x inside (rings .places)) (new-in-range R F m x rings fits))
       (λ (k : i < 7).
-      let e : 10 * (7 - i) ≡ 10 * suc (6 - i) = omega arith in
-      rw (e, stored-symbols at48 m x inside (lit≤ tt) (6 - i) (omega arith)) (sample-seven 10 m fit (6 - i) (omega arith)))
+      let e : 7 - i ≡ suc (6 - i) = omega arith in
+      rw (e, stored-symbols R m x inside some (6 - i) (omega arith)) (sample-seven (R .p) m fit (6 - i) (omega arith)))
       (eq-or-lt-of-le (le-of-suc-le-suc l))

@@ -12,23 +12,24 @@ use lib.Ieee.{Float}
 use Rattle.numbers.specs.Firsts.{written}
 use Rattle.machine.specs.Runs.{run, answers, Each, Simulates}
 use Rattle.machine.proofs.Simulation.{runs-related, answers-alike}
-use Rattle.shaping.specs.Rate.{Rate}
+use Rattle.shaping.specs.Rate.{Rate, rateFit, perSecond}
 use Rattle.shaping.proofs.RateFacts.{Facts}
-use Rattle.protocol.specs.Refusals.{bare}
 use Rattle.search.specs.declared.Control.{Control}
 use Rattle.search.specs.declared.Reply.{Reply}
 use Rattle.search.specs.Turn.{Outcome, quiet, offer, sampled}
 use Rattle.demodulator.specs.declared.SoftDemodulator.{SoftDemodulator}
 use Rattle.demodulator.specs.Spans.{eight}
 use Rattle.demodulator.specs.Record.{fresh, back, stored}
-use Rattle.demodulator.specs.Calls.{Paper, refusal, nothing, frame, done, carrier, Left, refused, offerOf, finished, admittedBy, demodulated, answered, timerHeld, detected}
+use Rattle.demodulator.specs.Fit.{unfitNumber}
+use Rattle.demodulator.specs.Calls.{Paper, refusal, nothing, frame, done, carrier, Left, refused, offerOf, finished, admittedBy, demodulated, answered, detected}
 use Rattle.demodulator.specs.Feed.{Stretch, stopsBefore, goesOn, fedFrom, fed, fedInto}
 use Rattle.demodulator.proofs.FeedSteps.{restFrom}
 use Rattle.demodulator_run.specs.Rules.{Single, sample, reply, query, Said}
-use Rattle.demodulator_run.specs.Run.{left, saidBy}
+use Rattle.demodulator_run.specs.Run.{freshAt, leftAt, saidBy}
 use Rattle.demodulator_run.specs.Calls.{Call, one, stretch, Told, recordNext, toldBy, receiver}
 use Rattle.demodulator_run.specs.OldLayout.{storedBefore, freshBefore, demodulatedBefore, answeredBefore, detectedBefore, leftBefore, fedBefore, nextBefore, toldBefore, receiverBefore, Alike}
 use Rattle.demodulator_run.proofs.SameWindow.{eight-same, window-same}
+use Rattle.demodulator_run.proofs.RateKept.{own, call-rate}
 use Rattle.demodulator_run.proofs.LayoutsAlike.{record-alike, sample-alike, reply-alike, control-alike, stored-alike, fresh-alike}
 
 module _ (R : Rate) (F : Facts R) where
@@ -62,12 +63,18 @@ module _ (R : Rate) (F : Facts R) where
     }
 
   module _ (m n : SoftDemodulator) (a : Alike (R .p) m n) where
+    same-number : unfitNumber m ≡ unfitNumber n
+    same-number = ap (λ (rate : ℕ). cond (rateFit rate) 1 15) (a .rate)
+
+    unfit-matched : (room : List Float) → Matched (refused (unfitNumber m) m room) (refused (unfitNumber n) n room)
+    unfit-matched room = subst (λ (number : ℕ). Matched (refused (unfitNumber m) m room) (refused number n room)) same-number (refused-matched m n a (unfitNumber m) room)
+
     sample-matched : (x : ℤ) (room : List Float) → Matched (demodulated R m x room) (demodulatedBefore R n x room)
     unfolding demodulated demodulatedBefore admittedBy
     sample-matched x room =
         let next : Alike (R .p) (stored R m x) (storedBefore R n x) = stored-alike R F m n a x in
         let same : sampled (R .p) (eight (R .p) (back (R .p) (stored R m x))) (m .control) ≡ sampled (R .p) (eight (R .p) (back (R .p) (storedBefore R n x))) (n .control) = rw (eight-alike (stored R m x) (storedBefore R n x) next, a .control) in
-        both _ _ _ _ _ _ (ap not (sample-alike (R .p) m n a)) (refused-matched m n a 1 room)
+        both _ _ _ _ _ _ (ap not (sample-alike (R .p) m n a)) (unfit-matched room)
         (both _ _ _ _ _ _ (ap (λ (c : Control). c .owed) (a .control)) (refused-matched m n a 2 room)
         (both (ltb (length room) 192) (ltb (length room) 192) _ _ _ _ refl (refused-matched m n a 4 room)
         (both _ _ _ _ _ _ (ap (λ (c : Control). eqb (c .sample) (2 ^ 63)) (a .control)) (refused-matched m n a 5 room)
@@ -76,16 +83,16 @@ module _ (R : Rate) (F : Facts R) where
     reply-matched : (r : Reply) → Matched (answered (R .p) m r []) (answeredBefore (R .p) n r [])
     unfolding answered answeredBefore
     reply-matched r =
-        both _ _ _ _ _ _ (ap not (reply-alike (R .p) m n a)) (refused-matched m n a 1 [])
+        both _ _ _ _ _ _ (ap not (reply-alike (R .p) m n a)) (unfit-matched [])
         (both _ _ _ _ _ _ (ap (λ (c : Control). not (c .owed)) (a .control)) (refused-matched m n a 3 [])
         (record { says = refl; alike = control-alike (R .p) m n a _ _ (rw (eight-alike m n a, a .control)) }))
 
     query-same : detected (R .p) m ≡ detectedBefore (R .p) n
     unfolding detected detectedBefore
-    query-same = rw (record-alike (R .p) m n a, a .control)
+    query-same = rw (record-alike (R .p) m n a, a .rate, a .control)
 
-    single-matched : (c : Single) → Matched (left R m c) (leftBefore R n c)
-    unfolding left leftBefore
+    single-matched : (c : Single) → Matched (leftAt R m c) (leftBefore R n c)
+    unfolding leftAt leftBefore
     single-matched (sample x room) = sample-matched x room
     single-matched (reply r) = reply-matched r
     single-matched query = record { says = ap (λ (p : Paper). record { answer = p; room = [] }) query-same; alike = a }
@@ -127,7 +134,7 @@ module _ (R : Rate) (F : Facts R) where
 
   stretch-paired : (xs : List ℤ) (m n : SoftDemodulator) (room : List Float) → Alike (R .p) m n → Paired (fedInto R m xs room) (fedBefore R n xs room)
   unfolding fed
-  stretch-paired [] m n room a = record { answers = ap (λ (fit : Bool). cond fit nothing (refusal (bare 1))) (record-alike (R .p) m n a); counts = refl; writes = refl; alike = a }
+  stretch-paired [] m n room a = record { answers = rw (record-alike (R .p) m n a, a .rate); counts = refl; writes = refl; alike = a }
   stretch-paired (x ∷ xs) m n room a = rest-paired (x ∷ xs) 0 m n room a
 
   -- ---- every list of calls
@@ -149,13 +156,26 @@ module _ (R : Rate) (F : Facts R) where
   next-alike m n a (one c) g = single-matched m n a c .alike
   next-alike m n a (stretch xs room) g = stretch-paired xs m n room a .alike
 
-  follows : Simulates SoftDemodulator SoftDemodulator Call Told (receiver R) (receiverBefore R) (Alike (R .p)) Any
-  follows = record { alike = told-alike; related = next-alike }
+  -- the record says the rate at which it is called
+  record Beside (m n : SoftDemodulator) : Type 0 where
+    rate : m .rate ≡ perSecond (R .p)
+    alike : Alike (R .p) m n
 
-  pub as-before : (m n : SoftDemodulator) → Alike (R .p) m n → (cs : List Call)
-      → (answers (receiver R) m cs ≡ answers (receiverBefore R) n cs) × Alike (R .p) (run (receiver R) m cs) (run (receiverBefore R) n cs)
-  as-before m n a cs = (answers-alike follows cs (any-calls cs) m n a, runs-related follows cs (any-calls cs) m n a)
+  follows : Simulates SoftDemodulator SoftDemodulator Call Told receiver (receiverBefore R) Beside Any
+  follows = record {
+    alike = λ m n b c g. subst (λ (Q : Rate). toldBy Q m c ≡ toldBefore R n c) (sym (own R F m (b .rate))) (told-alike m n (b .alike) c g);
+    related = λ m n b c g.
+        subst (λ (Q : Rate). Beside (recordNext Q m c) (nextBefore R n c)) (sym (own R F m (b .rate)))
+        (record { rate = call-rate R m c ∙ b .rate; alike = next-alike m n (b .alike) c g });
+  }
+
+  pub as-before : (m n : SoftDemodulator) → m .rate ≡ perSecond (R .p) → Alike (R .p) m n → (cs : List Call)
+      → (answers receiver m cs ≡ answers (receiverBefore R) n cs) × Alike (R .p) (run receiver m cs) (run (receiverBefore R) n cs)
+  as-before m n e a cs =
+      let b : Beside m n = record { rate = e; alike = a } in
+      (answers-alike follows cs (any-calls cs) m n b, runs-related follows cs (any-calls cs) m n b .alike)
 
   -- so also from a fresh start
-  pub as-before-fresh : (cs : List Call) → answers (receiver R) fresh cs ≡ answers (receiverBefore R) freshBefore cs
-  as-before-fresh cs = as-before fresh freshBefore (fresh-alike R F) cs .0
+  pub as-before-fresh : (cs : List Call) → answers receiver (freshAt R) cs ≡ answers (receiverBefore R) (freshBefore (perSecond (R .p))) cs
+  unfolding fresh
+  as-before-fresh cs = as-before (freshAt R) (freshBefore (perSecond (R .p))) refl (fresh-alike R F) cs .0

@@ -4,9 +4,10 @@ use mathlib.Core.Logic.{_↔_}
 use mathlib.Core.Bool.{true, false}
 use mathlib.Core.List.{List, _∷_, List·Memᴰ}
 use Prim.Native.Nat.{ℕ, _+_, _-_, _*_, _≤_}
+use native.Mathlib.Omega.{arith}
 use Rattle.machine.specs.Runs.{run, Each, answers}
 use Rattle.machine.proofs.Parts.{each-front}
-use Rattle.shaping.specs.Rate.{Rate}
+use Rattle.shaping.specs.Rate.{Rate, rateOf}
 use Rattle.shaping.proofs.RateFacts.{Facts}
 use Rattle.search.specs.declared.Waiting.{Waiting}
 use Rattle.search.specs.declared.Wait.the-variants.{Due}
@@ -16,18 +17,17 @@ use Rattle.search.specs.TakenBurst.{TakenBurst, shownOf}
 use Rattle.search.specs.Fit.{held}
 use Rattle.demodulator.specs.declared.SoftDemodulator.{SoftDemodulator}
 use Rattle.demodulator.specs.declared.Offer.{Offer}
-use Rattle.demodulator.specs.Record.{fresh}
 use Rattle.demodulator.specs.Calls.{frame, offerOf}
 use Rattle.demodulator.proofs.Fitness.{record-facts}
 use Rattle.demodulator_run.specs.Rules.{Single, Said, single, historyAll}
-use Rattle.demodulator_run.specs.Run.{left, saidBy, recordAfter, singleReceiver, Callable}
+use Rattle.demodulator_run.specs.Run.{freshAt, left, leftAt, saidBy, recordAfter, singleReceiver, Callable}
 use Rattle.demodulator_run.specs.Marks.{First, FellDue, isRefusal, logAll}
-use Rattle.demodulator_run.specs.Demands.{In, Started, DueAt, AgeAtMost}
+use Rattle.demodulator_run.specs.Demands.{In, Started, DueAt, DueWithin, AgeAtMost}
 use Rattle.demodulator_run.specs.Exact.{HeldOf, lastSample}
 use Rattle.demodulator_run.specs.Calls.{Call, receiver, Given, singlesFrom}
-use Rattle.demodulator_run.specs.CallerSees.{Moment, controlAt, leftAt, Admitted, TakenSeen, DueSeen, DemandThree}
-use Rattle.demodulator_run.proofs.DemandAt.{size-at, alone-at, again-at, due-span-at, due-once-at, age-limit-at, log-exact-at}
-use Rattle.demodulator_run.proofs.Step.{call-agrees}
+use Rattle.demodulator_run.specs.CallerSees.{Moment, controlAt, leftThen, Admitted, TakenSeen, DueSeen, DemandThree}
+use Rattle.demodulator_run.proofs.DemandAt.{historyAt, logAt, fedAt, size-at, alone-at, again-at, due-span-at, due-span-sharp-at, due-once-at, age-limit-at, age-limit-sharp-at, log-exact-at}
+use Rattle.demodulator_run.proofs.Step.{own-agrees}
 use Rattle.demodulator_run.proofs.SinglesRun.{singles-run, singles-fit, next-single}
 use Rattle.demodulator_run.proofs.Singles.{offersSaid, singles-record, singles-offers, singles-sampled}
 use Rattle.demodulator_run.proofs.OfferSeen.{offer-out, offer-in, sample-only, offers-seen, seen-offers}
@@ -44,14 +44,14 @@ module _ (R : Rate) (F : Facts R) where
       pub control-same : controlAt R t ≡ historyAll (R .taps) (R .p) (t .before) .control
       control-same = singles-run R F (t .before) front .0 .control
 
-      pub said-same : saidBy (leftAt R t) ≡ single (R .taps) (R .p) (historyAll (R .taps) (R .p) (t .before)) (t .call) .said
+      pub said-same : saidBy (leftThen R t) ≡ single (R .taps) (R .p) (historyAll (R .taps) (R .p) (t .before)) (t .call) .said
       said-same = next-single R F (t .before) front (t .call)
 
       pub admitted : Admitted R t → isRefusal (single (R .taps) (R .p) (historyAll (R .taps) (R .p) (t .before)) (t .call) .said .answer) ≡ false
       admitted e = sym (ap (λ (s : Said). isRefusal (s .answer)) said-same) ∙ e
 
-      pub left-same : leftAt R t .demodulator .control ≡ single (R .taps) (R .p) (historyAll (R .taps) (R .p) (t .before)) (t .call) .history .control
-      left-same = call-agrees R F _ _ (singles-run R F (t .before) front .0) (singles-fit R F (t .before) front) (t .call) .control
+      pub left-same : leftThen R t .demodulator .control ≡ single (R .taps) (R .p) (historyAll (R .taps) (R .p) (t .before)) (t .call) .history .control
+      left-same = own-agrees R F _ _ (singles-run R F (t .before) front .0) (singles-fit R F (t .before) front) (t .call) .control
 
       -- a wait has its candidate
       waits : (w : Waiting) → controlAt R t .wait ≡ Due w → held (controlAt R t .candidate) ≡ true
@@ -128,25 +128,26 @@ module _ (R : Rate) (F : Facts R) where
         }
 
     -- ---- what is offered
-    seen-due : (o : Offer) → List·Memᴰ o (offersSaid (answers (singleReceiver R) fresh ss)) → DueSeen R ss o
-    unfolding left
+    seen-due : (o : Offer) → List·Memᴰ o (offersSaid (answers singleReceiver (freshAt R) ss)) → DueSeen R ss o
+    unfolding leftAt
     seen-due o i =
-        let (b, c, a, e, f) = offers-seen R ss fresh o i in
-        let (x, room, q) = sample-only R (recordAfter R b) c o f in
-        let told = subst (λ (s : Single). left R (recordAfter R b) s .answer ≡ frame o) q f in
-        let w = offer-out R (recordAfter R b) x room o told in
+        let (b, c, a, e, f) = offers-seen ss (freshAt R) o i in
+        let m = recordAfter R b in
+        let (x, room, q) = sample-only (rateOf (m .rate)) m c o f in
+        let told = subst (λ (s : Single). left m s .answer ≡ frame o) q f in
+        let w = offer-out (rateOf (m .rate)) m x room o told in
         let t : Moment ss = record { before = b; call = c; after = a; split = e } in
         record { moment = t; admitted = ap isRefusal f; value = x; room = room; is-sample = q; last = w .last; awaited = w .awaited; number = w .number }
 
-    due-seen : (o : Offer) → DueSeen R ss o → List·Memᴰ o (offersSaid (answers (singleReceiver R) fresh ss))
-    unfolding left
+    due-seen : (o : Offer) → DueSeen R ss o → List·Memᴰ o (offersSaid (answers singleReceiver (freshAt R) ss))
+    unfolding leftAt
     due-seen o s =
         let t = s .moment in
         let m = recordAfter R (t .before) in
-        let admitted = subst (λ (c : Single). isRefusal (left R m c .answer) ≡ false) (s .is-sample) (s .admitted) in
-        let told = offer-in R m (s .value) (s .room) o (record { last = s .last; awaited = s .awaited; number = s .number }) admitted in
-        subst (λ (l : List Single). List·Memᴰ o (offersSaid (answers (singleReceiver R) fresh l))) (sym (t .split))
-        (seen-offers R (t .before) (t .call) (t .after) fresh o (subst (λ (c : Single). left R m c .answer ≡ frame o) (sym (s .is-sample)) told))
+        let admitted = subst (λ (c : Single). isRefusal (left m c .answer) ≡ false) (s .is-sample) (s .admitted) in
+        let told = offer-in (rateOf (m .rate)) m (s .value) (s .room) o (record { last = s .last; awaited = s .awaited; number = s .number }) admitted in
+        subst (λ (l : List Single). List·Memᴰ o (offersSaid (answers singleReceiver (freshAt R) l))) (sym (t .split))
+        (seen-offers (t .before) (t .call) (t .after) (freshAt R) o (subst (λ (c : Single). left m c .answer ≡ frame o) (sym (s .is-sample)) told))
 
   -- the log's takes are those that a caller sees
   pub taken-exactly : (ss : List Single) → Each Callable ss → (n : ℕ) → TakenSeen R ss n ↔ Started (logAll (R .taps) (R .p) ss) n
@@ -157,23 +158,40 @@ module _ (R : Rate) (F : Facts R) where
   due-exactly ss s o = (due-in ss s o, due-out ss s o)
 
   -- ---- every list of calls
-  pub demand-three : (cs : List Call) → Each Given cs → DemandThree R cs
-  demand-three cs g =
-      let ss = singlesFrom R fresh cs in
-      let s : Each Callable ss = singles-sampled R cs fresh g in
-      let r = singles-run R F ss s .0 in
-      let same : recordAfter R ss ≡ run (receiver R) fresh cs = singles-record R cs fresh in
-      record {
-        due-one = λ n t fed.
-            let fed′ = subst (λ (m : SoftDemodulator). n + (188 * R .p - 1) ≤ m .control .sample) (sym same) fed in
-            let (d, due, lo, hi) = due-span-at R F ss s n (started ss s n t) (subst (λ (k : ℕ). n + (188 * R .p - 1) ≤ k) (r .count) fed′) in (
-              d,
-              (offerOf (due .0) d, due-out ss s (offerOf (due .0) d) (due .0, refl, due .1), refl),
-              lo,
-              hi,
-              λ e f l u. due-once-at R F ss s n e d (let g = due-in ss s (f .0) (f .1) in subst (DueAt (logAll (R .taps) (R .p) ss)) (f .2) (g .0, g .2)) due l u lo hi,
-            );
-        offers = λ o.
-            subst (λ (l : List Offer). List·Memᴰ o l ↔ DueSeen R ss o) (singles-offers R cs fresh) (seen-due ss s o, due-seen ss s o);
-        ages = subst (λ (m : SoftDemodulator). AgeAtMost (R .p + 1) (m .control .candidate)) same (subst (λ (c : Control). AgeAtMost (R .p + 1) (c .candidate)) (sym (r .control)) (age-limit-at R F ss s));
-      }
+  module _ (cs : List Call) (g : Each Given cs) where
+    abbrev ss : List Single
+    ss = singlesFrom (freshAt R) cs
+
+    small : Each Callable ss
+    small = singles-sampled cs (freshAt R) g
+
+    same : recordAfter R ss ≡ run receiver (freshAt R) cs
+    same = singles-record cs (freshAt R)
+
+    -- from a span over the log that the demanded one has in it, and a limit of the age
+    demand-by : (hi age : ℕ) → hi ≤ 188 * R .p - 1 → DueWithin (184 * R .p - 1) hi (fedAt R ss) (logAt R ss) → AgeAtMost age (historyAt R ss .control .candidate)
+        → DemandThree R cs (184 * R .p - 1) hi age
+    demand-by hi age within span young =
+        let r = singles-run R F ss small .0 in
+        record {
+          due-one = λ n t fed.
+              let fed′ = subst (λ (m : SoftDemodulator). n + hi ≤ m .control .sample) (sym same) fed in
+              let (d, due, lo, up) = span n (started ss small n t) (subst (λ (k : ℕ). n + hi ≤ k) (r .count) fed′) in (
+                d,
+                (offerOf (due .0) d, due-out ss small (offerOf (due .0) d) (due .0, refl, due .1), refl),
+                lo,
+                up,
+                λ e f l u.
+                    let m = due-in ss small (f .0) (f .1) in
+                    due-once-at R F ss small n e d (subst (DueAt (logAt R ss)) (f .2) (m .0, m .2)) due l (omega (arith, u, within)) lo (omega (arith, up, within)),
+              );
+          offers = λ o. subst (λ (l : List Offer). List·Memᴰ o l ↔ DueSeen R ss o) (singles-offers cs (freshAt R)) (seen-due ss small o, due-seen ss small o);
+          ages = subst (λ (m : SoftDemodulator). AgeAtMost age (m .control .candidate)) same (subst (λ (c : Control). AgeAtMost age (c .candidate)) (sym (r .control)) young);
+        }
+
+    pub demand-three : DemandThree R cs (184 * R .p - 1) (188 * R .p - 1) (R .p + 1)
+    demand-three = demand-by (188 * R .p - 1) (R .p + 1) (omega arith) (due-span-at R F ss small) (age-limit-at R F ss small)
+
+    -- sharper than asked
+    pub demand-three-sharp : DemandThree R cs (184 * R .p - 1) (185 * R .p - 1) (R .p)
+    demand-three-sharp = demand-by (185 * R .p - 1) (R .p) (omega arith) (due-span-sharp-at R F ss small) (age-limit-sharp-at R F ss small)

@@ -13,7 +13,7 @@ use lib.Ieee.{Float, nan, binary32, ofBits, ofInt}
 use Rattle.numbers.specs.Below.{allBelow}
 use Rattle.numbers.proofs.Below.{all-same}
 use Rattle.numbers.proofs.Ring.{read, older, newest, newest-back, older-back}
-use Rattle.shaping.specs.Rate.{Rate, tapCount, ringPlaces}
+use Rattle.shaping.specs.Rate.{perSecond, Rate, tapCount, ringPlaces}
 use Rattle.shaping.proofs.RateFacts.{Facts}
 use Rattle.shaping.proofs.Dot.{dot-same}
 use Rattle.decode.specs.Correlator.{inRange}
@@ -24,6 +24,7 @@ use Rattle.demodulator.specs.Record.{freshControl, fresh, assembled, withContro
 use Rattle.demodulator.specs.Fit.{cursorsFit, recordFit, placesRead, fitForSample, fitForReply}
 use Rattle.demodulator.proofs.Fitness.{places-between}
 use Rattle.demodulator.proofs.Halves.{doubled-agree, summed-older, summed-newest, stored-long, stored-halves, stored-view}
+use Rattle.demodulator_run.specs.Run.{freshAt}
 use Rattle.demodulator_run.specs.OldLayout.{viewBefore, windowBefore, filteredBefore, storedBefore, freshBefore, recordFitBefore, fitForSampleBefore, fitForReplyBefore, Alike}
 use Rattle.demodulator_run.proofs.Sixteen.{taps-size}
 
@@ -34,7 +35,7 @@ module _ (p : ℕ) (m n : SoftDemodulator) (a : Alike p m n) where
 
   pub record-alike : recordFit p m ≡ recordFitBefore p n
   unfolding recordFit recordFitBefore
-  record-alike = rw (a .halves, cursors-fit m (a .cursor) (a .ring-cursor), cursors-fit n (a .cursor-before) (a .ring-cursor-before), a .control)
+  record-alike = rw (a .rate, a .halves, cursors-fit m (a .cursor) (a .ring-cursor), cursors-fit n (a .cursor-before) (a .ring-cursor-before), a .control)
 
   -- the values that a call would read
   some : 0 < p
@@ -61,6 +62,7 @@ module _ (p : ℕ) (m n : SoftDemodulator) (a : Alike p m n) where
   -- ---- another control
   pub control-alike : (c d : Control) → c ≡ d → Alike p (withControl c m) (withControl d n)
   control-alike c d e = record {
+    rate = a .rate;
     places = a .places;
     halves = a .halves;
     cursor = a .cursor;
@@ -120,6 +122,7 @@ module _ (R : Rate) (F : Facts R) (m n : SoftDemodulator) (a : Alike (R .p) m n)
   pub stored-alike : Alike (R .p) (stored R m x) (storedBefore R n x)
   unfolding stored storedBefore
   stored-alike = record {
+    rate = a .rate;
     places = stored-long R m x (a .cursor) (a .places);
     halves = stored-halves R m x (a .cursor) (a .places) (a .halves);
     cursor = mod-lt (m .«filter_cursor» + 1) (omega arith);
@@ -136,12 +139,13 @@ module _ (R : Rate) (F : Facts R) (m n : SoftDemodulator) (a : Alike (R .p) m n)
 
 -- ---- windows and rings that hold one value throughout, at any cursors
 module _ (R : Rate) (F : Facts R) where
-  pub even-alike : (x : ℤ) (y : Float) (w v r s : ℕ) (c : Control) → w < tapCount (R .p) → v < tapCount (R .p) → r < ringPlaces (R .p) → s < ringPlaces (R .p)
-      → Alike (R .p) (assembled (replicate 162 x) w (replicate 1920 y) r c) (assembled (replicate 81 x) v (replicate 1920 y) s c)
-  even-alike x y w v r s c w-inside v-inside r-inside s-inside =
+  pub even-alike : (rate : ℕ) (x : ℤ) (y : Float) (w v r s : ℕ) (c : Control) → w < tapCount (R .p) → v < tapCount (R .p) → r < ringPlaces (R .p) → s < ringPlaces (R .p)
+      → Alike (R .p) (assembled rate (replicate 162 x) w (replicate 1920 y) r c) (assembled rate (replicate 81 x) v (replicate 1920 y) s c)
+  even-alike rate x y w v r s c w-inside v-inside r-inside s-inside =
       let few = F .few in
       let round : (k : ℕ) → k % ringPlaces (R .p) < 1920 = λ k. lt-of-lt-of-le (mod-lt k (omega arith)) (omega arith) in
       record {
+        rate = refl;
         places = omega (arith, length-replicate 162 x);
         halves = doubled-agree (R .p) (replicate 162 x) (λ i l. getD-replicate 162 i x (pos 0) (omega arith) ∙ sym (getD-replicate 162 (i + tapCount (R .p)) x (pos 0) (omega arith)));
         cursor = w-inside;
@@ -160,6 +164,6 @@ module _ (R : Rate) (F : Facts R) where
         control = refl;
       }
 
-  pub fresh-alike : Alike (R .p) fresh freshBefore
+  pub fresh-alike : Alike (R .p) (freshAt R) (freshBefore (perSecond (R .p)))
   unfolding fresh freshBefore
-  fresh-alike = let some = F .some in even-alike (pos 0) (ofBits binary32 0) 0 0 0 0 freshControl (omega arith) (omega arith) (omega arith) (omega arith)
+  fresh-alike = let some = F .some in even-alike (perSecond (R .p)) (pos 0) (ofBits binary32 0) 0 0 0 0 freshControl (omega arith) (omega arith) (omega arith) (omega arith)

@@ -49,8 +49,8 @@ pub mod Switch
 pub mod Window
 -- demand 3 at a rate
 pub mod DemandAt
--- demand 3 at 48,000 samples in a second
-pub mod Demand48
+-- at each of the two
+pub mod DemandEachRate
 -- one more sample
 pub mod Causal
 -- F of samples of 16 bits
@@ -73,6 +73,8 @@ pub mod SinglesRun
 pub mod StretchAgrees
 -- demand 2
 pub mod ReceiverRun
+-- neither 1 nor 15
+pub mod NeverUnfit
 -- a list of calls as single ones
 pub mod Singles
 -- an offer and the wait that it ends
@@ -89,13 +91,17 @@ pub mod SearchMoment
 pub mod OfferWait
 -- what an offer reports
 pub mod OfferReports
--- the same at 48,000 samples in a second
-pub mod Offers48
 -- a refused call changes nothing
 pub mod Refused
+-- no call changes the rate
+pub mod RateKept
 -- the layout before document 02 f), and that every answer is its
 pub mod LayoutsAlike
 pub mod AsBefore
+-- what is past a rate's places is not read
+pub mod UnusedUnread
+-- what a caller sees, at each of the two rates
+pub mod AtEachRate
 -- examples, computed
 pub mod Worked
 -- instances that meet what the laws ask

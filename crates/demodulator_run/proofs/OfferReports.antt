@@ -1,6 +1,6 @@
 -- What an offer reports, at a rate, over every list of calls from a fresh record: its place, its age, and where it was taken. By the rule of the due sample. Assumes nothing.
 use mathlib.Core.Path.{_≡_, refl, sym, ap, _∙_, subst}
-use mathlib.Core.Logic.{_⊎_, inl, inr}
+use mathlib.Core.Logic.{inl, inr}
 use mathlib.Core.Bool.{Bool, true, false}
 use mathlib.Core.List.{List, _∷_, [], _++_, List·Memᴰ}
 use Prim.Native.Nat.{ℕ, _+_, _-_, _*_, _≤_, _<_}
@@ -19,23 +19,23 @@ use Rattle.decode.specs.Correlator.{symbolOf, correlation}
 use Rattle.search.specs.declared.Shown.{Shown}
 use Rattle.demodulator.specs.declared.Offer.{Offer}
 use Rattle.demodulator.specs.Spans.{symbolAt}
-use Rattle.demodulator.specs.Record.{back, fresh}
-use Rattle.demodulator.specs.Calls.{Paper, frame, offerOf}
+use Rattle.demodulator.specs.Record.{back}
+use Rattle.demodulator.specs.Calls.{frame, offerOf}
 use Rattle.demodulator_run.specs.Filter.{ago}
 use Rattle.demodulator_run.specs.Rules.{Single, sample, Said, single, historyAll}
 use Rattle.demodulator_run.specs.Marks.{FellDue, isRefusal, logAll}
 use Rattle.demodulator_run.specs.Demands.{at, Matches, In, Taken, Corner, Cause, shownAt}
 use Rattle.demodulator_run.specs.Exact.{OfferedAt}
-use Rattle.demodulator_run.specs.Run.{saidBy, Callable}
+use Rattle.demodulator_run.specs.Run.{freshAt, saidBy, Callable}
 use Rattle.demodulator_run.specs.Calls.{Call, receiver, Given, singlesFrom}
-use Rattle.demodulator_run.specs.CallerSees.{Moment, leftAt, offersIn}
+use Rattle.demodulator_run.specs.CallerSees.{Moment, leftThen, offersIn}
 use Rattle.demodulator_run.specs.OfferReports.{correlated, TakeSeen, ReplacedSeen, OfferPlace, OfferAge, OfferTaken}
 use Rattle.demodulator_run.proofs.Log.{stood}
 use Rattle.demodulator_run.proofs.LogExact.{admitted-given}
 use Rattle.demodulator_run.proofs.Demand.{fedAll}
 use Rattle.demodulator_run.proofs.DemandAt.{size-at, apart-at, due-rule-at, due-offered-at}
 use Rattle.demodulator_run.proofs.SameWindow.{window-same}
-use Rattle.demodulator_run.proofs.Step.{call-agrees}
+use Rattle.demodulator_run.proofs.Step.{own-agrees}
 use Rattle.demodulator_run.proofs.SinglesRun.{singles-run, singles-fit}
 use Rattle.demodulator_run.proofs.Singles.{singles-sampled}
 use Rattle.demodulator_run.proofs.CallerSees.{front, said-same, due-in, demand-three}
@@ -74,7 +74,7 @@ module _ (R : Rate) (F : Facts R) (ss : List Single) (sampled : Each Callable ss
     told-age = sym (ap (λ (q : Offer). q .age) same) ∙ C .due .waited
 
     -- ---- the place
-    place-of : OfferPlace R ss o
+    place-of : OfferPlace R ss o (184 * R .p) (184 * R .p - 1)
     place-of = record {
       wait = W .wait;
       place = elim (C .due .shown) [
@@ -90,7 +90,7 @@ module _ (R : Rate) (F : Facts R) (ss : List Single) (sampled : Each Callable ss
               sym (told-kind k b false (e .1)) ∙ sym (W .kinds),
               sym n ∙ sym (W .since),
               elim (C .due .sample) [
-                | inl q ↦ inl (W .corner-out (q .0), subst (λ (m : ℕ). o .sample + 1 ≡ m + 184 * R .p) n (q .1))
+                | inl q ↦ inl (W .corner-out (q .0), subst (λ (m : ℕ). o .sample ≡ m + (184 * R .p - 1)) n (omega (arith, q .1, size-at R F .0)))
                 | inr q ↦ inr (λ r. q .0 (W .corner-in r), subst (λ (m : ℕ). o .sample ≡ m + 184 * R .p) n (q .1))
               ],
             )
@@ -109,7 +109,7 @@ module _ (R : Rate) (F : Facts R) (ss : List Single) (sampled : Each Callable ss
           | inr l ↦ apart k k b at-b (E .matched (b + R .p) (omega arith) l)
         ]
 
-    age-of : OfferAge R ss o
+    age-of : OfferAge R ss o (R .p)
     age-of = record {
       wait = W .wait;
       least = elim (C .due .sample) [ inl q ↦ omega (arith, told-age, q .1, C .fails .later) | inr q ↦ omega (arith, told-age, q .1, C .fails .later) ];
@@ -155,18 +155,18 @@ module _ (R : Rate) (F : Facts R) (ss : List Single) (sampled : Each Callable ss
       abbrev xs : List ℤ
       xs = historyAll (R .taps) (R .p) (P .before) .samples ++ (P .value ∷ [])
 
-      said : saidBy (leftAt R then) ≡ record { answer = frame (offerOf x (o .sample)); room = written (symbolAt (R .p) x (ago (R .taps) (R .p) xs)) 192 (P .room) }
+      said : saidBy (leftThen R then) ≡ record { answer = frame (offerOf x (o .sample)); room = written (symbolAt (R .p) x (ago (R .taps) (R .p) xs)) 192 (P .room) }
       said = said-same R F ss sampled then ∙ P .said
 
       -- the record's ring holds what the window is made of
-      window : symbolAt (R .p) x (back (R .p) (leftAt R then .demodulator)) ≡ symbolAt (R .p) x (ago (R .taps) (R .p) xs)
+      window : symbolAt (R .p) x (back (R .p) (leftThen R then .demodulator)) ≡ symbolAt (R .p) x (ago (R .taps) (R .p) xs)
       unfolding single
       window =
           let h = historyAll (R .taps) (R .p) (P .before) in
-          let a = call-agrees R F _ _ (singles-run R F (P .before) (front R F ss sampled then) .0) (singles-fit R F (P .before) (front R F ss sampled then)) (sample (P .value) (P .room)) in
+          let a = own-agrees R F _ _ (singles-run R F (P .before) (front R F ss sampled then) .0) (singles-fit R F (P .before) (front R F ss sampled then)) (sample (P .value) (P .room)) in
           let more = admitted-given (R .taps) (R .p) h (P .value) (P .room) (ap (λ (q : Said). isRefusal (q .answer)) (P .said)) in
-          window-same (R .p) (size-at R F .0) (back (R .p) (leftAt R then .demodulator)) (ago (R .taps) (R .p) xs)
-          (subst (λ (zs : List ℤ). (i : ℕ) → i < 192 * R .p → back (R .p) (leftAt R then .demodulator) i ≡ ago (R .taps) (R .p) zs i) more (a .rings .ring)) x
+          window-same (R .p) (size-at R F .0) (back (R .p) (leftThen R then .demodulator)) (ago (R .taps) (R .p) xs)
+          (subst (λ (zs : List ℤ). (i : ℕ) → i < 192 * R .p → back (R .p) (leftThen R then .demodulator) i ≡ ago (R .taps) (R .p) zs i) more (a .rings .ring)) x
 
       taken-by : OfferTaken R ss o
       taken-by = record {
@@ -179,10 +179,10 @@ module _ (R : Rate) (F : Facts R) (ss : List Single) (sampled : Each Callable ss
         symbols =
             let gains : x .gain ≡ correlated R (take .moment) (o .kind) .gain = ap (λ (y : Shown). y .gain) e ∙ ap (λ (m : Correlation). m .gain) values in
             let shifts : x .shift ≡ correlated R (take .moment) (o .kind) .shift = ap (λ (y : Shown). y .shift) e ∙ ap (λ (m : Correlation). m .shift) values in
-            let reads : ℕ → Float = λ i. back (R .p) (leftAt R then .demodulator) (R .p * (191 - i)) in
+            let reads : ℕ → Float = λ i. back (R .p) (leftThen R then .demodulator) (R .p * (191 - i)) in
             ap (λ (q : Said). q .room) said ∙ ap (λ (f : ℕ → Float). written f 192 (P .room)) (sym window)
-            ∙ ap (λ (g : Float). written (λ (i : ℕ). symbolOf g (x .shift) (back (R .p) (leftAt R then .demodulator) (R .p * (191 - i)))) 192 (P .room)) gains
-            ∙ ap (λ (g : Float). written (λ (i : ℕ). symbolOf (correlated R (take .moment) (o .kind) .gain) g (back (R .p) (leftAt R then .demodulator) (R .p * (191 - i)))) 192 (P .room)) shifts;
+            ∙ ap (λ (g : Float). written (λ (i : ℕ). symbolOf g (x .shift) (back (R .p) (leftThen R then .demodulator) (R .p * (191 - i)))) 192 (P .room)) gains
+            ∙ ap (λ (g : Float). written (λ (i : ℕ). symbolOf (correlated R (take .moment) (o .kind) .gain) g (back (R .p) (leftThen R then .demodulator) (R .p * (191 - i)))) 192 (P .room)) shifts;
       }
 
     taken-of : OfferedAt (R .taps) (R .p) (o .sample) x ss → OfferTaken R ss o
@@ -192,12 +192,12 @@ module _ (R : Rate) (F : Facts R) (ss : List Single) (sampled : Each Callable ss
     ]
 
 -- ---- every list of calls, at a rate
-module _ (R : Rate) (F : Facts R) (cs : List Call) (given : Each Given cs) (o : Offer) (offered : List·Memᴰ o (offersIn (answers (receiver R) fresh cs))) where
+module _ (R : Rate) (F : Facts R) (cs : List Call) (given : Each Given cs) (o : Offer) (offered : List·Memᴰ o (offersIn (answers receiver (freshAt R) cs))) where
   abbrev ss : List Single
-  ss = singlesFrom R fresh cs
+  ss = singlesFrom (freshAt R) cs
 
   small : Each Callable ss
-  small = singles-sampled R cs fresh given
+  small = singles-sampled cs (freshAt R) given
 
   -- it is due, by the demand, and so the rule of the due sample applies
   due : (x : Shown) × (offerOf x (o .sample) ≡ o) × In (FellDue (o .sample) x) (logAll (R .taps) (R .p) ss)
@@ -209,11 +209,15 @@ module _ (R : Rate) (F : Facts R) (cs : List Call) (given : Each Given cs) (o : 
   wait : Found R F ss small o (due .0) (rule .1)
   wait = found R F ss small o (due .0) (due .1) (rule .0) (rule .1)
 
-  pub offer-place : OfferPlace R ss o
+  -- "1,840 later, or 1,839 in the named corner"
+  pub offer-place : OfferPlace R ss o (184 * R .p) (184 * R .p - 1)
   offer-place = place-of R F ss small o (due .0) (due .1) (rule .1) wait
 
-  pub offer-age : OfferAge R ss o
-  offer-age = age-of R F ss small o (due .0) (due .1) (rule .1) wait
+  pub offer-age-sharp : OfferAge R ss o (R .p)
+  offer-age-sharp = age-of R F ss small o (due .0) (due .1) (rule .1) wait
+
+  pub offer-age : OfferAge R ss o (R .p + 1)
+  offer-age = let A = offer-age-sharp in record { wait = A .wait; least = A .least; most = omega (arith, A .most); count = A .count }
 
   pub offer-taken : OfferTaken R ss o
   offer-taken = taken-of R F ss small o (due .0) (due .1) (rule .1) wait (due-offered-at R F ss small (o .sample) (due .0) (due .2))

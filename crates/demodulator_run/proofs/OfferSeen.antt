@@ -29,12 +29,12 @@ use Rattle.demodulator.specs.declared.SoftDemodulator.{SoftDemodulator}
 use Rattle.demodulator.specs.declared.Offer.{Offer}
 use Rattle.demodulator.specs.Spans.{eight}
 use Rattle.demodulator.specs.Record.{back, stored}
-use Rattle.demodulator.specs.Fit.{recordFit, fitForSample, fitForReply}
+use Rattle.demodulator.specs.Fit.{unfitNumber, recordFit, fitForSample, fitForReply}
 use Rattle.demodulator.specs.Calls.{Paper, refusal, nothing, frame, done, carrier, Left, refused, finished, admittedBy, demodulated, answered, detected, offerOf}
 use Rattle.demodulator.proofs.Fitness.{record-facts, sample-record}
 use Rattle.demodulator_run.specs.Rules.{Single, sample, reply, query}
 use Rattle.demodulator_run.specs.Marks.{isRefusal}
-use Rattle.demodulator_run.specs.Run.{left, singleReceiver}
+use Rattle.demodulator_run.specs.Run.{left, leftAt, singleReceiver}
 use Rattle.demodulator_run.specs.Exact.{HeldOf, lastSample}
 use Rattle.demodulator_run.specs.CallerSees.{offerIn}
 use Rattle.demodulator_run.proofs.Singles.{offersSaid}
@@ -101,7 +101,7 @@ module _ (R : Rate) where
     pub offer-out : demodulated R m x room .answer ≡ frame o → Offers
     unfolding demodulated admittedBy
     offer-out =
-        by-test Out (not (fitForSample (R .p) m)) _ _ (λ _. no-frame 1)
+        by-test Out (not (fitForSample (R .p) m)) _ _ (λ _. no-frame (unfitNumber m))
         (λ fit. by-test Out (m .control .owed) _ _ (λ _. no-frame 2)
         (λ _. by-test Out (ltb (length room) 192) _ _ (λ _. no-frame 4)
         (λ _. by-test Out (eqb (m .control .sample) (2 ^ 63)) _ _ (λ _. no-frame 5)
@@ -126,7 +126,7 @@ module _ (R : Rate) where
         let kinds : f .awaited .0 .kind ≡ o .kind = f .awaited .1 .1 in
         let numbers : f .awaited .0 .«taken_at» ≡ o .«taken_at» = f .awaited .2 in
         let s = sampled-in (m .control) (f .last) (f .awaited .0) (f .awaited .1 .0) (eight (R .p) (back (R .p) (stored R m x))) in
-        by-test In (not (fitForSample (R .p) m)) _ _ (λ _. not-in 1)
+        by-test In (not (fitForSample (R .p) m)) _ _ (λ _. not-in (unfitNumber m))
         (λ _. by-test In (m .control .owed) _ _ (λ _. not-in 2)
         (λ _. by-test In (ltb (length room) 192) _ _ (λ _. not-in 4)
         (λ _. by-test In (eqb (m .control .sample) (2 ^ 63)) _ _ (λ _. not-in 5)
@@ -144,43 +144,43 @@ module _ (R : Rate) where
   unfolding answered
   reply-none m r =
       let None : Left → Type 0 = λ l. NoFrame (l .answer) in
-      by-test None (not (fitForReply (R .p) m)) (refused 1 m []) _ (λ _. refusal-none 1)
+      by-test None (not (fitForReply (R .p) m)) (refused (unfitNumber m) m []) _ (λ _. refusal-none (unfitNumber m))
       (λ _. by-test None (not (m .control .owed)) (refused 3 m []) _ (λ _. refusal-none 3) (λ _ o e. let z : _≡_ {A = ℕ} 0 1 = cc in omega arith))
 
   query-none : (m : SoftDemodulator) → NoFrame (detected (R .p) m)
   unfolding detected
-  query-none m = by-test NoFrame (not (recordFit (R .p) m)) (refusal (bare 1)) _ (λ _. refusal-none 1) (λ _ o e. let z : _≡_ {A = ℕ} 0 1 = cc in omega arith)
+  query-none m = by-test NoFrame (not (recordFit (R .p) m)) (refusal (bare (unfitNumber m))) _ (λ _. refusal-none (unfitNumber m)) (λ _ o e. let z : _≡_ {A = ℕ} 0 1 = cc in omega arith)
 
-  pub sample-only : (m : SoftDemodulator) (c : Single) (o : Offer) → left R m c .answer ≡ frame o → (x : ℤ) × (room : List Float) × (c ≡ sample x room)
-  unfolding left
+  pub sample-only : (m : SoftDemodulator) (c : Single) (o : Offer) → leftAt R m c .answer ≡ frame o → (x : ℤ) × (room : List Float) × (c ≡ sample x room)
+  unfolding leftAt
   sample-only m (sample x room) o e = (x, room, refl)
   sample-only m (reply r) o e = absurd (reply-none m r o e)
   sample-only m query o e = absurd (query-none m o e)
 
-  -- ---- where an offer is among the answers
-  abbrev Seen : SoftDemodulator → List Single → Offer → Type 0
-  Seen m ss o = (before : List Single) × (call : Single) × (after : List Single) × (ss ≡ before ++ (call ∷ after)) × (left R (run (singleReceiver R) m before) call .answer ≡ frame o)
+-- ---- where an offer is among the answers
+abbrev Seen : SoftDemodulator → List Single → Offer → Type 0
+Seen m ss o = (before : List Single) × (call : Single) × (after : List Single) × (ss ≡ before ++ (call ∷ after)) × (left (run singleReceiver m before) call .answer ≡ frame o)
 
-  in-paper : (a : Paper) (o : Offer) → List·Memᴰ o (offerIn a) → a ≡ frame o
-  unfolding offerIn
-  in-paper (frame q) o i = sym (ap frame (List·Memᴰ·eq-of-singleton i))
-  in-paper (refusal number) o i = absurd (List·Memᴰ·not-nil i)
-  in-paper nothing o i = absurd (List·Memᴰ·not-nil i)
-  in-paper done o i = absurd (List·Memᴰ·not-nil i)
-  in-paper (carrier there) o i = absurd (List·Memᴰ·not-nil i)
+in-paper : (a : Paper) (o : Offer) → List·Memᴰ o (offerIn a) → a ≡ frame o
+unfolding offerIn
+in-paper (frame q) o i = sym (ap frame (List·Memᴰ·eq-of-singleton i))
+in-paper (refusal number) o i = absurd (List·Memᴰ·not-nil i)
+in-paper nothing o i = absurd (List·Memᴰ·not-nil i)
+in-paper done o i = absurd (List·Memᴰ·not-nil i)
+in-paper (carrier there) o i = absurd (List·Memᴰ·not-nil i)
 
-  pub offers-seen : (ss : List Single) (m : SoftDemodulator) (o : Offer) → List·Memᴰ o (offersSaid (answers (singleReceiver R) m ss)) → Seen m ss o
-  unfolding answers offersSaid run
-  offers-seen [] m o i = absurd (List·Memᴰ·not-nil i)
-  offers-seen (s ∷ ss) m o i = later (λ j. offers-seen ss (left R m s .demodulator) o j) (List·Memᴰ·append-cases (offerIn (left R m s .answer)) i)
-    where
-      later : (List·Memᴰ o (offersSaid (answers (singleReceiver R) (left R m s .demodulator) ss)) → Seen (left R m s .demodulator) ss o)
-          → List·Memᴰ o (offerIn (left R m s .answer)) ⊎ List·Memᴰ o (offersSaid (answers (singleReceiver R) (left R m s .demodulator) ss)) → Seen m (s ∷ ss) o
-      later more (inl j) = ([], s, ss, refl, in-paper (left R m s .answer) o j)
-      later more (inr j) = let (b, c, a, e, f) = more j in (s ∷ b, c, a, ap (λ (l : List Single). s ∷ l) e, f)
+pub offers-seen : (ss : List Single) (m : SoftDemodulator) (o : Offer) → List·Memᴰ o (offersSaid (answers singleReceiver m ss)) → Seen m ss o
+unfolding answers offersSaid run
+offers-seen [] m o i = absurd (List·Memᴰ·not-nil i)
+offers-seen (s ∷ ss) m o i = later (λ j. offers-seen ss (left m s .demodulator) o j) (List·Memᴰ·append-cases (offerIn (left m s .answer)) i)
+  where
+    later : (List·Memᴰ o (offersSaid (answers singleReceiver (left m s .demodulator) ss)) → Seen (left m s .demodulator) ss o)
+        → List·Memᴰ o (offerIn (left m s .answer)) ⊎ List·Memᴰ o (offersSaid (answers singleReceiver (left m s .demodulator) ss)) → Seen m (s ∷ ss) o
+    later more (inl j) = ([], s, ss, refl, in-paper (left m s .answer) o j)
+    later more (inr j) = let (b, c, a, e, f) = more j in (s ∷ b, c, a, ap (λ (l : List Single). s ∷ l) e, f)
 
-  pub seen-offers : (before : List Single) (call : Single) (after : List Single) (m : SoftDemodulator) (o : Offer) → left R (run (singleReceiver R) m before) call .answer ≡ frame o
-      → List·Memᴰ o (offersSaid (answers (singleReceiver R) m (before ++ (call ∷ after))))
-  unfolding answers offersSaid run offerIn
-  seen-offers [] call after m o e = rw e (Memᴰ·append-left (offersSaid (answers (singleReceiver R) (left R m call .demodulator) after)) (List·Memᴰ·head {xs = []} refl))
-  seen-offers (s ∷ before) call after m o e = Memᴰ·append-right (offerIn (left R m s .answer)) (seen-offers before call after (left R m s .demodulator) o e)
+pub seen-offers : (before : List Single) (call : Single) (after : List Single) (m : SoftDemodulator) (o : Offer) → left (run singleReceiver m before) call .answer ≡ frame o
+    → List·Memᴰ o (offersSaid (answers singleReceiver m (before ++ (call ∷ after))))
+unfolding answers offersSaid run offerIn
+seen-offers [] call after m o e = rw e (Memᴰ·append-left (offersSaid (answers singleReceiver (left m call .demodulator) after)) (List·Memᴰ·head {xs = []} refl))
+seen-offers (s ∷ before) call after m o e = Memᴰ·append-right (offerIn (left m s .answer)) (seen-offers before call after (left m s .demodulator) o e)

@@ -29,7 +29,7 @@ use Rattle.demodulator_run.specs.Marks.{Mark, Anew, Failed, logAll}
 use Rattle.demodulator_run.specs.Demands.{Ear, at, Matches, Taken, Corner, Replaces, Cause}
 use Rattle.demodulator_run.specs.Exact.{MarkedAt}
 use Rattle.demodulator_run.specs.Run.{Callable}
-use Rattle.demodulator_run.specs.CallerSees.{Moment, leftAt}
+use Rattle.demodulator_run.specs.CallerSees.{Moment, leftThen}
 use Rattle.demodulator_run.specs.OfferReports.{heardThen, WaitSeen, CornerSeen, ReplacedSeen}
 use Rattle.demodulator_run.proofs.KindOrder.{no→⊥, T-clash}
 use Rattle.demodulator_run.proofs.Phase.{Holding, Phase, Kept}
@@ -147,7 +147,7 @@ module _ (R : Rate) (F : Facts R) (ss : List Single) (sampled : Each Callable ss
     diffs =
         ap (λ (v : TakenBurst). v .diff) (H .values) ∙ ap (λ (i : Kind). at heard i (H .b) .diff) kinds ∙ ap (λ (n : ℕ). at heard k n .diff) (sym taken-then ∙ since)
 
-    counts : leftAt R t .demodulator .control .sample ≡ s
+    counts : leftThen R t .demodulator .control .sample ≡ s
     counts = ap (λ (d : Control). d .sample) (A .left) ∙ searched-sample (R .p) (heard (c .sample)) c ∙ sym number
 
     heard-now : heardThen R t ≡ heard s

@@ -17,14 +17,14 @@ use Rattle.demodulator.specs.declared.SoftDemodulator.{SoftDemodulator}
 use Rattle.demodulator.specs.Spans.{eight}
 use Rattle.demodulator.specs.Record.{back, stored}
 use Rattle.demodulator.specs.Fit.{recordFit, fitForSample, fitForReply}
-use Rattle.demodulator.specs.Calls.{refusal, Left, finished, admittedBy, demodulated, answered}
-use Rattle.demodulator.specs.Feed.{Stretch}
+use Rattle.demodulator.specs.Calls.{refusal, nothing, Left, finished, admittedBy, demodulated, answered}
+use Rattle.demodulator.specs.Feed.{Stretch, emptySaid}
 use Rattle.demodulator.specs.Feed.{sampleSaid as sampleSaid′, sampleNext as sampleNext′, sampleRoom as sampleRoom′}
 use Rattle.demodulator_laws.proofs.RefusedFeed.{refused-feed}
 use Rattle.demodulator_run.specs.Filter.{ago}
 use Rattle.demodulator_run.specs.Rules.{Single, sample, reply, query, History, After, settled, given, single}
 use Rattle.demodulator_run.specs.Rules.{answered as repliedTo}
-use Rattle.demodulator_run.specs.Run.{left}
+use Rattle.demodulator_run.specs.Run.{leftAt}
 use Rattle.demodulator_run.specs.Stretch.{sampleSaid, sampleNext, sampleRoom}
 use Rattle.demodulator_run.specs.Calls.{Call, one, stretch, Told, toldStretch, historyNext, toldTo, rules, recordNext, toldBy}
 
@@ -67,7 +67,7 @@ module _ (table : List Float) (p : ℕ) (h : History) where
   unfolding historyNext toldTo
   refused-nothing (one c) number e = let k = single-nothing c number e in (k .0, λ i. record { answer = e i; fed = 0; room = k .1 i })
   refused-nothing (stretch xs room) number e =
-      let k = refused-feed History (sampleSaid table p) (sampleNext table p) (sampleRoom table p) (λ (g : History). true) h xs room number e in
+      let k = refused-feed History (sampleSaid table p) (sampleNext table p) (sampleRoom table p) (λ (g : History). nothing) h xs room number e in
       (ap (λ (f : Stretch History). f .state) k, ap (λ (f : Stretch History). toldStretch f) k)
 
 -- and so it counts for nothing: what comes after it is as if it had not been made
@@ -87,8 +87,8 @@ module _ (R : Rate) (m : SoftDemodulator) where
   taken-kept x room (quiet c) number e = let z : _≡_ {A = ℕ} 0 1 = cc in absurd (omega arith)
   taken-kept x room (offer shown c) number e = let z : _≡_ {A = ℕ} 0 1 = cc in absurd (omega arith)
 
-  single-record : (c : Single) (number : PaperRefusal) → left R m c .answer ≡ refusal number → (left R m c .demodulator ≡ m) × (left R m c .room ≡ roomOf c)
-  unfolding left demodulated answered admittedBy
+  single-record : (c : Single) (number : PaperRefusal) → leftAt R m c .answer ≡ refusal number → (leftAt R m c .demodulator ≡ m) × (leftAt R m c .room ≡ roomOf c)
+  unfolding leftAt demodulated answered admittedBy
   single-record (sample x room) =
       by-test (KeptRecord room) (not (fitForSample (R .p) m)) _ _ (λ _ number e. (refl, refl))
       (λ _. by-test (KeptRecord room) (m .control .owed) _ _ (λ _ number e. (refl, refl))
@@ -104,5 +104,26 @@ module _ (R : Rate) (m : SoftDemodulator) where
   unfolding recordNext toldBy
   refused-record (one c) number e = let k = single-record c number e in (k .0, λ i. record { answer = e i; fed = 0; room = k .1 i })
   refused-record (stretch xs room) number e =
-      let k = refused-feed SoftDemodulator (sampleSaid′ R) (sampleNext′ R) (sampleRoom′ R) (recordFit (R .p)) m xs room number e in
+      let k = refused-feed SoftDemodulator (sampleSaid′ R) (sampleNext′ R) (sampleRoom′ R) (emptySaid (R .p)) m xs room number e in
       (ap (λ (f : Stretch SoftDemodulator). f .state) k, ap (λ (f : Stretch SoftDemodulator). toldStretch f) k)
+
+-- ---- no call changes the record's rate
+module _ (R : Rate) (m : SoftDemodulator) where
+  abbrev SameRate : Left → Type 0
+  SameRate l = l .demodulator .rate ≡ m .rate
+
+  finished-rate : (x : ℤ) (room : List Float) (o : Outcome) → SameRate (finished (R .p) (stored R m x) room o)
+  unfolding stored
+  finished-rate x room (quiet c) = refl
+  finished-rate x room (offer shown c) = refl
+
+  pub rate-kept : (c : Single) → leftAt R m c .demodulator .rate ≡ m .rate
+  unfolding leftAt demodulated answered admittedBy
+  rate-kept (sample x room) =
+      by-test SameRate (not (fitForSample (R .p) m)) _ _ (λ _. refl)
+      (λ _. by-test SameRate (m .control .owed) _ _ (λ _. refl)
+      (λ _. by-test SameRate (ltb (length room) 192) _ _ (λ _. refl)
+      (λ _. by-test SameRate (eqb (m .control .sample) (2 ^ 63)) _ _ (λ _. refl)
+      (λ _. finished-rate x room (sampled (R .p) (eight (R .p) (back (R .p) (stored R m x))) (m .control))))))
+  rate-kept (reply r) = by-test SameRate (not (fitForReply (R .p) m)) _ _ (λ _. refl) (λ _. by-test SameRate (not (m .control .owed)) _ _ (λ _. refl) (λ _. refl))
+  rate-kept query = refl

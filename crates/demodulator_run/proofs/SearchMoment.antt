@@ -34,14 +34,14 @@ use Rattle.demodulator_run.specs.Marks.{Mark, First, Anew, isRefusal, lo
 use Rattle.demodulator_run.specs.Demands.{Ear, Matches, Taken}
 use Rattle.demodulator_run.specs.Exact.{Searches, MarkedAt}
 use Rattle.demodulator_run.specs.Run.{Callable}
-use Rattle.demodulator_run.specs.CallerSees.{Moment, controlAt, leftAt, Admitted}
+use Rattle.demodulator_run.specs.CallerSees.{Moment, controlAt, leftThen, Admitted}
 use Rattle.demodulator_run.specs.OfferReports.{heardThen, TakeSeen}
 use Rattle.demodulator_run.proofs.Demand.{earAll}
 use Rattle.demodulator_run.proofs.DemandAt.{size-at, alone-at, again-at, log-exact-at}
 use Rattle.demodulator_run.proofs.Pass.{controlled}
 use Rattle.demodulator_run.proofs.Run.{On, heard-now, on-next}
 use Rattle.demodulator_run.proofs.LogExact.{admitted-answered, at-call}
-use Rattle.demodulator_run.proofs.Step.{call-agrees, eight-read}
+use Rattle.demodulator_run.proofs.Step.{own-agrees, eight-read}
 use Rattle.demodulator_run.proofs.SinglesRun.{singles-run, singles-fit}
 use Rattle.demodulator_run.proofs.TakenSeen.{given-control, answered-control, heard-sample, heard-reply}
 use Rattle.demodulator_run.proofs.SearchSets.{takes-first, takes-anew}
@@ -65,13 +65,13 @@ module _ (R : Rate) (F : Facts R) (ss : List Single) (sampled : Each Callable ss
   on-moment t = at-call (R .taps) (R .p) (size-at R F) ss (alone-at R F ss sampled) (again-at R F ss sampled) (First 0 Bert) (t .before) (t .call) (t .after) (t .split)
 
   -- ---- the record's eight values are those of the samples that were admitted
-  pub heard-then : (t : Moment ss) → heardThen R t ≡ ear (leftAt R t .demodulator .control .sample)
+  pub heard-then : (t : Moment ss) → heardThen R t ≡ ear (leftThen R t .demodulator .control .sample)
   heard-then t =
       let (m, O) = on-moment t in
       let next : History = single (R .taps) (R .p) (before t) (t .call) .history in
       let N = on-next (R .taps) (R .p) ear (size-at R F) (alone-at R F ss sampled) (again-at R F ss sampled) (before t) (t .call) (t .after) m O in
-      let a = call-agrees R F _ _ (singles-run R F (t .before) (front R F ss sampled t) .0) (singles-fit R F (t .before) (front R F ss sampled t)) (t .call) in
-      eight-read R F (leftAt R t .demodulator) (next .samples) (a .rings)
+      let a = own-agrees R F _ _ (singles-run R F (t .before) (front R F ss sampled t) .0) (singles-fit R F (t .before) (front R F ss sampled t)) (t .call) in
+      eight-read R F (leftThen R t .demodulator) (next .samples) (a .rings)
       ∙ sym (heard-now (R .taps) (R .p) ear (before t) (t .call) (t .after) (O .hears))
       ∙ ap ear (sym (N .counted))
       ∙ ap (λ (c : Control). ear (c .sample)) (sym (left-same R F ss sampled t))
@@ -81,7 +81,7 @@ module _ (R : Rate) (F : Facts R) (ss : List Single) (sampled : Each Callable ss
     pub wait : c .wait ≡ Free
     pub free : controlAt R t .wait ≡ Free
     pub candidate : controlAt R t .candidate ≡ c .candidate
-    pub left : leftAt R t .demodulator .control ≡ searched (R .p) (ear (c .sample)) c
+    pub left : leftThen R t .demodulator .control ≡ searched (R .p) (ear (c .sample)) c
     -- only a sample finds a candidate held
     pub next : (u : TakenBurst) → c .candidate ≡ heldAs u → c .sample ≡ controlAt R t .sample + 1
 
@@ -155,7 +155,7 @@ module _ (R : Rate) (F : Facts R) (ss : List Single) (sampled : Each Callable ss
     take-by : (t : Moment ss) → Admitted R t → (c : Control) → SearchSeen t c → n ≡ c .sample → Matches ear k n
         → searched (R .p) (ear n) c .candidate ≡ heldAs (taken k (correlation (Frame k) (ear n)) n) → TakeSeen R ss k n
     take-by t adm c A number hit holds =
-        let counts : leftAt R t .demodulator .control .sample ≡ n = ap (λ (d : Control). d .sample) (A .left) ∙ searched-sample (R .p) (ear (c .sample)) c ∙ sym number in
+        let counts : leftThen R t .demodulator .control .sample ≡ n = ap (λ (d : Control). d .sample) (A .left) ∙ searched-sample (R .p) (ear (c .sample)) c ∙ sym number in
         let heard : ear n ≡ heardThen R t = ap ear (sym counts) ∙ sym (heard-then t) in
         record {
           moment = t;

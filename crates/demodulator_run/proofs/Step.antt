@@ -1,5 +1,5 @@
 -- One call: on a record that holds what the rules have heard, it is answered as the rules say and leaves what they say. Assumes nothing.
-use mathlib.Core.Path.{_≡_, refl, ap}
+use mathlib.Core.Path.{_≡_, refl, sym, ap, subst}
 use mathlib.Core.Bool.{Bool, true, false, not, cond, true≢false, false≢true}
 use mathlib.Core.List.{List, [], _∷_, _++_}
 use Prim.Native.Nat.{ℕ, _^_, _<_}
@@ -21,11 +21,12 @@ use Rattle.demodulator.specs.Calls.{Paper, frame, carrier, Left, refused, finis
 use Rattle.demodulator_run.specs.Filter.{ago}
 use Rattle.demodulator_run.specs.Rules.{Single, sample, reply, query, History, After, settled, admitted, given, single}
 use Rattle.demodulator_run.specs.Rules.{answered as repliedTo, refused as turnedDown}
-use Rattle.demodulator_run.specs.Run.{left, saidBy}
+use Rattle.demodulator_run.specs.Run.{left, leftAt, saidBy}
 use Rattle.demodulator_run.specs.Represents.{Remembers, Represents}
 use Rattle.demodulator_run.proofs.SameWindow.{eight-same, window-same}
 use Rattle.demodulator_run.proofs.Stored.{stored-remembers}
 use Rattle.demodulator_run.proofs.RecordFit.{FitForAll}
+use Rattle.demodulator_run.proofs.RateKept.{own}
 
 module _ (R : Rate) (F : Facts R) where
   some : 0 < R .p
@@ -101,8 +102,12 @@ module _ (R : Rate) (F : Facts R) where
     unfolding detected
     query-says = rw (fit .for-query, r .control)
 
-    pub call-agrees : (c : Single) → Agrees (left R m c) (single (R .taps) (R .p) h c)
-    unfolding left single
+    pub call-agrees : (c : Single) → Agrees (leftAt R m c) (single (R .taps) (R .p) h c)
+    unfolding leftAt single
     call-agrees (sample x room) = sample-agrees x room
     call-agrees (reply a) = reply-agrees a
     call-agrees query = record { rings = r .rings; control = r .control; says = ap (λ (a : Paper). record { answer = a; room = [] }) query-says }
+
+    -- and so at the rate that the record says, as the functions promise
+    pub own-agrees : (c : Single) → Agrees (left m c) (single (R .taps) (R .p) h c)
+    own-agrees c = subst (λ (Q : Rate). Agrees (leftAt Q m c) (single (R .taps) (R .p) h c)) (sym (own R F m (r .rate))) (call-agrees c)

@@ -14,6 +14,7 @@ use Rattle.shaping.proofs.RateFacts.{Facts}
 use Rattle.demodulator.specs.declared.SoftDemodulator.{SoftDemodulator}
 use Rattle.demodulator.specs.Record.{fresh, windowAfter, filteredAfter, stored}
 use Rattle.demodulator.proofs.Halves.{doubled-agree, summed-older, summed-newest, stored-long, stored-halves, stored-view}
+use Rattle.demodulator_run.specs.Run.{freshAt}
 use Rattle.demodulator_run.specs.Filter.{sampleNo, filtered}
 use Rattle.demodulator_run.specs.Represents.{Remembers}
 use Rattle.demodulator_run.proofs.Sixteen.{taps-size}
@@ -102,7 +103,7 @@ module _ (R : Rate) (F : Facts R) where
   zero-at : (i : ℕ) → i < 162 → getD (replicate 162 (pos 0)) i (pos 0) ≡ pos 0
   zero-at i l = getD-replicate 162 i (pos 0) (pos 0) l
 
-  pub fresh-remembers : Remembers R fresh []
+  pub fresh-remembers : Remembers R (freshAt R) []
   unfolding fresh
   fresh-remembers = record {
     window-places = let u = window-inside in omega (arith, length-replicate 162 (pos 0));

@@ -11,7 +11,7 @@ use Rattle.demodulator.specs.Calls.{Paper, refusal, nothing, frame, done, carri
 use Rattle.demodulator.specs.Feed.{Stretch, stopsBefore, goesOn, fedFrom, fed, fedInto}
 use Rattle.demodulator.proofs.FeedSteps.{restFrom}
 use Rattle.demodulator_run.specs.Rules.{Single, sample, History, Said, After, single}
-use Rattle.demodulator_run.specs.Run.{left, saidBy, Callable}
+use Rattle.demodulator_run.specs.Run.{leftAt, saidBy, Callable}
 use Rattle.demodulator_run.specs.Stretch.{Sixteen, sampleSaid, sampleNext, sampleRoom, stretched}
 use Rattle.demodulator_run.proofs.Step.{call-agrees}
 use Rattle.demodulator_run.proofs.Whole.{Stands, stands-fit, stands-next}
@@ -41,7 +41,7 @@ module _ (R : Rate) (F : Facts R) where
 
   -- ---- a stretch, from where a run stands
   same : (xs : List ℤ) (n : ℕ) (m : SoftDemodulator) (h : History) (room : List Float) → Sixteen xs → Stands R F m h → Same (restFrom R n m xs room) (rulesRest n h xs room)
-  unfolding fedFrom Sixteen Callable left
+  unfolding fedFrom Sixteen Callable leftAt
   same [] n m h room f s = record { answers = refl; counts = refl; writes = refl; stands = s }
   same (x ∷ xs) n m h room f s =
       let c : Single = sample x room in

@@ -1,20 +1,23 @@
 -- Worked examples of the rules, computed: P1, the first sample, each refusal, the carrier and its timer, a wait that is set, a tie and an age. Assumes nothing.
 use mathlib.Core.Path.{_≡_, refl, sym, _∙_}
-use mathlib.Core.Bool.{Bool, true, false}
+use mathlib.Core.Bool.{Bool, true, false, cond}
 use mathlib.Core.List.{List, [], _∷_}
 use mathlib.Core.Option.{some}
-use Prim.Native.Nat.{_^_}
+use Prim.Native.Nat.{ℕ, _%_, _^_}
+use lib.Dec.{eqb}
 use lib.IntN.{ℤ, pos}
 use lib.ListN.{getD, replicate}
 use lib.Ieee.{Float, binary32, ofBits, ofInt, add, sub, mul, div, neg, lt, eq}
 use Rattle.numbers.specs.Sum.{nought, sumTo}
 use Rattle.numbers.specs.Choice.{larger, smaller, sizeOf}
 use Rattle.numbers.specs.Below.{anyBelow}
-use Rattle.shaping.specs.Taps.{taps}
+use Rattle.numbers.specs.Firsts.{firsts}
+use Rattle.shaping.specs.Taps.{taps, evenTaps}
 use Rattle.shaping.specs.Sum.{dot}
 use Rattle.shaping.proofs.Impulse.{middle-tap}
 use Rattle.protocol.specs.Bursts.{signsOf}
 use Rattle.protocol.specs.declared.Kind.the-variants.{Lsf, Stream}
+use Rattle.protocol.specs.declared.SyncBurst.the-variants.{Preamble}
 use Rattle.protocol.specs.Refusals.{bare}
 use Rattle.decode.specs.declared.Correlation.{Correlation}
 use Rattle.decode.specs.Correlator.{zeroUnsigned, highest, lowest, gainOf, shiftOf, symbolOf, distanceOf, summed, diffOf, correlation, matches}
@@ -30,7 +33,7 @@ use Rattle.search.specs.Turn.{cleared, waitedTurn, sampled}
 use Rattle.demodulator.specs.Calls.{refusal, nothing, done, carrier}
 use Rattle.demodulator_laws.proofs.ExampleBurst.{burstAt}
 use Rattle.demodulator_run.specs.Filter.{sampleNo, filtered}
-use Rattle.demodulator_run.specs.Rules.{sample, reply, query, History, start, settled, given, answered, single}
+use Rattle.demodulator_run.specs.Rules.{sample, reply, query, History, After, start, settled, given, answered, single}
 
 -- ---- P1: "sample 1, then 40 zeros: F(41) = tap 40, 0.35943073"
 abbrev impulse : List ℤ
@@ -87,12 +90,19 @@ accepts = refl
 abbrev pub room : List Float
 room = replicate 192 nought
 
-pub first : single taps 10 start (sample (pos 32767) room) ≡ record {
+abbrev pub unheard : After
+unheard = record {
   said = record { answer = nothing; room = room };
   history = record { samples = pos 32767 ∷ []; control = record { candidate = Nothing; wait = Free; dcd = Off; owed = false; sample = 1 } };
 }
+
+pub first : single taps 10 start (sample (pos 32767) room) ≡ unheard
 unfolding single given settled sampled waitedTurn cleared searched passed tried carried missed matched marked matches correlation diffOf summed sumTo distanceOf symbolOf shiftOf gainOf highest lowest zeroUnsigned larger smaller sizeOf add sub mul div lt eq neg ofInt ofBits filtered sampleNo dot taps signsOf anyBelow
 first = refl
+
+pub first24 : single evenTaps 5 start (sample (pos 32767) room) ≡ unheard
+unfolding single given settled sampled waitedTurn cleared searched passed tried carried missed matched marked matches correlation diffOf summed sumTo distanceOf symbolOf shiftOf gainOf highest lowest zeroUnsigned larger smaller sizeOf add sub mul div lt eq neg ofInt ofBits filtered sampleNo dot taps signsOf anyBelow evenTaps firsts
+first24 = refl
 
 -- ---- "clear the carrier timer if the count is above its end"
 at-its-end : cleared 240 (Until 240) ≡ Until 240
@@ -120,6 +130,23 @@ set mark = Due (record { left = 1837; age = 3; replaced = mark })
 fails : missed 10 Stream (some third) (holding third Free) ≡ record { candidate = heldAs third; wait = set false; dcd = Until 3940; owed = false; sample = 100 }
 unfolding missed
 fails = refl
+
+-- document 02 k): "the wait is 920 - age, the timer spans are 120 and 1,920"
+fails24 : missed 5 Stream (some third) (holding third Free) ≡ record { candidate = heldAs third; wait = Due (record { left = 917; age = 3; replaced = false }); dcd = Until 2020; owed = false; sample = 100 }
+unfolding missed
+fails24 = refl
+
+-- a preamble of ±32 at sample 100: "a match sets the timer's end to count + 240"
+abbrev alternating : ℕ → Float
+alternating i = cond (eqb (i % 2) 0) (ofBits binary32 0x4200_0000) (ofBits binary32 0xc200_0000)
+
+carried48 : carried 10 Preamble alternating (holding third Free) .dcd ≡ Until 340
+unfolding carried matches correlation diffOf summed sumTo distanceOf symbolOf shiftOf gainOf highest lowest zeroUnsigned larger smaller sizeOf add sub mul div lt eq neg ofInt ofBits signsOf anyBelow
+carried48 = refl
+
+carried24 : carried 5 Preamble alternating (holding third Free) .dcd ≡ Until 220
+unfolding carried matches correlation diffOf summed sumTo distanceOf symbolOf shiftOf gainOf highest lowest zeroUnsigned larger smaller sizeOf add sub mul div lt eq neg ofInt ofBits signsOf anyBelow
+carried24 = refl
 
 -- ---- "Any other match, ties included, takes a new candidate: kind, age 1"; at the count's sample
 abbrev anew : TakenBurst

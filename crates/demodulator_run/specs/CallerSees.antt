@@ -3,7 +3,7 @@ use mathlib.Core.Path.{_≡_}
 use mathlib.Core.Logic.{_↔_}
 use mathlib.Core.Bool.{true, false}
 use mathlib.Core.List.{List, [], _∷_, _++_, List·Memᴰ}
-use Prim.Native.Nat.{ℕ, _+_, _-_, _*_, _≤_}
+use Prim.Native.Nat.{ℕ, _+_, _≤_}
 use lib.IntN.{ℤ}
 use lib.Ieee.{Float}
 use Rattle.machine.specs.Runs.{run, answers}
@@ -13,11 +13,10 @@ use Rattle.search.specs.declared.Control.{Control}
 use Rattle.search.specs.TakenBurst.{TakenBurst}
 use Rattle.search.specs.Fit.{held}
 use Rattle.demodulator.specs.declared.Offer.{Offer}
-use Rattle.demodulator.specs.Record.{fresh}
 use Rattle.demodulator.specs.Calls.{Paper, refusal, nothing, frame, done, carrier, Left}
 use Rattle.demodulator_run.specs.Rules.{Single, sample}
 use Rattle.demodulator_run.specs.Marks.{isRefusal}
-use Rattle.demodulator_run.specs.Run.{left, recordAfter}
+use Rattle.demodulator_run.specs.Run.{freshAt, left, recordAfter}
 use Rattle.demodulator_run.specs.Demands.{AgeAtMost}
 use Rattle.demodulator_run.specs.Exact.{HeldOf, lastSample}
 use Rattle.demodulator_run.specs.Calls.{Call, Told, receiver, singlesFrom}
@@ -33,19 +32,19 @@ pub record Moment (ss : List Single) : Type 0 where
 abbrev pub controlAt : Rate → {ss : List Single} → Moment ss → Control
 controlAt R t = recordAfter R (t .before) .control
 
-abbrev pub leftAt : Rate → {ss : List Single} → Moment ss → Left
-leftAt R t = left R (recordAfter R (t .before)) (t .call)
+abbrev pub leftThen : Rate → {ss : List Single} → Moment ss → Left
+leftThen R t = left (recordAfter R (t .before)) (t .call)
 
 abbrev pub Admitted : Rate → {ss : List Single} → Moment ss → Type 0
-Admitted R t = isRefusal (leftAt R t .answer) ≡ false
+Admitted R t = isRefusal (leftThen R t .answer) ≡ false
 
 -- "a candidate taken at sample n while none was held": one is held after the call
 pub record TakenSeen (R : Rate) (ss : List Single) (n : ℕ) : Type 0 where
   pub moment : Moment ss
   pub admitted : Admitted R moment
   pub none : controlAt R moment .candidate ≡ Nothing
-  pub holds : held (leftAt R moment .demodulator .control .candidate) ≡ true
-  pub number : leftAt R moment .demodulator .control .sample ≡ n
+  pub holds : held (leftThen R moment .demodulator .control .candidate) ≡ true
+  pub number : leftThen R moment .demodulator .control .sample ≡ n
 
 -- the frame that is offered is due: one sample was left of its candidate's wait
 pub record DueSeen (R : Rate) (ss : List Single) (o : Offer) : Type 0 where
@@ -76,11 +75,11 @@ offersIn [] = []
 offersIn (t ∷ later) = offerIn (t .answer) ++ offersIn later
 
 -- ---- "From a fresh start: a candidate taken at sample n while none was held makes a frame due at exactly one sample from n+1,839 to n+1,879, and an age never passes 11."
--- over p: from n + (184p - 1) to n + (188p - 1), and p + 1
-pub record DemandThree (R : Rate) (cs : List Call) : Type 0 where
-  pub due-one : (n : ℕ) → TakenSeen R (singlesFrom R fresh cs) n → n + (188 * R .p - 1) ≤ run (receiver R) fresh cs .control .sample
-      → (d : ℕ) × SomeDue R (singlesFrom R fresh cs) d × (n + (184 * R .p - 1) ≤ d) × (d ≤ n + (188 * R .p - 1))
-      × ((e : ℕ) → SomeDue R (singlesFrom R fresh cs) e → n + (184 * R .p - 1) ≤ e → e ≤ n + (188 * R .p - 1) → e ≡ d)
+-- from n + lo to n + hi, and the age
+pub record DemandThree (R : Rate) (cs : List Call) (lo hi age : ℕ) : Type 0 where
+  pub due-one : (n : ℕ) → TakenSeen R (singlesFrom (freshAt R) cs) n → n + hi ≤ run receiver (freshAt R) cs .control .sample
+      → (d : ℕ) × SomeDue R (singlesFrom (freshAt R) cs) d × (n + lo ≤ d) × (d ≤ n + hi)
+      × ((e : ℕ) → SomeDue R (singlesFrom (freshAt R) cs) e → n + lo ≤ e → e ≤ n + hi → e ≡ d)
   -- document 02 b): "a due sample is now always an offer", and no other is
-  pub offers : (o : Offer) → List·Memᴰ o (offersIn (answers (receiver R) fresh cs)) ↔ DueSeen R (singlesFrom R fresh cs) o
-  pub ages : AgeAtMost (R .p + 1) (run (receiver R) fresh cs .control .candidate)
+  pub offers : (o : Offer) → List·Memᴰ o (offersIn (answers receiver (freshAt R) cs)) ↔ DueSeen R (singlesFrom (freshAt R) cs) o
+  pub ages : AgeAtMost age (run receiver (freshAt R) cs .control .candidate)

@@ -5,12 +5,12 @@ use lib.IntN.{ℤ}
 use lib.ListN.{take}
 use lib.Ieee.{Float}
 use Rattle.machine.specs.Runs.{Machine}
-use Rattle.shaping.specs.Rate.{Rate}
+use Rattle.shaping.specs.Rate.{Rate, rateOf}
 use Rattle.demodulator.specs.declared.SoftDemodulator.{SoftDemodulator}
 use Rattle.demodulator.specs.Calls.{Paper}
 use Rattle.demodulator.specs.Feed.{Stretch, fedInto}
 use Rattle.demodulator_run.specs.Rules.{Single, sample, History, Said, single}
-use Rattle.demodulator_run.specs.Run.{left, saidBy, Callable}
+use Rattle.demodulator_run.specs.Run.{leftAt, saidBy, Callable}
 use Rattle.demodulator_run.specs.Stretch.{Sixteen, stretched}
 
 pub data Call : Type 0 where
@@ -44,17 +44,18 @@ module _ (table : List Float) (p : ℕ) where
 abbrev pub rules : Rate → Machine History Call Told
 rules R = record { next = historyNext (R .taps) (R .p); says = toldTo (R .taps) (R .p) }
 
--- ---- the record
+-- ---- the record, at a rate
 unfoldable pub recordNext : Rate → SoftDemodulator → Call → SoftDemodulator
-recordNext R m (one c) = left R m c .demodulator
+recordNext R m (one c) = leftAt R m c .demodulator
 recordNext R m (stretch xs room) = fedInto R m xs room .state
 
 unfoldable pub toldBy : Rate → SoftDemodulator → Call → Told
-toldBy R m (one c) = toldOne (saidBy (left R m c))
+toldBy R m (one c) = toldOne (saidBy (leftAt R m c))
 toldBy R m (stretch xs room) = toldStretch (fedInto R m xs room)
 
-abbrev pub receiver : Rate → Machine SoftDemodulator Call Told
-receiver R = record { next = recordNext R; says = toldBy R }
+-- at its own, as the functions promise
+abbrev pub receiver : Machine SoftDemodulator Call Told
+receiver = record { next = λ m c. recordNext (rateOf (m .rate)) m c; says = λ m c. toldBy (rateOf (m .rate)) m c }
 
 -- ---- what a caller can give: each sample is an i16's value, whether or not it will be refused
 unfoldable pub Given : Call → Type 0
@@ -66,6 +67,6 @@ unfoldable pub singlesOf : Rate → SoftDemodulator → Call → List Single
 singlesOf R m (one c) = c ∷ []
 singlesOf R m (stretch xs room) = map (λ (x : ℤ). sample x room) (take (fedInto R m xs room .fed) xs)
 
-unfoldable pub singlesFrom : Rate → SoftDemodulator → List Call → List Single
-singlesFrom R m [] = []
-singlesFrom R m (c ∷ cs) = singlesOf R m c ++ singlesFrom R (recordNext R m c) cs
+unfoldable pub singlesFrom : SoftDemodulator → List Call → List Single
+singlesFrom m [] = []
+singlesFrom m (c ∷ cs) = singlesOf (rateOf (m .rate)) m c ++ singlesFrom (recordNext (rateOf (m .rate)) m c) cs

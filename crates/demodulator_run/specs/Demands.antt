@@ -8,7 +8,7 @@ use mathlib.Core.Option.{Option, none, some}
 use Prim.Native.Nat.{ℕ, _+_, _-_, _*_, _≤_, _<_}
 use lib.Dec.{T}
 use lib.IntN.{ℤ}
-use lib.ListN.{take}
+use lib.ListN.{length, take}
 use lib.Ieee.{Float, lt}
 use Rattle.protocol.specs.declared.Kind.{Kind}
 use Rattle.protocol.specs.declared.SyncBurst.the-variants.{Frame}
@@ -111,13 +111,20 @@ abbrev pub SwitchHeld : Control → Control → Type 0
 SwitchHeld c d = c .wait ≡ Free → d .wait ≡ Free → EarlierThan (heldBy c) (heldBy d)
 
 -- ---- the span and the age
--- "a candidate taken at n while none was held": once n + (up - 1) samples are fed, a frame falls due at some d from n + (184p - 1) to n + (up - 1)
-abbrev pub DueSpan : ℕ → ℕ → ℕ → List Mark → Type 0
-DueSpan p up fed l = (n : ℕ) → Started l n → n + (up - 1) ≤ fed → (d : ℕ) × DueAt l d × (n + (184 * p - 1) ≤ d) × (d ≤ n + (up - 1))
+-- "a candidate taken at n while none was held": once n + hi samples are fed, a frame falls due at some d from n + lo to n + hi
+abbrev pub DueWithin : ℕ → ℕ → ℕ → List Mark → Type 0
+DueWithin lo hi fed l = (n : ℕ) → Started l n → n + hi ≤ fed → (d : ℕ) × DueAt l d × (n + lo ≤ d) × (d ≤ n + hi)
 
 -- and each due frame comes so from a candidate
+abbrev pub FromWithin : ℕ → ℕ → List Mark → Type 0
+FromWithin lo hi l = (d : ℕ) → DueAt l d → (n : ℕ) × Started l n × (n + lo ≤ d) × (d ≤ n + hi)
+
+-- over p: from n + (184p - 1) on
+abbrev pub DueSpan : ℕ → ℕ → ℕ → List Mark → Type 0
+DueSpan p up fed l = DueWithin (184 * p - 1) (up - 1) fed l
+
 abbrev pub DueFrom : ℕ → ℕ → List Mark → Type 0
-DueFrom p up l = (d : ℕ) → DueAt l d → (n : ℕ) × Started l n × (n + (184 * p - 1) ≤ d) × (d ≤ n + (up - 1))
+DueFrom p up l = FromWithin (184 * p - 1) (up - 1) l
 
 -- no two samples from lo to hi have a due frame
 abbrev pub AtMostOne : List Mark → ℕ → ℕ → Type 0
@@ -164,6 +171,12 @@ pub record DueBy (ear : Ear) (p : ℕ) (b : ℕ) (k : Kind) (s : ℕ) (d : ℕ) 
 -- symbol i of the window that is given once xs are the samples is made of F(m)
 abbrev pub LiesAt : List Float → ℕ → List ℤ → Shown → ℕ → ℕ → Type 0
 LiesAt table p xs x i m = symbolAt p x (ago table p xs) i ≡ symbolOf (x .gain) (x .shift) (filtered table p xs m)
+
+-- symbol i of the window of a frame from b, by b: where it lies in the corner, and where else
+abbrev pub SymbolLies : Ear → List Float → ℕ → ℕ → (corner plain : ℕ → ℕ) → Type 0
+SymbolLies ear table p i corner plain =
+    (b : ℕ) (k : Kind) (s d : ℕ) (x : Shown) → DueBy ear p b k s d x → (xs : List ℤ) → length xs ≡ d
+    → (Corner ear b k s × LiesAt table p xs x i (corner b)) ⊎ ((Corner ear b k s → ⊥) × LiesAt table p xs x i (plain b))
 
 -- a candidate whose failure makes a frame due at d, showing x
 pub record Cause (ear : Ear) (p : ℕ) (l : List Mark) (d : ℕ) (x : Shown) : Type 0 where

@@ -21,12 +21,12 @@ use Rattle.demodulator.specs.Spans.{eight}
 use Rattle.demodulator.specs.Record.{back}
 use Rattle.demodulator.specs.Calls.{frame}
 use Rattle.demodulator_run.specs.Rules.{Single, sample}
-use Rattle.demodulator_run.specs.CallerSees.{Moment, controlAt, leftAt, Admitted}
+use Rattle.demodulator_run.specs.CallerSees.{Moment, controlAt, leftThen, Admitted}
 
 -- ---- what is heard at a call, in the record that it leaves
 module _ (R : Rate) {ss : List Single} (t : Moment ss) where
   abbrev pub heardThen : ℕ → Float
-  heardThen = eight (R .p) (back (R .p) (leftAt R t .demodulator))
+  heardThen = eight (R .p) (back (R .p) (leftThen R t .demodulator))
 
   abbrev pub correlated : Kind → Correlation
   correlated kind = correlation (Frame kind) heardThen
@@ -39,9 +39,9 @@ module _ (R : Rate) {ss : List Single} (t : Moment ss) where
 pub record TakeSeen (R : Rate) (ss : List Single) (kind : Kind) (n : ℕ) : Type 0 where
   pub moment : Moment ss
   pub admitted : Admitted R moment
-  pub number : leftAt R moment .demodulator .control .sample ≡ n
+  pub number : leftThen R moment .demodulator .control .sample ≡ n
   pub matched : MatchesThen R moment kind
-  pub holds : leftAt R moment .demodulator .control .candidate ≡ heldAs (taken kind (correlated R moment kind) n)
+  pub holds : leftThen R moment .demodulator .control .candidate ≡ heldAs (taken kind (correlated R moment kind) n)
   pub new : (t : TakenBurst) → controlAt R moment .candidate ≡ heldAs t → t .«taken_at» < n
 
 -- ---- "the age at which the wait was set"
@@ -51,9 +51,9 @@ pub record WaitSeen (R : Rate) (ss : List Single) (o : Offer) : Type 0 where
   pub moment : Moment ss
   pub admitted : Admitted R moment
   pub s : ℕ
-  pub number : leftAt R moment .demodulator .control .sample ≡ s
+  pub number : leftThen R moment .demodulator .control .sample ≡ s
   pub free : controlAt R moment .wait ≡ Free
-  pub set : leftAt R moment .demodulator .control .wait ≡ Due (record { left = 184 * R .p - o .age; age = o .age; replaced = o .replaced })
+  pub set : leftThen R moment .demodulator .control .wait ≡ Due (record { left = 184 * R .p - o .age; age = o .age; replaced = o .replaced })
   pub ends : o .sample ≡ s + (184 * R .p - o .age)
   pub failed : TakenBurst
   pub held : controlAt R moment .candidate ≡ heldAs failed
@@ -74,19 +74,20 @@ module _ (R : Rate) {ss : List Single} {o : Offer} (W : WaitSeen R ss o) where
 
 -- ---- "Show that the offer's place follows by 01's rule: 1,840 later, or 1,839 in the named corner."
 -- "Where a later-listed kind replaced the candidate .. the offer carries a mark and the new one's sample, and falls due 1,840 less the reported age after it."
-pub record OfferPlace (R : Rate) (ss : List Single) (o : Offer) : Type 0 where
+-- document 02 k): "due places 920 and 919"
+pub record OfferPlace (R : Rate) (ss : List Single) (o : Offer) (plain corner : ℕ) : Type 0 where
   pub wait : WaitSeen R ss o
   pub place :
       ((o .replaced ≡ false) × ((j : Kind) → ReplacedSeen R wait j → ⊥) × (o .kind ≡ wait .failed .kind) × (o .«taken_at» ≡ wait .failed .«taken_at»)
-      × ((CornerSeen R wait × (o .sample + 1 ≡ o .«taken_at» + 184 * R .p)) ⊎ ((CornerSeen R wait → ⊥) × (o .sample ≡ o .«taken_at» + 184 * R .p))))
-      ⊎ ((o .replaced ≡ true) × ReplacedSeen R wait (o .kind) × (o .sample ≡ o .«taken_at» + (184 * R .p - o .age)))
+      × ((CornerSeen R wait × (o .sample ≡ o .«taken_at» + corner)) ⊎ ((CornerSeen R wait → ⊥) × (o .sample ≡ o .«taken_at» + plain))))
+      ⊎ ((o .replaced ≡ true) × ReplacedSeen R wait (o .kind) × (o .sample ≡ o .«taken_at» + (plain - o .age)))
 
 -- ---- the reported age is the number of samples from taken-at to the one that set the wait, one more in the corner. Of a marked offer: from where the replaced candidate
--- was taken, while taken-at is the sample that set the wait
-pub record OfferAge (R : Rate) (ss : List Single) (o : Offer) : Type 0 where
+-- was taken, while taken-at is the sample that set the wait. It is at least 1
+pub record OfferAge (R : Rate) (ss : List Single) (o : Offer) (limit : ℕ) : Type 0 where
   pub wait : WaitSeen R ss o
   pub least : 1 ≤ o .age
-  pub most : o .age ≤ R .p
+  pub most : o .age ≤ limit
   pub count :
       ((o .replaced ≡ false) × ((CornerSeen R wait × (o .«taken_at» + o .age ≡ wait .s + 1)) ⊎ ((CornerSeen R wait → ⊥) × (o .«taken_at» + o .age ≡ wait .s))))
       ⊎ ((o .replaced ≡ true) × (o .«taken_at» ≡ wait .s) × (wait .failed .«taken_at» + o .age ≡ wait .s))
@@ -98,6 +99,6 @@ pub record OfferTaken (R : Rate) (ss : List Single) (o : Offer) : Type 0 where
   pub value : ℤ
   pub room : List Float
   pub is-sample : moment .call ≡ sample value room
-  pub answer : leftAt R moment .answer ≡ frame o
-  pub symbols : leftAt R moment .room
-      ≡ written (λ (i : ℕ). symbolOf (correlated R (take .moment) (o .kind) .gain) (correlated R (take .moment) (o .kind) .shift) (back (R .p) (leftAt R moment .demodulator) (R .p * (191 - i)))) 192 room
+  pub answer : leftThen R moment .answer ≡ frame o
+  pub symbols : leftThen R moment .room
+      ≡ written (λ (i : ℕ). symbolOf (correlated R (take .moment) (o .kind) .gain) (correlated R (take .moment) (o .kind) .shift) (back (R .p) (leftThen R moment .demodulator) (R .p * (191 - i)))) 192 room

@@ -10,7 +10,7 @@ use lib.ListN.{length, getD, set, replicate}
 use lib.Ieee.{Float, binary32, ofInt}
 use Rattle.numbers.specs.Below.{allBelow}
 use Rattle.machine.specs.Runs.{Machine}
-use Rattle.shaping.specs.Rate.{Rate, at48, tapCount, windowPlaces, ringPlaces}
+use Rattle.shaping.specs.Rate.{Rate, rateFit, at48, tapCount, windowPlaces, ringPlaces}
 use Rattle.shaping.specs.Sum.{dot}
 use Rattle.protocol.specs.Refusals.{bare}
 use Rattle.decode.specs.Correlator.{inRange}
@@ -20,8 +20,8 @@ use Rattle.search.specs.Fit.{controlFit}
 use Rattle.demodulator.specs.declared.SoftDemodulator.{SoftDemodulator}
 use Rattle.demodulator.specs.Spans.{eight}
 use Rattle.demodulator.specs.Record.{fresh, assembled, back, view}
-use Rattle.demodulator.specs.Fit.{halvesAgree, cursorsFit, placesRead}
-use Rattle.demodulator.specs.Calls.{Paper, refusal, done, carrier, Left, refused, finished, replyLeaves, timerHeld}
+use Rattle.demodulator.specs.Fit.{unfitNumber, halvesAgree, cursorsFit, placesRead}
+use Rattle.demodulator.specs.Calls.{Paper, refusal, nothing, done, carrier, Left, refused, finished, replyLeaves, timerHeld}
 use Rattle.demodulator.specs.Feed.{Stretch, fed}
 use Rattle.demodulator_run.specs.Rules.{Single, sample, reply, query}
 use Rattle.demodulator_run.specs.Run.{saidBy}
@@ -40,6 +40,7 @@ filteredBefore R m x =
 
 unfoldable pub storedBefore : Rate → SoftDemodulator → ℤ → SoftDemodulator
 storedBefore R m x = record {
+  rate = m .rate;
   «filter_win» = windowBefore m x;
   «filter_cursor» = (m .«filter_cursor» + 1) % tapCount (R .p);
   «rx_win» = set (m .«rx_win») (m .«rx_cursor») (filteredBefore R m x);
@@ -47,12 +48,12 @@ storedBefore R m x = record {
   control = m .control;
 }
 
-unfoldable pub freshBefore : SoftDemodulator
-freshBefore = assembled (replicate (tapCount (at48 .p)) (pos 0)) 0 (fresh .«rx_win») 0 (fresh .control)
+unfoldable pub freshBefore : ℕ → SoftDemodulator
+freshBefore rate = assembled rate (replicate (tapCount (at48 .p)) (pos 0)) 0 (fresh rate .«rx_win») 0 (fresh rate .control)
 
 -- ---- fitness
 unfoldable pub recordFitBefore : ℕ → SoftDemodulator → Bool
-recordFitBefore p m = cursorsFit p m && controlFit p (m .control)
+recordFitBefore p m = (rateFit (m .rate) && cursorsFit p m) && controlFit p (m .control)
 
 unfoldable pub fitForSampleBefore : ℕ → SoftDemodulator → Bool
 fitForSampleBefore p m = recordFitBefore p m && allBelow (placesRead (m .control .wait)) (λ (j : ℕ). inRange (back p m (p * j + (p - 1))))
@@ -63,7 +64,7 @@ fitForReplyBefore p m = recordFitBefore p m && allBelow 8 (λ (j : ℕ). inRange
 -- ---- the calls
 unfoldable pub demodulatedBefore : Rate → SoftDemodulator → ℤ → List Float → Left
 demodulatedBefore R m x room =
-    cond (not (fitForSampleBefore (R .p) m)) (refused 1 m room)
+    cond (not (fitForSampleBefore (R .p) m)) (refused (unfitNumber m) m room)
     (cond (m .control .owed) (refused 2 m room)
     (cond (ltb (length room) 192) (refused 4 m room)
     (cond (eqb (m .control .sample) (2 ^ 63)) (refused 5 m room)
@@ -71,12 +72,12 @@ demodulatedBefore R m x room =
 
 unfoldable pub answeredBefore : ℕ → SoftDemodulator → Reply → List Float → Left
 answeredBefore p m r room =
-    cond (not (fitForReplyBefore p m)) (refused 1 m room)
+    cond (not (fitForReplyBefore p m)) (refused (unfitNumber m) m room)
     (cond (not (m .control .owed)) (refused 3 m room)
     (record { answer = done; demodulator = replyLeaves p m r; room = room }))
 
 unfoldable pub detectedBefore : ℕ → SoftDemodulator → Paper
-detectedBefore p m = cond (not (recordFitBefore p m)) (refusal (bare 1)) (carrier (timerHeld (m .control .dcd)))
+detectedBefore p m = cond (not (recordFitBefore p m)) (refusal (bare (unfitNumber m))) (carrier (timerHeld (m .control .dcd)))
 
 unfoldable pub leftBefore : Rate → SoftDemodulator → Single → Left
 leftBefore R m (sample x room) = demodulatedBefore R m x room
@@ -86,7 +87,7 @@ leftBefore R m query = record { answer = detectedBefore (R .p) m; demodulator = 
 abbrev pub fedBefore : Rate → SoftDemodulator → List ℤ → List Float → Stretch SoftDemodulator
 fedBefore R =
     fed SoftDemodulator (λ m x room. demodulatedBefore R m x room .answer) (λ m x room. demodulatedBefore R m x room .demodulator) (λ m x room. demodulatedBefore R m x room .room)
-    (recordFitBefore (R .p))
+    (λ m. cond (recordFitBefore (R .p) m) nothing (refusal (bare (unfitNumber m))))
 
 -- ---- the machine
 unfoldable pub nextBefore : Rate → SoftDemodulator → Call → SoftDemodulator
@@ -102,6 +103,7 @@ receiverBefore R = record { next = nextBefore R; says = toldBefore R }
 
 -- ---- a record of each layout that hold the same: by their age the same samples and filtered values, and the same control; fit or not
 pub record Alike (p : ℕ) (m n : SoftDemodulator) : Type 0 where
+  pub rate : m .rate ≡ n .rate
   pub places : windowPlaces p ≤ length (m .«filter_win»)
   pub halves : halvesAgree p (m .«filter_win») ≡ true
   pub cursor : m .«filter_cursor» < tapCount p

@@ -5,7 +5,7 @@ use mathlib.Core.List.{List}
 use Prim.Native.Nat.{ℕ, _+_, _-_, _≤_, _<_}
 use lib.IntN.{ℤ}
 use lib.ListN.{length}
-use Rattle.shaping.specs.Rate.{Rate, tapCount, windowPlaces, ringPlaces}
+use Rattle.shaping.specs.Rate.{Rate, perSecond, tapCount, windowPlaces, ringPlaces}
 use Rattle.demodulator.specs.declared.SoftDemodulator.{SoftDemodulator}
 use Rattle.demodulator.specs.Record.{back, view}
 use Rattle.demodulator.specs.Fit.{halvesAgree}
@@ -24,6 +24,7 @@ pub record Remembers (R : Rate) (m : SoftDemodulator) (xs : List ℤ) : Type 0 w
 
 -- the whole record: candidate, wait, timer, what is owed and the count are the rules', and the count is the number of admitted samples
 pub record Represents (R : Rate) (m : SoftDemodulator) (h : History) : Type 0 where
+  pub rate : m .rate ≡ perSecond (R .p)
   pub rings : Remembers R m (h .samples)
   pub control : m .control ≡ h .control
   pub count : m .control .sample ≡ length (h .samples)

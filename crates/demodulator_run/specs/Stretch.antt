@@ -1,12 +1,11 @@
 -- A stretch of samples by the rules: the definition that `feed` cites, of the rules over all calls. Assumes nothing.
-use mathlib.Core.Bool.{true}
 use mathlib.Core.List.{List, [], _∷_}
 use Prim.Native.Nat.{ℕ}
 use lib.IntN.{ℤ}
 use lib.Ieee.{Float}
 use mir.Syntax.{w16}
 use mir.Val.{SFits}
-use Rattle.demodulator.specs.Calls.{Paper}
+use Rattle.demodulator.specs.Calls.{Paper, nothing}
 use Rattle.demodulator.specs.Feed.{Stretch, fed}
 use Rattle.demodulator_run.specs.Rules.{sample, History, single}
 
@@ -27,4 +26,4 @@ module _ (table : List Float) (p : ℕ) where
 
   -- the rules have no unfit record
   abbrev pub stretched : History → List ℤ → List Float → Stretch History
-  stretched = fed History sampleSaid sampleNext sampleRoom (λ (h : History). true)
+  stretched = fed History sampleSaid sampleNext sampleRoom (λ (h : History). nothing)

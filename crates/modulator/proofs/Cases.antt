@@ -14,7 +14,7 @@ use Rattle.modulator.specs.declared.SoftModulator.{SoftModulator}
 use Rattle.modulator.specs.Paper.{refusal, done, transmitEnd, readOutput, idle, getFrame, nothing}
 use Rattle.modulator.specs.Control.{bufferOf, endAfter, updatedPending, reported, idled}
 use Rattle.modulator.specs.Record.{withPending}
-use Rattle.modulator.specs.Fit.{countFit, recordFit}
+use Rattle.modulator.specs.Fit.{countFit, recordFit, unfitNumber}
 use Rattle.modulator.specs.Outcome.{tooLarge, updateOutcome, actionBy}
 use Rattle.modulator.specs.Calls.{left, settled, drained, read, updated, ran}
 
@@ -29,7 +29,7 @@ counts-taken fill capacity latency e = go (countFit fill) (countFit capacity) (c
 
 module _ (R : Rate) (m : SoftModulator) where
   -- ---- a read
-  pub read-unfit : (room : List ℤ) → recordFit (R .p) m ≡ false → read R m room ≡ left (refusal (bare 1)) m room
+  pub read-unfit : (room : List ℤ) → recordFit (R .p) m ≡ false → read R m room ≡ left (refusal (bare (unfitNumber m))) m room
   unfolding read
   read-unfit room e = rw e
 
@@ -39,7 +39,7 @@ module _ (R : Rate) (m : SoftModulator) where
 
   -- ---- an update
   module _ (fill capacity latency : ℕ) where
-    pub update-unfit : recordFit (R .p) m ≡ false → updated R m fill capacity latency ≡ left (refusal (bare 1)) m []
+    pub update-unfit : recordFit (R .p) m ≡ false → updated R m fill capacity latency ≡ left (refusal (bare (unfitNumber m))) m []
     unfolding updated settled updateOutcome
     update-unfit e = rw e
 
@@ -58,7 +58,7 @@ module _ (R : Rate) (m : SoftModulator) where
     update-done e t l = rw (e, t, le-ltb capacity fill l)
 
   -- ---- the next action
-  pub run-unfit : recordFit (R .p) m ≡ false → ran R m ≡ left (refusal (bare 1)) m []
+  pub run-unfit : recordFit (R .p) m ≡ false → ran R m ≡ left (refusal (bare (unfitNumber m))) m []
   unfolding ran
   run-unfit e = rw e
 

@@ -1,11 +1,10 @@
 -- What a fit record is known to be, clause by clause, over p, the samples in a symbol. Assumes nothing.
-use mathlib.Core.Path.{_≡_, refl, ap, subst}
+use mathlib.Core.Path.{_≡_, refl, subst}
 use mathlib.Core.Bool.{Bool, true, _&&_}
 use mathlib.Core.List.{List}
-use Prim.Native.Nat.{ℕ, _-_, _≤_, _<_}
-use native.Mathlib.Omega.{arith}
-use lib.Dec.{T, leb, leb→le}
-use lib.ListN.{length, getD}
+use Prim.Native.Nat.{ℕ, _≤_, _<_}
+use lib.Dec.{T, leb, leb→le, ltb→lt}
+use lib.ListN.{getD}
 use lib.Ieee.{Float, nan, binary32, ofBits, neg, le}
 use lib.Ieee.Bits.{is-true}
 use lib.Ieee.Fits.{and-l, and-r}
@@ -14,7 +13,7 @@ use Rattle.numbers.specs.Within.{Within}
 use Rattle.numbers.proofs.Tests.{holds}
 use Rattle.numbers.proofs.Below.{all-below}
 use Rattle.numbers.proofs.Bounds.{between}
-use Rattle.shaping.specs.Rate.{tapCount, storePlaces, paddingLimit, endLimit}
+use Rattle.shaping.specs.Rate.{rateFit, tapCount, storePlaces, paddingLimit, endLimit}
 use Rattle.modulator.specs.declared.SampleCount.{SampleCount}
 use Rattle.modulator.specs.declared.EndReport.{EndReport}
 use Rattle.modulator.specs.declared.EndReport.the-variants.{After}
@@ -37,6 +36,7 @@ pub record BufferFacts (b : OutputBuffer) : Type 0 where
   pub room : b .«samples_in_buf» .0 ≤ b .«buf_capacity» .0
 
 pub record RecordFacts (p : ℕ) (m : SoftModulator) : Type 0 where
+  pub rate : rateFit (m .rate) ≡ true
   pub cursor : m .«filter_cursor» < tapCount p
   pub window : (i : ℕ) → i < tapCount p → Within (getD (m .«filter_win») i nan) 35461
   pub progress : ProgressFacts p (m .progress)
@@ -85,14 +85,14 @@ report-fact : (p : ℕ) (end : SampleCount) → T (reportFit p (After end)) → 
 report-fact p end t = leb→le (end .0) (endLimit p) t
 
 -- window values from -35,461 to 35,461 are those within 35461.0
-pub window-within : (window : List Float) → length window ≡ 81
-    → allBelow (length window) (λ (i : ℕ). within (ofBits binary32 0x470a_8500) (getD window i nan)) ≡ allBelow 81 (λ (i : ℕ). pulseFit (getD window i nan))
+pub window-within : (window : List Float) (n : ℕ) → allBelow n (λ (i : ℕ). within (ofBits binary32 0x470a_8500) (getD window i nan)) ≡ allBelow n (λ (i : ℕ). pulseFit (getD window i nan))
 unfolding pulseFit ofBits neg
-window-within window e = ap (λ (n : ℕ). allBelow n (λ (i : ℕ). within (ofBits binary32 0x470a_8500) (getD window i nan))) e
+window-within window n = refl
 
 -- ---- all of them
--- the five groups of phrases
+-- the rate and the five groups of phrases
 pub record Groups (p : ℕ) (m : SoftModulator) : Type 0 where
+  pub rate : T (rateFit (m .rate))
   pub cursor : T (cursorFit p m)
   pub window : T (windowFit p m)
   pub progress : T (progressFit p (m .progress))
@@ -102,26 +102,29 @@ pub record Groups (p : ℕ) (m : SoftModulator) : Type 0 where
 pub groups : (p : ℕ) (m : SoftModulator) → recordFit p m ≡ true → Groups p m
 unfolding recordFit
 groups p m e =
+    let rate = rateFit (m .rate) in
     let cursor = cursorFit p m in
     let window = windowFit p m in
     let progress = progressFit p (m .progress) in
     let buffer = bufferFit (m .buffer) in
     let report = reportFit p (m .pending .«report_tx_end») in
     let t = holds e in
-    let four = and-l (cursor && window && progress && buffer) report t in
-    let three = and-l (cursor && window && progress) buffer four in
-    let two = and-l (cursor && window) progress three in
+    let five = and-l (rate && cursor && window && progress && buffer) report t in
+    let four = and-l (rate && cursor && window && progress) buffer five in
+    let three = and-l (rate && cursor && window) progress four in
+    let two = and-l (rate && cursor) window three in
     record {
-      cursor = and-l cursor window two;
-      window = and-r cursor window two;
-      progress = and-r (cursor && window) progress three;
-      buffer = and-r (cursor && window && progress) buffer four;
-      report = and-r (cursor && window && progress && buffer) report t;
+      rate = and-l rate cursor two;
+      cursor = and-r rate cursor two;
+      window = and-r (rate && cursor) window three;
+      progress = and-r (rate && cursor && window) progress four;
+      buffer = and-r (rate && cursor && window && progress) buffer five;
+      report = and-r (rate && cursor && window && progress && buffer) report t;
     }
 
 pub grouped : (p : ℕ) (m : SoftModulator) → Groups p m → recordFit p m ≡ true
 unfolding recordFit
-grouped p m g = rw (is-true (cursorFit p m) (g .cursor), is-true (windowFit p m) (g .window), is-true (progressFit p (m .progress)) (g .progress), is-true (bufferFit (m .buffer)) (g .buffer)) (is-true (reportFit p (m .pending .«report_tx_end»)) (g .report))
+grouped p m g = rw (is-true (rateFit (m .rate)) (g .rate), is-true (cursorFit p m) (g .cursor), is-true (windowFit p m) (g .window), is-true (progressFit p (m .progress)) (g .progress), is-true (bufferFit (m .buffer)) (g .buffer)) (is-true (reportFit p (m .pending .«report_tx_end»)) (g .report))
 
 pub record-facts : (p : ℕ) (m : SoftModulator) → recordFit p m ≡ true → RecordFacts p m
 unfolding windowFit
@@ -129,7 +132,8 @@ record-facts p m e =
     let value : ℕ → Bool = λ (i : ℕ). pulseFit (getD (m .«filter_win») i nan) in
     let g = groups p m e in
     record {
-      cursor = let low = leb→le (m .«filter_cursor») (tapCount p - 1) (g .cursor) in omega arith;
+      rate = is-true (rateFit (m .rate)) (g .rate);
+      cursor = ltb→lt (m .«filter_cursor») (tapCount p) (g .cursor);
       window = λ i l. pulse-within (getD (m .«filter_win») i nan) (all-below (tapCount p) value (g .window) i l);
       progress = progress-facts p (m .progress) (g .progress);
       buffer = buffer-facts (m .buffer) (g .buffer);

@@ -17,12 +17,12 @@ use Rattle.modulator.specs.Paper.{refusal, done}
 use Rattle.modulator.specs.Frame.{preamble, given, ending, paddingOf}
 use Rattle.modulator.specs.Control.{dropped, ended}
 use Rattle.modulator.specs.Record.{withPending, framed}
-use Rattle.modulator.specs.Fit.{recordFit}
+use Rattle.modulator.specs.Fit.{recordFit, unfitNumber}
 use Rattle.modulator.specs.Outcome.{frameOutcome}
 use Rattle.modulator.specs.Calls.{left, settled, provided}
 
 module _ (R : Rate) (m : SoftModulator) (frame : ModulatorFrame) (symbols : List Float) where
-  pub frame-unfit : recordFit (R .p) m ≡ false → provided R m frame symbols ≡ left (refusal (bare 1)) m []
+  pub frame-unfit : recordFit (R .p) m ≡ false → provided R m frame symbols ≡ left (refusal (bare (unfitNumber m))) m []
   unfolding provided
   frame-unfit h = rw h
 

@@ -19,6 +19,7 @@ use Rattle.modulator.specs.Record.{lineOf, framed}
 module _ (R : Rate) (padding : ℕ) (pending : Pending) (m : SoftModulator) where
   pub framed-from : (s : Symbols) (line : Line) (store : List ℤ) → Sent R (pulses (R .p) (s .symbol)) (R .p * s .count) (lineOf m) (m .«next_transmission») line store
       → record {
+        rate = m .rate;
         «next_transmission» = store;
         «filter_win» = line .window;
         «filter_cursor» = line .cursor;

@@ -1,20 +1,20 @@
--- Document 01's 'Unfit sender', phrase by phrase in its order: a record is fit where no phrase applies. Over p, the samples in a symbol, where a limit is a multiple of it. Assumes nothing.
-use mathlib.Core.Bool.{Bool, true, _&&_}
-use Prim.Native.Nat.{ℕ, _-_}
-use lib.Dec.{leb}
+-- Document 01's 'Unfit sender', phrase by phrase in its order: a record is fit where its rate is one of the two and no phrase applies. Over p, the samples in a symbol, where a limit is a multiple of it. Assumes nothing.
+use mathlib.Core.Bool.{Bool, true, cond, _&&_}
+use Prim.Native.Nat.{ℕ}
+use lib.Dec.{ltb, leb}
 use lib.ListN.{getD}
 use lib.Ieee.{Float, nan, binary32, ofBits, le}
 use Rattle.numbers.specs.Below.{allBelow}
-use Rattle.shaping.specs.Rate.{tapCount, storePlaces, paddingLimit, endLimit}
+use Rattle.shaping.specs.Rate.{rateFit, tapCount, storePlaces, paddingLimit, endLimit}
 use Rattle.modulator.specs.declared.EndReport.{EndReport}
 use Rattle.modulator.specs.declared.EndReport.the-variants.{Nothing, After}
 use Rattle.modulator.specs.declared.Progress.{Progress}
 use Rattle.modulator.specs.declared.OutputBuffer.{OutputBuffer}
 use Rattle.modulator.specs.declared.SoftModulator.{SoftModulator}
 
--- "cursor past 80"
+-- "cursor past 80"; document 02 k): "cursors below 41"
 abbrev pub cursorFit : ℕ → SoftModulator → Bool
-cursorFit p m = leb (m .«filter_cursor») (tapCount p - 1)
+cursorFit p m = ltb (m .«filter_cursor») (tapCount p)
 
 -- "a window value not within ±35,461"
 unfoldable pub pulseFit : Float → Bool
@@ -40,4 +40,8 @@ reportFit p Nothing = true
 reportFit p (After end) = leb (end .0) (endLimit p)
 
 unfoldable pub recordFit : ℕ → SoftModulator → Bool
-recordFit p m = cursorFit p m && windowFit p m && progressFit p (m .progress) && bufferFit (m .buffer) && reportFit p (m .pending .«report_tx_end»)
+recordFit p m = rateFit (m .rate) && cursorFit p m && windowFit p m && progressFit p (m .progress) && bufferFit (m .buffer) && reportFit p (m .pending .«report_tx_end»)
+
+-- what a record that is not fit is refused with. 15: "any rate but the two, checked first"; 1: "record unfit"
+abbrev pub unfitNumber : SoftModulator → ℕ
+unfitNumber m = cond (rateFit (m .rate)) 1 15

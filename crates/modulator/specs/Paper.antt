@@ -2,6 +2,8 @@
 use mathlib.Core.Bool.{Bool}
 use Prim.Native.Nat.{ℕ}
 use Rattle.protocol.specs.Refusals.{PaperRefusal, onPaper}
+use Rattle.modulator.specs.declared.Made.{Made}
+use Rattle.modulator.specs.declared.Made.the-variants.{Refused as MakeRefused, Done as Begun}
 use Rattle.modulator.specs.declared.Provided.{Provided}
 use Rattle.modulator.specs.declared.Provided.the-variants.{Refused as ProvideRefused, Done as Taken}
 use Rattle.modulator.specs.declared.Read.{Read}
@@ -20,6 +22,10 @@ pub data Paper : Type 0 where
   idle : Bool → Paper
   getFrame : Paper
   nothing : Paper
+
+abbrev pub madePaper : Made → Paper
+madePaper (MakeRefused why) = refusal (onPaper why)
+madePaper Begun = done
 
 abbrev pub providedPaper : Provided → Paper
 providedPaper (ProvideRefused why) = refusal (onPaper why)

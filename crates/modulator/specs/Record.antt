@@ -13,8 +13,10 @@ use Rattle.modulator.specs.declared.SoftModulator.{SoftModulator}
 use Rattle.modulator.specs.Frame.{Symbols}
 use Rattle.modulator.specs.Control.{Control, freshControl, restarted}
 
-unfoldable pub fresh : SoftModulator
-fresh = record {
+-- The arrays have the lengths of 48 kHz at either rate.
+unfoldable pub fresh : ℕ → SoftModulator
+fresh rate = record {
+  rate = rate;
   «next_transmission» = replicate (storePlaces (at48 .p)) (pos 0);
   «filter_win» = replicate (tapCount (at48 .p)) (ofBits binary32 0);
   «filter_cursor» = 0;
@@ -36,6 +38,7 @@ storedSample m i = getD (m .«next_transmission») i (pos 0)
 
 abbrev pub withProgress : Progress → SoftModulator → SoftModulator
 withProgress progress m = record {
+  rate = m .rate;
   «next_transmission» = m .«next_transmission»;
   «filter_win» = m .«filter_win»;
   «filter_cursor» = m .«filter_cursor»;
@@ -46,6 +49,7 @@ withProgress progress m = record {
 
 abbrev pub withPending : Pending → OutputBuffer → SoftModulator → SoftModulator
 withPending pending buffer m = record {
+  rate = m .rate;
   «next_transmission» = m .«next_transmission»;
   «filter_win» = m .«filter_win»;
   «filter_cursor» = m .«filter_cursor»;
@@ -60,6 +64,7 @@ framed R s padding pending m =
     let e : ℕ → Float = pulses (R .p) (s .symbol) in
     let n : ℕ = R .p * s .count in
     record {
+      rate = m .rate;
       «next_transmission» = written (sampleAt R e (lineOf m)) n (m .«next_transmission»);
       «filter_win» = after (R .p) e n (lineOf m) .window;
       «filter_cursor» = after (R .p) e n (lineOf m) .cursor;

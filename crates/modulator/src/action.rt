@@ -5,7 +5,7 @@ use super::ModulatorAction;
 use super::Pending;
 use super::SoftModulator;
 use super::fit::record_fit;
-use protocol::Refusal;
+use super::fit::unfit_for;
 ghost use mathlib.Core.Path.{_≡_};
 ghost use Rattle.modulator.specs.Control.{reported};
 ghost use Rattle.modulator.specs.Calls.{run-says};
@@ -30,7 +30,7 @@ impl SoftModulator {
     {
         if !record_fit(self) {
             return AfterRun {
-                answer: ModulatorAction::Refused(Refusal::RecordUnfit),
+                answer: ModulatorAction::Refused(unfit_for(self)),
                 modulator: self,
             };
         }

@@ -1,7 +1,9 @@
 // Frames go in: each kind's symbols, and the samples that they become.
 use super::AfterFrame;
+use super::AfterNew;
 use super::DelaySteps;
 use super::EndReport;
+use super::Made;
 use super::ModulatorFrame;
 use super::OutputBuffer;
 use super::Pending;
@@ -10,19 +12,20 @@ use super::Provided;
 use super::SampleCount;
 use super::SoftModulator;
 use super::fit::record_fit;
+use super::fit::unfit_for;
 use given_symbols::Traffic;
 use given_symbols::Verdict;
 use given_symbols::judge_frame;
 use protocol::Refusal;
-use pulse::SAMPLES_PER_SYMBOL;
 use pulse::push_symbols;
 ghost use mathlib.Core.Path.{_≡_};
+ghost use mathlib.Core.Bool.{true};
 ghost use Prim.Native.Nat.{_≤_, _<_};
 ghost use lib.ListN.{length};
 ghost use Rattle.numbers.specs.Firsts.{firsts};
-ghost use Rattle.shaping.specs.Rate.{at48};
+ghost use Rattle.shaping.specs.Rate.{rateFit, samplesIn, rateOf, tapCount};
 ghost use Rattle.modulator.specs.Frame.{listing, preamble, given, ending, paddingOf};
-ghost use Rattle.modulator.specs.Record.{framed, withPending};
+ghost use Rattle.modulator.specs.Record.{fresh, framed, withPending};
 ghost use Rattle.modulator.specs.Control.{dropped, ended};
 ghost use Rattle.modulator.specs.Calls.{new-says, provide-next-frame-says};
 
@@ -33,21 +36,24 @@ fn framed(
     padding: SampleCount,
     pending: Pending,
 ) -> SoftModulator
-    requires { ⌜ (m .«filter_cursor» < 81) × (length (now symbols) ≤ 400) ⌝ }
-    ensures { λ r. ⌜ r ≡ framed at48 (listing (now (symbols .entry))) (padding .0) pending m ⌝ }
+    requires { ⌜ (rateFit (m .rate) ≡ true) × (m .«filter_cursor» < tapCount (samplesIn (m .rate))) × (length (now symbols) ≤ 400) ⌝ }
+    ensures { λ r. ⌜ r ≡ framed (rateOf (m .rate)) (listing (now (symbols .entry))) (padding .0) pending m ⌝ }
 {
     let mut store = m.next_transmission;
     let mut window = m.filter_win;
     let cursor = m.filter_cursor;
     let buffer = m.buffer;
-    let next = push_symbols(&mut window, cursor, symbols, &mut store);
-    let len = SAMPLES_PER_SYMBOL * symbols.len();
+    let rate = m.rate;
+    let next = push_symbols(rate, &mut window, cursor, symbols, &mut store);
+    let p = shaping::samples_in(rate);
+    let len = p * symbols.len();
     let progress = Progress {
         next_len: len,
         next_read: 0,
         tx_delay_padding: padding,
     };
     SoftModulator {
+        rate,
         next_transmission: store,
         filter_win: window,
         filter_cursor: next,
@@ -67,20 +73,21 @@ fn preamble_symbols(traffic: Traffic) -> [f32; 192]
 }
 
 fn preamble(m: SoftModulator, traffic: Traffic, tx_delay: DelaySteps) -> SoftModulator
-    requires { ⌜ m .«filter_cursor» < 81 ⌝ }
-    ensures { λ r. ⌜ r ≡ framed at48 (preamble traffic) (paddingOf 10 («tx_delay» .0) (m .buffer .«output_latency» .0)) (m .pending) m ⌝ }
+    requires { ⌜ (rateFit (m .rate) ≡ true) × (m .«filter_cursor» < tapCount (samplesIn (m .rate))) ⌝ }
+    ensures { λ r. ⌜ r ≡ framed (rateOf (m .rate)) (preamble traffic) (paddingOf (samplesIn (m .rate)) («tx_delay» .0) (m .buffer .«output_latency» .0)) (m .pending) m ⌝ }
 {
     let pending = m.pending;
     let latency = m.buffer.output_latency;
-    let delay = tx_delay.in_samples();
+    let p = shaping::samples_in(m.rate);
+    let delay = tx_delay.in_samples(p);
     let padding = delay.saturating_sub(latency);
     let symbols = preamble_symbols(traffic);
     framed(m, &symbols, padding, pending)
 }
 
 fn given(m: SoftModulator, symbols: &[f32]) -> SoftModulator
-    requires { ⌜ (m .«filter_cursor» < 81) × (length (now symbols) ≡ 192) ⌝ }
-    ensures { λ r. ⌜ r ≡ framed at48 (given (now (symbols .entry))) (m .progress .«tx_delay_padding» .0) (m .pending) m ⌝ }
+    requires { ⌜ (rateFit (m .rate) ≡ true) × (m .«filter_cursor» < tapCount (samplesIn (m .rate))) × (length (now symbols) ≡ 192) ⌝ }
+    ensures { λ r. ⌜ r ≡ framed (rateOf (m .rate)) (given (now (symbols .entry))) (m .progress .«tx_delay_padding» .0) (m .pending) m ⌝ }
 {
     let pending = m.pending;
     let padding = m.progress.tx_delay_padding;
@@ -88,8 +95,8 @@ fn given(m: SoftModulator, symbols: &[f32]) -> SoftModulator
 }
 
 fn end_of_transmission(m: SoftModulator) -> SoftModulator
-    requires { ⌜ m .«filter_cursor» < 81 ⌝ }
-    ensures { λ r. ⌜ r ≡ framed at48 ending (m .progress .«tx_delay_padding» .0) (ended (m .pending)) m ⌝ }
+    requires { ⌜ (rateFit (m .rate) ≡ true) × (m .«filter_cursor» < tapCount (samplesIn (m .rate))) ⌝ }
+    ensures { λ r. ⌜ r ≡ framed (rateOf (m .rate)) ending (m .progress .«tx_delay_padding» .0) (ended (m .pending)) m ⌝ }
 {
     let mut pending = m.pending;
     pending.calculate_tx_end = true;
@@ -105,30 +112,48 @@ fn without_wish(mut m: SoftModulator) -> SoftModulator
     m
 }
 
+fn fresh(rate: u32) -> SoftModulator
+    ensures { λ r. ⌜ r ≡ fresh rate ⌝ }
+{
+    SoftModulator {
+        rate,
+        next_transmission: [0i16; 4000],
+        filter_win: [0.0f32; 81],
+        filter_cursor: 0,
+        progress: Progress {
+            next_len: 0,
+            next_read: 0,
+            tx_delay_padding: SampleCount(0),
+        },
+        pending: Pending {
+            update_idle: true,
+            calculate_tx_end: false,
+            report_tx_end: EndReport::Nothing,
+            try_get_frame: false,
+        },
+        buffer: OutputBuffer {
+            output_latency: SampleCount(0),
+            samples_in_buf: SampleCount(0),
+            buf_capacity: SampleCount(0),
+        },
+    }
+}
+
 impl SoftModulator {
-    pub fn new() -> Self
-        ensures { λ r. ⌜ new-says r ⌝ }
+    // A rate that is none is refused, and its record is refused by every call.
+    pub fn new(rate: u32) -> AfterNew
+        ensures { λ r. ⌜ new-says rate r ⌝ }
     {
-        Self {
-            next_transmission: [0i16; 4000],
-            filter_win: [0.0f32; 81],
-            filter_cursor: 0,
-            progress: Progress {
-                next_len: 0,
-                next_read: 0,
-                tx_delay_padding: SampleCount(0),
-            },
-            pending: Pending {
-                update_idle: true,
-                calculate_tx_end: false,
-                report_tx_end: EndReport::Nothing,
-                try_get_frame: false,
-            },
-            buffer: OutputBuffer {
-                output_latency: SampleCount(0),
-                samples_in_buf: SampleCount(0),
-                buf_capacity: SampleCount(0),
-            },
+        let modulator = fresh(rate);
+        if !shaping::is_rate(rate) {
+            return AfterNew {
+                answer: Made::Refused(Refusal::WrongRate),
+                modulator,
+            };
+        }
+        AfterNew {
+            answer: Made::Done,
+            modulator,
         }
     }
 
@@ -138,7 +163,7 @@ impl SoftModulator {
     {
         if !record_fit(self) {
             return AfterFrame {
-                answer: Provided::Refused(Refusal::RecordUnfit),
+                answer: Provided::Refused(unfit_for(self)),
                 modulator: self,
             };
         }

@@ -1,4 +1,4 @@
-// The sender: SoftModulator of the Rust's modem.rs as a record by value. Frames go in, and samples for the sound card come out, with the actions that keep the two in step.
+// The sender: SoftModulator of the Rust's modem.rs as a record by value, which says its rate in samples a second. Frames go in, and samples for the sound card come out, with the actions that keep the two in step.
 use given_symbols::Traffic;
 use protocol::Refusal;
 
@@ -43,7 +43,9 @@ pub struct OutputBuffer {
     pub buf_capacity: SampleCount,
 }
 
+// At 24 kHz the first 2,000 places of the store and the first 41 of the window are used.
 pub struct SoftModulator {
+    pub rate: u32,
     pub next_transmission: [i16; 4000],
     pub filter_win: [f32; 81],
     pub filter_cursor: usize,
@@ -58,6 +60,12 @@ pub enum ModulatorFrame {
     Preamble(Traffic, DelaySteps),
     Symbols(Traffic),
     EndOfTransmission,
+}
+
+// What comes of asking for a fresh record.
+pub enum Made {
+    Refused(Refusal),
+    Done,
 }
 
 pub enum Provided {
@@ -85,6 +93,11 @@ pub enum ModulatorAction {
 }
 
 // An answer, and the record that the next call is given.
+pub struct AfterNew {
+    pub answer: Made,
+    pub modulator: SoftModulator,
+}
+
 pub struct AfterFrame {
     pub answer: Provided,
     pub modulator: SoftModulator,

@@ -9,8 +9,10 @@ use super::Read;
 use super::SampleCount;
 use super::SoftModulator;
 use super::Updated;
+use super::counts::wish_room;
 use super::fit::count_fit;
 use super::fit::record_fit;
+use super::fit::unfit_for;
 use protocol::Refusal;
 ghost use mathlib.Core.Path.{_≡_};
 ghost use Prim.Native.Nat.{ℕ, _+_, _-_, _≤_, min};
@@ -75,16 +77,18 @@ fn end_after(progress: Progress, fill: SampleCount, latency: SampleCount) -> Sam
 
 // What is pending once the card's counts are known: an end that is owed is reported, and the wish for a frame is raised or stays.
 fn updated_pending(
+    p: usize,
     pending: Pending,
     fill: SampleCount,
     capacity: SampleCount,
     end: SampleCount,
 ) -> Pending
-    ensures { λ r. ⌜ r ≡ updatedPending 10 (fill .0) (capacity .0) (end .0) pending ⌝ }
+    requires { ⌜ p ≤ 10 ⌝ }
+    ensures { λ r. ⌜ r ≡ updatedPending p (fill .0) (capacity .0) (end .0) pending ⌝ }
 {
     let report = pending.report_tx_end;
     let room = capacity.saturating_sub(fill);
-    let wish = (2000 <= room.0) | pending.try_get_frame;
+    let wish = (wish_room(p) <= room.0) | pending.try_get_frame;
     if pending.calculate_tx_end {
         return Pending {
             update_idle: pending.update_idle,
@@ -108,7 +112,7 @@ impl SoftModulator {
     {
         if !record_fit(self) {
             return AfterRead {
-                answer: Read::Refused(Refusal::RecordUnfit),
+                answer: Read::Refused(unfit_for(self)),
                 modulator: self,
             };
         }
@@ -147,7 +151,7 @@ impl SoftModulator {
     {
         if !record_fit(self) {
             return AfterUpdate {
-                answer: Updated::Refused(Refusal::RecordUnfit),
+                answer: Updated::Refused(unfit_for(self)),
                 modulator: self,
             };
         }
@@ -166,7 +170,8 @@ impl SoftModulator {
         let pending = self.pending;
         let progress = self.progress;
         let end = end_after(progress, samples_to_play, output_latency);
-        let told = updated_pending(pending, samples_to_play, capacity, end);
+        let p = shaping::samples_in(self.rate);
+        let told = updated_pending(p, pending, samples_to_play, capacity, end);
         let buffer = OutputBuffer {
             output_latency,
             samples_in_buf: samples_to_play,

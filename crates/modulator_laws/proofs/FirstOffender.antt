@@ -21,11 +21,11 @@ use Rattle.modulator.specs.declared.SoftModulator.{SoftModulator}
 use Rattle.modulator.specs.declared.ModulatorFrame.the-variants.{Symbols as GivenSymbols}
 use Rattle.modulator.specs.Paper.{Paper, refusal}
 use Rattle.modulator.specs.Record.{controlOf}
-use Rattle.modulator.specs.Fit.{recordFit}
+use Rattle.modulator.specs.Fit.{recordFit, unfitNumber}
 use Rattle.modulator.specs.Outcome.{judgedOutcome, frameOutcome}
 use Rattle.modulator.specs.Calls.{left, settled, provided}
 
--- ---- a call: 1 and 6 come before, then "the earliest place decides"
+-- ---- a call: 15, 1 and 6 come before, then "the earliest place decides"
 module _ (R : Rate) (m : SoftModulator) (traffic : Traffic) (symbols : List Float) where
   pub record FirstOffender (number place : ℕ) : Type 0 where
     pub fit : recordFit (R .p) m ≡ true
@@ -36,7 +36,7 @@ module _ (R : Rate) (m : SoftModulator) (traffic : Traffic) (symbols : List Floa
   -- what comes of the call, by the tests and by what the symbols make of it
   abbrev pub answerBy : Bool → Bool → Verdict → Bool → Paper
   answerBy fit counted a head =
-      cond (not fit) (left (refusal (bare 1)) m [])
+      cond (not fit) (left (refusal (bare (unfitNumber m))) m [])
       (settled R m (judgedOutcome (cond (not counted) (Refused WrongCount) (earlier a (cond head Fine (Refused WrongBurst)))) symbols (controlOf m))) .answer
 
   module _ (number place : ℕ) where

@@ -35,15 +35,15 @@ use Rattle.modulator_laws.proofs.Instances.{astray, fresh-fit, astray-u
 frame-unfit-meets : provided at48 astray NoFrame [] ≡ left (refusal (bare 1)) astray []
 frame-unfit-meets = frame-unfit at48 astray NoFrame [] astray-unfit
 
-frame-none-meets : provided at48 fresh NoFrame [] ≡ left done (withPending (dropped (fresh .pending)) (fresh .buffer) fresh) []
-frame-none-meets = frame-none at48 fresh NoFrame [] fresh-fit refl
+frame-none-meets : provided at48 (fresh 48000) NoFrame [] ≡ left done (withPending (dropped ((fresh 48000) .pending)) ((fresh 48000) .buffer) (fresh 48000)) []
+frame-none-meets = frame-none at48 (fresh 48000) NoFrame [] fresh-fit refl
 
-frame-preamble-meets : provided at48 fresh (Preamble Ordinary (record { 0 = 1 })) [] ≡ left done (framed at48 (preamble Ordinary) (paddingOf 10 1 (fresh .buffer .«output_latency» .0)) (fresh .pending) fresh) []
-frame-preamble-meets = frame-preamble at48 fresh (Preamble Ordinary (record { 0 = 1 })) [] fresh-fit Ordinary (record { 0 = 1 }) refl
+frame-preamble-meets : provided at48 (fresh 48000) (Preamble Ordinary (record { 0 = 1 })) [] ≡ left done (framed at48 (preamble Ordinary) (paddingOf 10 1 ((fresh 48000) .buffer .«output_latency» .0)) ((fresh 48000) .pending) (fresh 48000)) []
+frame-preamble-meets = frame-preamble at48 (fresh 48000) (Preamble Ordinary (record { 0 = 1 })) [] fresh-fit Ordinary (record { 0 = 1 }) refl
 
-frame-count-meets : provided at48 fresh (GivenSymbols Ordinary) [] ≡ left (refusal (bare 6)) fresh []
+frame-count-meets : provided at48 (fresh 48000) (GivenSymbols Ordinary) [] ≡ left (refusal (bare 6)) (fresh 48000) []
 unfolding judgedAs
-frame-count-meets = frame-refused at48 fresh (GivenSymbols Ordinary) [] fresh-fit Ordinary refl WrongCount refl
+frame-count-meets = frame-refused at48 (fresh 48000) (GivenSymbols Ordinary) [] fresh-fit Ordinary refl WrongCount refl
 
 -- 192 symbols, all the same
 even : Float → List Float
@@ -53,47 +53,47 @@ even x = replicate 192 x
 louder : List Float
 louder = ofBits binary32 0 ∷ ofBits binary32 0x4000_0000 ∷ nan ∷ replicate 189 (ofBits binary32 0)
 
-frame-outside-meets : provided at48 fresh (GivenSymbols Ordinary) louder ≡ left (refusal (placed 73 1)) fresh []
+frame-outside-meets : provided at48 (fresh 48000) (GivenSymbols Ordinary) louder ≡ left (refusal (placed 73 1)) (fresh 48000) []
 unfolding louder judgedAs headed judgedBelow judged ofBits lt
-frame-outside-meets = frame-refused at48 fresh (GivenSymbols Ordinary) louder fresh-fit Ordinary refl (SymbolAboveOne 1) refl
+frame-outside-meets = frame-refused at48 (fresh 48000) (GivenSymbols Ordinary) louder fresh-fit Ordinary refl (SymbolAboveOne 1) refl
 
-frame-given-meets : provided at48 fresh (GivenSymbols Ordinary) (even one) ≡ left done (framed at48 (given (even one)) (fresh .progress .«tx_delay_padding» .0) (fresh .pending) fresh) []
+frame-given-meets : provided at48 (fresh 48000) (GivenSymbols Ordinary) (even one) ≡ left done (framed at48 (given (even one)) ((fresh 48000) .progress .«tx_delay_padding» .0) ((fresh 48000) .pending) (fresh 48000)) []
 unfolding even judgedAs headed judgedBelow judged ofBits lt
-frame-given-meets = frame-given at48 fresh (GivenSymbols Ordinary) (even one) fresh-fit Ordinary refl refl
+frame-given-meets = frame-given at48 (fresh 48000) (GivenSymbols Ordinary) (even one) fresh-fit Ordinary refl refl
 
 -- ---- a BERT frame: its burst and zeros; and the same with its first sign turned
 headedBy : Float → List Float
 headedBy first = first ∷ one ∷ minusOne ∷ minusOne ∷ one ∷ one ∷ one ∷ one ∷ replicate 184 (ofBits binary32 0)
 
-bert-given-meets : provided at48 fresh (GivenSymbols Bert) (headedBy minusOne) ≡ left done (framed at48 (given (headedBy minusOne)) (fresh .progress .«tx_delay_padding» .0) (fresh .pending) fresh) []
+bert-given-meets : provided at48 (fresh 48000) (GivenSymbols Bert) (headedBy minusOne) ≡ left done (framed at48 (given (headedBy minusOne)) ((fresh 48000) .progress .«tx_delay_padding» .0) ((fresh 48000) .pending) (fresh 48000)) []
 unfolding headedBy judgedAs headed bertHeaded allBelow judgedBelow judged signsOf ofBits ofInt lt eq
-bert-given-meets = frame-given at48 fresh (GivenSymbols Bert) (headedBy minusOne) fresh-fit Bert refl refl
+bert-given-meets = frame-given at48 (fresh 48000) (GivenSymbols Bert) (headedBy minusOne) fresh-fit Bert refl refl
 
-bert-unheaded-meets : provided at48 fresh (GivenSymbols Bert) (headedBy one) ≡ left (refusal (bare 11)) fresh []
+bert-unheaded-meets : provided at48 (fresh 48000) (GivenSymbols Bert) (headedBy one) ≡ left (refusal (bare 11)) (fresh 48000) []
 unfolding headedBy judgedAs headed bertHeaded allBelow judgedBelow judged signsOf ofBits ofInt lt eq
-bert-unheaded-meets = frame-refused at48 fresh (GivenSymbols Bert) (headedBy one) fresh-fit Bert refl WrongBurst refl
+bert-unheaded-meets = frame-refused at48 (fresh 48000) (GivenSymbols Bert) (headedBy one) fresh-fit Bert refl WrongBurst refl
 
 -- ---- the first symbol that is wrong, and what was said of it before
-louder-first : FirstOffender at48 fresh Ordinary louder 73 1
-louder-first = first-offender at48 fresh Ordinary louder 73 1 .0 (ap (λ (l : Left). l .answer) frame-outside-meets)
+louder-first : FirstOffender at48 (fresh 48000) Ordinary louder 73 1
+louder-first = first-offender at48 (fresh 48000) Ordinary louder 73 1 .0 (ap (λ (l : Left). l .answer) frame-outside-meets)
 
-louder-told : provided at48 fresh (GivenSymbols Ordinary) louder .answer ≡ refusal (placed 73 1)
-louder-told = first-offender at48 fresh Ordinary louder 73 1 .1 louder-first
+louder-told : provided at48 (fresh 48000) (GivenSymbols Ordinary) louder .answer ≡ refusal (placed 73 1)
+louder-told = first-offender at48 (fresh 48000) Ordinary louder 73 1 .1 louder-first
 
-louder-before : providedBefore at48 fresh louder .answer ≡ refusal (bare 7)
-louder-before = symbols-as-before at48 fresh louder .refused .0 (73, 1, louder-told)
+louder-before : providedBefore at48 (fresh 48000) louder .answer ≡ refusal (bare 7)
+louder-before = symbols-as-before at48 (fresh 48000) louder .refused .0 (73, 1, louder-told)
 
 -- an accepted frame is what it was
-even-before : provided at48 fresh (GivenSymbols Ordinary) (even one) ≡ providedBefore at48 fresh (even one)
+even-before : provided at48 (fresh 48000) (GivenSymbols Ordinary) (even one) ≡ providedBefore at48 (fresh 48000) (even one)
 unfolding settled even allBelow symbolFit ofBits le
-even-before = symbols-as-before at48 fresh (even one) .otherwise (rw fresh-fit (λ e. let z : _≡_ {A = ℕ} 0 1 = cc in omega arith))
+even-before = symbols-as-before at48 (fresh 48000) (even one) .otherwise (rw fresh-fit (λ e. let z : _≡_ {A = ℕ} 0 1 = cc in omega arith))
 
-frame-ending-meets : provided at48 fresh EndOfTransmission [] ≡ left done (framed at48 ending (fresh .progress .«tx_delay_padding» .0) (ended (fresh .pending)) fresh) []
-frame-ending-meets = frame-ending at48 fresh EndOfTransmission [] fresh-fit refl
+frame-ending-meets : provided at48 (fresh 48000) EndOfTransmission [] ≡ left done (framed at48 ending ((fresh 48000) .progress .«tx_delay_padding» .0) (ended ((fresh 48000) .pending)) (fresh 48000)) []
+frame-ending-meets = frame-ending at48 (fresh 48000) EndOfTransmission [] fresh-fit refl
 
 framed-listed-meets : (x : Float) (padding : ℕ)
-    → framed at48 (listing (firsts (λ (_ : ℕ). x) 5)) padding (fresh .pending) fresh ≡ framed at48 (record { symbol = λ (_ : ℕ). x; count = 5 }) padding (fresh .pending) fresh
-framed-listed-meets x padding = framed-listed at48 padding (fresh .pending) fresh (λ (_ : ℕ). x) 5 _ refl
+    → framed at48 (listing (firsts (λ (_ : ℕ). x) 5)) padding ((fresh 48000) .pending) (fresh 48000) ≡ framed at48 (record { symbol = λ (_ : ℕ). x; count = 5 }) padding ((fresh 48000) .pending) (fresh 48000)
+framed-listed-meets x padding = framed-listed at48 padding ((fresh 48000) .pending) (fresh 48000) (λ (_ : ℕ). x) 5 _ refl
 
 delay : ModulatorFrame
 delay = Preamble Bert (record { 0 = 25 })
@@ -102,5 +102,5 @@ delay-byte : Byte delay
 unfolding delay
 delay-byte traffic steps e = let same : 25 ≡ steps .0 = cc in omega arith
 
-frame-keeps-meets : recordFit 10 (provided at48 fresh delay [] .modulator) ≡ true
-frame-keeps-meets = frame-keeps at48 fresh fresh-fit delay [] delay-byte
+frame-keeps-meets : recordFit 10 (provided at48 (fresh 48000) delay [] .modulator) ≡ true
+frame-keeps-meets = frame-keeps at48 (fresh 48000) fresh-fit delay [] delay-byte

@@ -25,28 +25,30 @@ use Rattle.modulator_laws.proofs.Pieces.{InPieces, in-pieces}
 -- ---- records: two zeros and three samples to hand out; an end to report, and a wish for a frame; a cursor past its end
 abbrev sending : SoftModulator
 sending = record {
+  rate = 48000;
   «next_transmission» = pos 11 ∷ pos 12 ∷ pos 13 ∷ replicate 3997 (pos 0);
-  «filter_win» = fresh .«filter_win»;
+  «filter_win» = (fresh 48000) .«filter_win»;
   «filter_cursor» = 0;
   progress = record { «next_len» = 3; «next_read» = 0; «tx_delay_padding» = record { 0 = 2 } };
-  pending = fresh .pending;
-  buffer = fresh .buffer;
+  pending = (fresh 48000) .pending;
+  buffer = (fresh 48000) .buffer;
 }
 
 abbrev ending : SoftModulator
-ending = withPending (record { «update_idle» = false; «calculate_tx_end» = false; «report_tx_end» = After (record { 0 = 600 }); «try_get_frame» = true }) (fresh .buffer) fresh
+ending = withPending (record { «update_idle» = false; «calculate_tx_end» = false; «report_tx_end» = After (record { 0 = 600 }); «try_get_frame» = true }) ((fresh 48000) .buffer) (fresh 48000)
 
 abbrev pub astray : SoftModulator
 astray = record {
-  «next_transmission» = fresh .«next_transmission»;
-  «filter_win» = fresh .«filter_win»;
+  rate = 48000;
+  «next_transmission» = (fresh 48000) .«next_transmission»;
+  «filter_win» = (fresh 48000) .«filter_win»;
   «filter_cursor» = 81;
-  progress = fresh .progress;
-  pending = fresh .pending;
-  buffer = fresh .buffer;
+  progress = (fresh 48000) .progress;
+  pending = (fresh 48000) .pending;
+  buffer = (fresh 48000) .buffer;
 }
 
-pub fresh-fit : recordFit 10 fresh ≡ true
+pub fresh-fit : recordFit 10 (fresh 48000) ≡ true
 unfolding recordFit windowFit fresh allBelow pulseFit ofBits le
 fresh-fit = refl
 
@@ -72,8 +74,8 @@ sending-in-pieces = in-pieces at48 sending sending-fit (pos 7 ∷ []) (pos 8 ∷
 sending-kept : recordFit 10 (read at48 sending (pos 7 ∷ []) .modulator) ≡ true
 sending-kept = read-keeps at48 sending sending-fit (pos 7 ∷ [])
 
-fresh-kept : recordFit 10 (updated at48 fresh 100 3000 50 .modulator) ≡ true
-fresh-kept = update-keeps at48 fresh fresh-fit 100 3000 50
+fresh-kept : recordFit 10 (updated at48 (fresh 48000) 100 3000 50 .modulator) ≡ true
+fresh-kept = update-keeps at48 (fresh 48000) fresh-fit 100 3000 50
 
 ending-kept : recordFit 10 (ran at48 ending .modulator) ≡ true
 ending-kept = run-keeps at48 ending ending-fit
@@ -92,16 +94,16 @@ run-ending : ran at48 ending .answer ≡ transmitEnd 600
 unfolding fresh
 run-ending = rw (run-end at48 ending (record { 0 = 600 }) ending-fit refl)
 
-run-fresh : ran at48 fresh .answer ≡ idle true
+run-fresh : ran at48 (fresh 48000) .answer ≡ idle true
 unfolding fresh
-run-fresh = rw (run-idle at48 fresh fresh-fit refl (lit≤ tt) refl)
+run-fresh = rw (run-idle at48 (fresh 48000) fresh-fit refl (lit≤ tt) refl)
 
 -- ---- and the laws at these answers
 ending-once : ran at48 ending .modulator .pending .«report_tx_end» ≡ Nothing
 ending-once = end-once at48 ending 600 run-ending
 
-fresh-once : ran at48 fresh .modulator .pending .«update_idle» ≡ false
-fresh-once = idle-once at48 fresh run-fresh
+fresh-once : ran at48 (fresh 48000) .modulator .pending .«update_idle» ≡ false
+fresh-once = idle-once at48 (fresh 48000) run-fresh
 
 -- no room at all is left in the card's buffer
 ending-wishes : updated at48 ending 3000 3000 0 .modulator .pending .«try_get_frame» ≡ true

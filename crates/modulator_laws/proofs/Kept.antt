@@ -2,11 +2,11 @@
 use mathlib.Core.Path.{_≡_}
 use mathlib.Core.Bool.{true}
 use mathlib.Core.List.{List}
-use Prim.Native.Nat.{ℕ, _-_, _*_, _≤_, _<_}
+use Prim.Native.Nat.{ℕ, _*_, _≤_, _<_}
 use native.Mathlib.Nat.{mul-le-mul-left}
 use native.Mathlib.Omega.{arith}
 use borrow.Author.Tests.{le-leb}
-use lib.Dec.{T, le→leb}
+use lib.Dec.{T, lt→ltb}
 use lib.IntN.{ℤ}
 use lib.ListN.{getD}
 use lib.Ieee.{Float, nan}
@@ -42,11 +42,11 @@ module _ (R : Rate) (m : SoftModulator) (fit : recordFit (R .p) m ≡ true) wher
   -- ---- with one of the groups changed
   with-progress : (s : Progress) → ProgressFacts (R .p) s → recordFit (R .p) (withProgress s m) ≡ true
   unfolding windowFit
-  with-progress s f = grouped (R .p) (withProgress s m) (record { cursor = g .cursor; window = g .window; progress = progress-fit (R .p) s f; buffer = g .buffer; report = g .report })
+  with-progress s f = grouped (R .p) (withProgress s m) (record { rate = g .rate; cursor = g .cursor; window = g .window; progress = progress-fit (R .p) s f; buffer = g .buffer; report = g .report })
 
   with-pending : (pending : Pending) (b : OutputBuffer) → T (reportFit (R .p) (pending .«report_tx_end»)) → T (bufferFit b) → recordFit (R .p) (withPending pending b m) ≡ true
   unfolding windowFit
-  with-pending pending b r f = grouped (R .p) (withPending pending b m) (record { cursor = g .cursor; window = g .window; progress = g .progress; buffer = f; report = r })
+  with-pending pending b r f = grouped (R .p) (withPending pending b m) (record { rate = g .rate; cursor = g .cursor; window = g .window; progress = g .progress; buffer = f; report = r })
 
   -- ---- with a frame
   framed-fit : (s : Symbols) (padding : ℕ) (pending : Pending) → s .count ≤ 400 → Small s → padding ≤ paddingLimit (R .p)
@@ -60,7 +60,8 @@ module _ (R : Rate) (m : SoftModulator) (fit : recordFit (R .p) m ≡ true) wher
       let inside = cursor-stays p e n (lineOf m) (record-facts p m fit .cursor) in
       let stored : n ≤ p * 400 = mul-le-mul-left p few in
       grouped p (framed R s padding pending m) (record {
-        cursor = le→leb _ (tapCount p - 1) (omega arith);
+        rate = g .rate;
+        cursor = lt→ltb _ (tapCount p) inside;
         window = below-all (tapCount p) _ λ i l. window-stays p e n (lineOf m) i fits (all-below (tapCount p) (λ (j : ℕ). pulseFit (getD (m .«filter_win») j nan)) (g .window) i l);
         progress = progress-fit p _ (record { len = omega arith; read = omega arith; padding = least });
         buffer = g .buffer;

@@ -14,6 +14,8 @@ pub mod Sizes
 pub mod OutcomeLimits
 pub mod Kept
 pub mod FitAgain
+-- its rate stays what it is
+pub mod RateKept
 -- an empty room, the wish that stays, and what is told once
 pub mod Once
 -- a transmission read in two pieces

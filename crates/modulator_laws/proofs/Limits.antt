@@ -1,4 +1,4 @@
--- Each limit of 'Unfit sender', met and passed by one, worked out at 48 kHz; a call of an unfit record is refused with 1. Assumes nothing.
+-- Each limit of 'Unfit sender', met and passed by one, worked out at both rates. Assumes nothing.
 use mathlib.Core.Path.{_≡_, refl}
 use mathlib.Core.Bool.{Bool, true, false}
 use mathlib.Core.List.{List}
@@ -14,16 +14,20 @@ use Rattle.modulator.specs.Control.{bufferOf}
 use Rattle.modulator.specs.Record.{fresh}
 use Rattle.modulator.specs.Fit.{pulseFit, windowFit, recordFit}
 
--- a record by the parts that have limits
-abbrev made : ℕ → List Float → Progress → OutputBuffer → ℕ → SoftModulator
-made cursor window progress buffer end = record {
-  «next_transmission» = fresh .«next_transmission»;
+-- a record by its rate and the parts that have limits
+abbrev madeAt : ℕ → ℕ → List Float → Progress → OutputBuffer → ℕ → SoftModulator
+madeAt rate cursor window progress buffer end = record {
+  rate = rate;
+  «next_transmission» = fresh rate .«next_transmission»;
   «filter_win» = window;
   «filter_cursor» = cursor;
   progress = progress;
   pending = record { «update_idle» = true; «calculate_tx_end» = true; «report_tx_end» = After (record { 0 = end }); «try_get_frame» = true };
   buffer = buffer;
 }
+
+abbrev made : ℕ → List Float → Progress → OutputBuffer → ℕ → SoftModulator
+made = madeAt 48000
 
 abbrev progressed : ℕ → ℕ → ℕ → Progress
 progressed length place padding = record { «next_len» = length; «next_read» = place; «tx_delay_padding» = record { 0 = padding } }
@@ -99,3 +103,50 @@ capacity-below = refl
 end-past : fits (made 80 loudest most fullest 33680833) false
 unfolding recordFit windowFit pulseFit allBelow ofBits le
 end-past = refl
+
+-- ---- at 24 kHz: the window's first 41 places, document 02's numbers
+abbrev fits24 : SoftModulator → Bool → Type 0
+fits24 m answer = recordFit 5 m ≡ answer
+
+abbrev made24 : ℕ → List Float → Progress → OutputBuffer → ℕ → SoftModulator
+made24 = madeAt 24000
+
+-- -35,461 in the last of the 41, and past them what no window holds
+abbrev loudest24 : List Float
+loudest24 = set (set loudest 40 (ofBits binary32 0xc70a_8500)) 41 nan
+
+abbrev most24 : Progress
+most24 = progressed 2000 2000 61200
+
+highest24 : fits24 (made24 40 loudest24 most24 fullest 33617632) true
+unfolding recordFit windowFit pulseFit allBelow ofBits le
+highest24 = refl
+
+cursor-past24 : fits24 (made24 41 loudest24 most24 fullest 33617632) false
+unfolding recordFit
+cursor-past24 = refl
+
+value-past24 : fits24 (made24 40 (set loudest24 40 (ofBits binary32 0x470a_8501)) most24 fullest 33617632) false
+unfolding recordFit windowFit pulseFit allBelow ofBits le
+value-past24 = refl
+
+length-past24 : fits24 (made24 40 loudest24 (progressed 2001 2000 61200) fullest 33617632) false
+unfolding recordFit windowFit pulseFit allBelow ofBits le
+length-past24 = refl
+
+padding-past24 : fits24 (made24 40 loudest24 (progressed 2000 2000 61201) fullest 33617632) false
+unfolding recordFit windowFit pulseFit allBelow ofBits le
+padding-past24 = refl
+
+end-past24 : fits24 (made24 40 loudest24 most24 fullest 33617633) false
+unfolding recordFit windowFit pulseFit allBelow ofBits le
+end-past24 = refl
+
+-- "any rate but the two": 1 more or less is none
+rate-past : fits (madeAt 48001 80 loudest most fullest 33680832) false
+unfolding recordFit
+rate-past = refl
+
+rate-below : fits24 (madeAt 23999 40 loudest24 most24 fullest 33617632) false
+unfolding recordFit
+rate-below = refl

@@ -1,29 +1,35 @@
 -- Each promise of `modulator` leaves one answer, one record and, where room is lent, one room. Assumes nothing.
 use mathlib.Core.Path.{_≡_}
 use mathlib.Core.List.{List}
+use Prim.Native.Nat.{ℕ}
 use lib.IntN.{ℤ}
 use lib.Ieee.{Float}
 use Rattle.numbers.proofs.Answer.{same-answer}
 use Rattle.modulator.specs.declared.SampleCount.{SampleCount}
 use Rattle.modulator.specs.declared.SoftModulator.{SoftModulator}
 use Rattle.modulator.specs.declared.ModulatorFrame.{ModulatorFrame}
+use Rattle.modulator.specs.declared.Made.{Made}
 use Rattle.modulator.specs.declared.Provided.{Provided}
 use Rattle.modulator.specs.declared.Read.{Read}
 use Rattle.modulator.specs.declared.Updated.{Updated}
 use Rattle.modulator.specs.declared.ModulatorAction.{ModulatorAction}
+use Rattle.modulator.specs.declared.AfterNew.{AfterNew}
 use Rattle.modulator.specs.declared.AfterFrame.{AfterFrame}
 use Rattle.modulator.specs.declared.AfterRead.{AfterRead}
 use Rattle.modulator.specs.declared.AfterUpdate.{AfterUpdate}
 use Rattle.modulator.specs.declared.AfterRun.{AfterRun}
 use Rattle.modulator.specs.Calls.{new-says, provide-next-frame-says, read-output-samples-says, update-output-buffer-says, run-says}
-use Rattle.modulator_laws.proofs.Papers.{provided-once, read-once, updated-once, action-once}
+use Rattle.modulator_laws.proofs.Papers.{made-once, provided-once, read-once, updated-once, action-once}
 
 -- what is made of an answer and a record is one where these are
 joined : {A R : Type 0} (make : A → SoftModulator → R) {a b : A} {m n : SoftModulator} → a ≡ b → m ≡ n → make a m ≡ make b n
 joined make p q = cc
 
-pub new-only-answer : (r s : SoftModulator) → new-says r → new-says s → r ≡ s
-new-only-answer r s = same-answer
+pub new-only-answer : (rate : ℕ) (r s : AfterNew) → new-says rate r → new-says rate s → r ≡ s
+new-only-answer rate r s p q =
+    let answers = made-once (r .answer) (s .answer) (same-answer (p .answers) (q .answers)) in
+    let records = same-answer (p .leaves) (q .leaves) in
+    joined {R = AfterNew} (λ (answer : Made) (left : SoftModulator). record { answer = answer; modulator = left }) answers records
 
 pub provide-next-frame-only-answer : (m : SoftModulator) (frame : ModulatorFrame) (symbols : List Float) (r s : AfterFrame)
     → provide-next-frame-says m frame symbols r → provide-next-frame-says m frame symbols s → r ≡ s

@@ -2,6 +2,8 @@
 use mathlib.Core.Path.{_≡_, refl, sym, ap, _∙_}
 use Prim.Native.Nat.{ℕ}
 use Rattle.protocol.proofs.Numbers.{numbered, numbered-back, refusal-once}
+use Rattle.modulator.specs.declared.Made.{Made}
+use Rattle.modulator.specs.declared.Made.the-variants.{Refused as MakeRefused, Done as Begun}
 use Rattle.modulator.specs.declared.Provided.{Provided}
 use Rattle.modulator.specs.declared.Provided.the-variants.{Refused as ProvideRefused, Done as Taken}
 use Rattle.modulator.specs.declared.Read.{Read}
@@ -10,7 +12,13 @@ use Rattle.modulator.specs.declared.Updated.{Updated}
 use Rattle.modulator.specs.declared.Updated.the-variants.{Refused as UpdateRefused, Done as Stored}
 use Rattle.modulator.specs.declared.ModulatorAction.{ModulatorAction}
 use Rattle.modulator.specs.declared.ModulatorAction.the-variants.{Refused as RunRefused, TransmissionWillEnd, ReadOutput, SetIdle, GetNextFrame, Nothing as NoAction}
-use Rattle.modulator.specs.Paper.{Paper, refusal, done, wrote, transmitEnd, readOutput, idle, getFrame, nothing, providedPaper, readPaper, updatedPaper, actionPaper}
+use Rattle.modulator.specs.Paper.{Paper, refusal, done, wrote, transmitEnd, readOutput, idle, getFrame, nothing, madePaper, providedPaper, readPaper, updatedPaper, actionPaper}
+
+pub made-once : (a b : Made) → madePaper a ≡ madePaper b → a ≡ b
+made-once (MakeRefused a) (MakeRefused b) e = ap MakeRefused (refusal-once a b (cc))
+made-once (MakeRefused a) Begun e = cc
+made-once Begun (MakeRefused b) e = cc
+made-once Begun Begun e = refl
 
 pub provided-once : (a b : Provided) → providedPaper a ≡ providedPaper b → a ≡ b
 provided-once (ProvideRefused a) (ProvideRefused b) e = ap ProvideRefused (refusal-once a b (cc))

@@ -10,7 +10,7 @@ use lib.ListN.{length, getD}
 use lib.Ieee.{Float, nan}
 use Rattle.numbers.proofs.Below.{all-below, below-all}
 use Rattle.numbers.proofs.Tests.{holds}
-use Rattle.shaping.specs.Rate.{Rate}
+use Rattle.shaping.specs.Rate.{Rate, rateFit}
 use Rattle.protocol.specs.declared.Refusal.the-variants.{WrongCount}
 use Rattle.protocol.specs.Refusals.{bare, placed}
 use Rattle.given_symbols.specs.declared.Traffic.the-variants.{Ordinary}
@@ -24,7 +24,7 @@ use Rattle.modulator.specs.Paper.{refusal}
 use Rattle.modulator.specs.Frame.{given}
 use Rattle.modulator.specs.Control.{Control}
 use Rattle.modulator.specs.Record.{controlOf}
-use Rattle.modulator.specs.Fit.{recordFit}
+use Rattle.modulator.specs.Fit.{recordFit, unfitNumber}
 use Rattle.modulator.specs.Outcome.{Outcome, only, sends, judgedOutcome, frameOutcome}
 use Rattle.modulator.specs.Calls.{Left, left, unlessUnfit, settled, provided}
 
@@ -49,12 +49,16 @@ unchanged l no-place no-seven = record {
   otherwise = λ _. refl;
 }
 
+not-seven : (fit : Bool) → _≡_ {A = ℕ} (cond fit 1 15) 7 → ⊥
+not-seven true e = omega arith
+not-seven false e = omega arith
+
 module _ (R : Rate) (m : SoftModulator) (symbols : List Float) where
   by-tests : (fit counted : Bool) (a : Verdict) (within : Bool) → FirstOf symbols 192 a → allFit symbols ≡ within
-      → AsBefore (cond (not fit) (left (refusal (bare 1)) m []) (settled R m (judgedOutcome (cond (not counted) (Refused WrongCount) (earlier a Fine)) symbols (controlOf m))))
-      (cond (not fit) (left (refusal (bare 1)) m []) (settled R m (outcomeBefore counted within symbols (controlOf m))))
+      → AsBefore (cond (not fit) (left (refusal (bare (unfitNumber m))) m []) (settled R m (judgedOutcome (cond (not counted) (Refused WrongCount) (earlier a Fine)) symbols (controlOf m))))
+      (cond (not fit) (left (refusal (bare (unfitNumber m))) m []) (settled R m (outcomeBefore counted within symbols (controlOf m))))
   unfolding settled
-  by-tests false counted a within o e = unchanged _ (λ n i r. let z : _≡_ {A = ℕ} 0 1 = cc in omega arith) (λ r. let z : _≡_ {A = ℕ} 0 1 = cc in omega arith)
+  by-tests false counted a within o e = unchanged _ (λ n i r. let z : _≡_ {A = ℕ} 0 1 = cc in omega arith) (λ r. let z : unfitNumber m ≡ 7 = cc in not-seven (rateFit (m .rate)) z)
   by-tests true false a within o e = unchanged _ (λ n i r. let z : _≡_ {A = ℕ} 0 1 = cc in omega arith) (λ r. let z : _≡_ {A = ℕ} 0 1 = cc in omega arith)
   by-tests true true Fine true o e = unchanged _ (λ n i r. let z : _≡_ {A = ℕ} 0 1 = cc in omega arith) (λ r. let z : _≡_ {A = ℕ} 0 1 = cc in omega arith)
   by-tests true true Fine false (none all) e = absurd (subst T e (below-all 192 (λ (i : ℕ). symbolFit (getD symbols i nan)) all))

@@ -2,7 +2,7 @@
 -- record. At every rate. Assumes nothing.
 use mathlib.Core.Path.{_≡_, refl, sym, ap, _∙_}
 use mathlib.Core.Bool.{true}
-use mathlib.Core.List.{List, [], _∷_, _++_, flatten}
+use mathlib.Core.List.{List, [], _∷_, _++_, map, flatten}
 use Prim.Native.Nat.{ℕ, _+_}
 use native.Mathlib.Nat.{add-zero, sub-zero}
 use native.Mathlib.Omega.{arith}
@@ -10,7 +10,7 @@ use lib.IntN.{ℤ}
 use lib.ListN.{length, length-append}
 use Rattle.numbers.specs.Firsts.{firsts}
 use Rattle.machine.specs.Runs.{run, answers, Each}
-use Rattle.shaping.specs.Rate.{Rate}
+use Rattle.shaping.specs.Rate.{Rate, samplesIn, rateOf}
 use Rattle.shaping.proofs.RateFacts.{Facts}
 use Rattle.modulator.specs.declared.Progress.{Progress}
 use Rattle.modulator.specs.declared.SoftModulator.{SoftModulator}
@@ -20,12 +20,13 @@ use Rattle.modulator.specs.Fit.{recordFit}
 use Rattle.modulator.specs.Calls.{Left}
 use Rattle.modulator.specs.Calls.{drained as drainedRecord, read as readInto}
 use Rattle.modulator.proofs.Cases.{read-fit}
+use Rattle.modulator_laws.proofs.RateKept.{read-rate}
 use Rattle.modulator_laws.proofs.Kept.{read-keeps}
 use Rattle.modulator_laws.proofs.Once.{no-room}
 use Rattle.modulator_laws.proofs.Pieces.{counts-in-pieces, progress-in-pieces, handed-front, handed-in-pieces, rooms-in-pieces, in-pieces}
 use Rattle.modulator_run.specs.Rules.{Call, read, Sent, withProgress, frameSample, drained, called, rules, sentAll}
-use Rattle.modulator_run.specs.Run.{left, saidBy, sender, recordAfter, Given}
-use Rattle.modulator_run.specs.Pieces.{counted, handed, reads, total, SameAs, SameLeft}
+use Rattle.modulator_run.specs.Run.{leftAt, left, saidBy, sender, recordAfter, Given}
+use Rattle.modulator_run.specs.Pieces.{counted, handed, reads, total, roomOf, SameAs, SameLeft}
 use Rattle.modulator_run.proofs.SenderRun.{answers-from, next-call}
 
 -- ---- by the rules
@@ -96,28 +97,36 @@ reads-given [] = tt
 reads-given (a ∷ rooms) = (tt, reads-given rooms)
 
 pub pieces-read : (R : Rate) → Facts R → (cs : List Call) → Each Given cs → (rooms : List (List ℤ))
-    → SameAs (answers (sender R) (recordAfter R cs) (reads rooms)) (saidBy (readInto R (recordAfter R cs) (flatten rooms)))
-unfolding left called
+    → SameAs (answers sender (recordAfter R cs) (reads rooms)) (saidBy (left (recordAfter R cs) (read (flatten rooms))))
+unfolding called
 pieces-read R F cs g rooms =
     rw (answers-from R F cs (reads rooms) g (reads-given rooms), next-call R F cs g (read (flatten rooms))) (pieces-said R rooms (sentAll R cs))
 
 -- ---- and from every fit record, reached or made up
 module _ (R : Rate) where
+  at-read : (m : SoftModulator) (room : List ℤ) → leftAt R m (read room) ≡ readInto R m room
+  unfolding leftAt
+  at-read m room = refl
+
   answered : (m : SoftModulator) → recordFit (R .p) m ≡ true → (room : List ℤ) → readInto R m room .answer ≡ wrote (counted (readInto R m room .answer))
   unfolding drainedRecord counted
   answered m fit room = rw (read-fit R m room fit)
 
-  pub pieces-left : (rooms : List (List ℤ)) (m : SoftModulator) → recordFit (R .p) m ≡ true → SameLeft R m rooms
-  unfolding left run answers flatten total
-  pieces-left [] m fit =
+  by-rate : (rooms : List (List ℤ)) (m : SoftModulator) → rateOf (m .rate) ≡ R → recordFit (R .p) m ≡ true → SameLeft R m rooms
+  unfolding run answers flatten total
+  by-rate [] m own fit =
       let none = no-room R m fit in
       record { number = ap (λ (l : Left). l .answer) none; modulator = sym (ap (λ (l : Left). l .modulator) none); written = sym (ap (λ (l : Left). l .room) none) }
-  pieces-left (a ∷ rooms) m fit =
+  by-rate (a ∷ rooms) m own fit =
+      let here : left m (read a) ≡ readInto R m a = ap (λ (Q : Rate). leftAt Q m (read a)) own ∙ at-read m a in
       let next : SoftModulator = readInto R m a .modulator in
-      let rest = pieces-left rooms next (read-keeps R m fit a) in
+      let rest = by-rate rooms next (ap rateOf (read-rate R m a) ∙ own) (read-keeps R m fit a) in
       let two = in-pieces R m fit a (flatten rooms) in
       record {
-        number = two .answer _ _ (answered m fit a) (rest .number);
-        modulator = rest .modulator ∙ sym (two .modulator);
-        written = rw (rest .written) (sym (two .room));
+        number = two .answer _ _ (answered m fit a) (rest .number) ∙ sym (ap (λ (l : Left). wrote (counted (l .answer) + total (answers sender (l .modulator) (reads rooms)))) here);
+        modulator = ap (λ (l : Left). run sender (l .modulator) (reads rooms)) here ∙ rest .modulator ∙ sym (two .modulator);
+        written = ap (λ (l : Left). l .room ++ flatten (map roomOf (answers sender (l .modulator) (reads rooms)))) here ∙ rw (rest .written) (sym (two .room));
       }
+
+pub pieces-left : (rooms : List (List ℤ)) (m : SoftModulator) → recordFit (samplesIn (m .rate)) m ≡ true → SameLeft (rateOf (m .rate)) m rooms
+pieces-left rooms m fit = by-rate (rateOf (m .rate)) rooms m refl fit

@@ -48,7 +48,7 @@ module _ (R : Rate) (m : SoftModulator) (fit : recordFit (R .p) m ≡ true) (owe
 
 -- ---- over every list of calls
 module _ (R : Rate) (F : Facts R) where
-  pub told-as-before : (cs : List Call) → Each Given cs → (n : ℕ) → left R (recordAfter R cs) ask .answer ≡ transmitEnd n
+  pub told-as-before : (cs : List Call) → Each Given cs → (n : ℕ) → left (recordAfter R cs) ask .answer ≡ transmitEnd n
       → (r : Reporting cs) → T (none asks (r .since)) → (Reporting (r .since) → ⊥)
       → PaddingLeft (R .p) (r .before) 0 → UnreadLeft (R .p) (r .before) 0 → n ≡ endBefore (r .fill) (r .latency)
   told-as-before cs g n e r quiet newest no-padding all-read =

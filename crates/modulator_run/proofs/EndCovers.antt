@@ -70,7 +70,7 @@ module _ (R : Rate) (F : Facts R) where
         ap total (answers-from R F (upTo cs r) ds given-there (all-given ds t)) ∙ all-brought R ds after t ∙ rw (same-padding, same-samples)
 
   -- The request is answered with n, by the report that the update of r made.
-  pub end-covers : (cs : List Call) → Each Given cs → (n : ℕ) → left R (recordAfter R cs) ask .answer ≡ transmitEnd n
+  pub end-covers : (cs : List Call) → Each Given cs → (n : ℕ) → left (recordAfter R cs) ask .answer ≡ transmitEnd n
       → (r : Reporting cs) → T (none asks (r .since)) → (Reporting (r .since) → ⊥)
       → Covers R (upTo cs r) (r .fill) (r .latency) n
   end-covers cs g n e r quiet newest =

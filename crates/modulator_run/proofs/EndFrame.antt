@@ -1,4 +1,4 @@
--- `end-frame`: what the end of transmission leaves, from every fit record, reached or made up. At every rate. Assumes nothing.
+-- `end-frame`: what the end of transmission leaves, from every fit record, reached or made up, at the rate that it says. Assumes nothing.
 use mathlib.Core.Path.{_≡_, refl, subst, _∙_}
 use mathlib.Core.Bool.{Bool, true, false}
 use mathlib.Core.List.{List}
@@ -10,8 +10,8 @@ use lib.IntN.{pos}
 use lib.ListN.{length, getD, List·getD-eq-default}
 use lib.Ieee.{Float, nan, binary32, ofBits}
 use Rattle.numbers.specs.Within.{Within}
-use Rattle.shaping.specs.Rate.{Rate, tapCount}
-use Rattle.shaping.proofs.RateFacts.{Facts}
+use Rattle.shaping.specs.Rate.{Rate, samplesIn, rateOf, tapCount}
+use Rattle.shaping.proofs.RateFacts.{Facts, rate-facts}
 use Rattle.pulse.specs.Pulse.{pulses, after, sampleOf, sampleAt}
 use Rattle.pulse.proofs.Stream.{cursor-stays}
 use Rattle.pulse.proofs.View.{view, view-entered, place-seen}
@@ -62,9 +62,9 @@ module _ (R : Rate) (F : Facts R) (m : SoftModulator) (fit : recordFit (R .p) m 
       let late : 199 * R .p + 2 ≤ endSamples (R .p) = let u = some in omega arith in
       place-seen (R .p) (after (R .p) e (endSamples (R .p)) (lineOf m)) (ofBits binary32 0) (cursor-stays (R .p) e (endSamples (R .p)) (lineOf m) inside) (λ i l. all-zero (endSamples (R .p)) i late l)
 
-  pub end-frame : (symbols : List Float) → EndFrame R m (provided R m EndOfTransmission symbols)
+  frame-at : (symbols : List Float) → EndFrame R m (provided R m EndOfTransmission symbols)
   unfolding provided settled frameOutcome framed
-  end-frame symbols =
+  frame-at symbols =
       rw fit (record {
         answer = refl;
         number = refl;
@@ -76,3 +76,6 @@ module _ (R : Rate) (F : Facts R) (m : SoftModulator) (fit : recordFit (R .p) m 
         window = zero-place;
         owed = refl;
       })
+
+pub end-frame : (m : SoftModulator) → recordFit (samplesIn (m .rate)) m ≡ true → (symbols : List Float) → EndFrame (rateOf (m .rate)) m (provided (rateOf (m .rate)) m EndOfTransmission symbols)
+end-frame m fit = frame-at (rateOf (m .rate)) (rate-facts (m .rate) (record-facts (samplesIn (m .rate)) m fit .rate)) m fit

@@ -19,9 +19,8 @@ use Rattle.modulator.specs.Frame.{ending}
 use Rattle.modulator.specs.Record.{fresh}
 use Rattle.modulator.specs.Fit.{pulseFit, windowFit, recordFit}
 use Rattle.modulator.specs.Calls.{provided}
-use Rattle.modulator.specs.Calls.{read as readInto}
 use Rattle.modulator_run.specs.Stream.{sentAt}
-use Rattle.modulator_run.specs.Rules.{ask, called, sentAll}
+use Rattle.modulator_run.specs.Rules.{read, ask, called, sentAll}
 use Rattle.modulator_run.specs.Run.{left, saidBy, sender, recordAfter, Given}
 use Rattle.modulator_run.specs.Reports.{Free, FreeBefore}
 use Rattle.modulator_run.specs.EndFrame.{EndFrame}
@@ -36,12 +35,13 @@ use Rattle.modulator_run.proofs.Worked.{opening, opening-given}
 -- ---- the end of transmission from a made-up record: whole symbols in all places of the window, and the cursor in its middle
 abbrev made-up : SoftModulator
 made-up = record {
+  rate = 48000;
   «next_transmission» = replicate 4000 (pos 9);
   «filter_win» = replicate 81 (ofBits binary32 0x470a_8500);
   «filter_cursor» = 40;
   progress = record { «next_len» = 4000; «next_read» = 17; «tx_delay_padding» = record { 0 = 122400 } };
-  pending = fresh .pending;
-  buffer = fresh .buffer;
+  pending = (fresh 48000) .pending;
+  buffer = (fresh 48000) .buffer;
 }
 
 made-up-fit : recordFit 10 made-up ≡ true
@@ -49,7 +49,7 @@ unfolding recordFit windowFit pulseFit allBelow fresh ofBits le
 made-up-fit = refl
 
 made-up-ends : EndFrame at48 made-up (provided at48 made-up EndOfTransmission [])
-made-up-ends = end-frame at48 facts48 made-up made-up-fit []
+made-up-ends = end-frame made-up made-up-fit []
 
 -- by the rules, at ten samples a symbol: behind one symbol the 2,720th sample of the end is zero
 last-flushed : pulses 10 (ending .symbol) 1911 ≡ ofBits binary32 0
@@ -72,7 +72,7 @@ idle-at-first = idle-first at48 [] free-at-first none-earlier
 idle-because : (true ≡ true) × Free (sentAll at48 []) × (FreeBefore at48 [] → ⊥)
 idle-because = idle-only at48 [] true idle-at-first
 
-idle-of-record : left at48 (recordAfter at48 []) ask .answer ≡ idle true
+idle-of-record : left (recordAfter at48 []) ask .answer ≡ idle true
 idle-of-record = idle-by-record at48 facts48 [] (unfold Each Given in tt) .1 (free-at-first, none-earlier)
 
 -- ---- three rooms, one of them empty
@@ -80,7 +80,7 @@ abbrev rooms : List (List ℤ)
 rooms = (pos 1 ∷ pos 2 ∷ []) ∷ [] ∷ (pos 3 ∷ []) ∷ []
 
 made-up-read : SameLeft at48 made-up rooms
-made-up-read = pieces-left at48 rooms made-up made-up-fit
+made-up-read = pieces-left rooms made-up made-up-fit
 
-opening-read-on : SameAs (answers (sender at48) (recordAfter at48 opening) (reads rooms)) (saidBy (readInto at48 (recordAfter at48 opening) (flatten rooms)))
+opening-read-on : SameAs (answers sender (recordAfter at48 opening) (reads rooms)) (saidBy (left (recordAfter at48 opening) (read (flatten rooms))))
 opening-read-on = pieces-read at48 facts48 opening opening-given rooms

@@ -101,7 +101,7 @@ module _ (R : Rate) where
       }
 
 -- ---- the record, from a fresh start
-pub told-by-record : (R : Rate) → Facts R → (cs : List Call) → Each Given cs → (n : ℕ) → (left R (recordAfter R cs) ask .answer ≡ transmitEnd n) ↔ Untold (R .p) cs n
+pub told-by-record : (R : Rate) → Facts R → (cs : List Call) → Each Given cs → (n : ℕ) → (left (recordAfter R cs) ask .answer ≡ transmitEnd n) ↔ Untold (R .p) cs n
 told-by-record R F cs g n =
     let same = ap (λ (a : Said). a .answer) (next-call R F cs g ask) in
     let told = told-exactly R cs n in

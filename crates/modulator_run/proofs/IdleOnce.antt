@@ -132,7 +132,7 @@ module _ (R : Rate) where
       idle-only (cs ++ ask ∷ ds) other later .2 (record { before = cs; since = ds; parts = refl; free = idle-only cs one e .1 })
 
 -- ---- the record, from a fresh start
-pub idle-by-record : (R : Rate) → Facts R → (cs : List Call) → Each Given cs → (left R (recordAfter R cs) ask .answer ≡ idle true) ↔ (Free (sentAll R cs) × (FreeBefore R cs → ⊥))
+pub idle-by-record : (R : Rate) → Facts R → (cs : List Call) → Each Given cs → (left (recordAfter R cs) ask .answer ≡ idle true) ↔ (Free (sentAll R cs) × (FreeBefore R cs → ⊥))
 idle-by-record R F cs g =
     let same = ap (λ (a : Said). a .answer) (next-call R F cs g ask) in
     (λ e. let i = idle-only R cs true (sym same ∙ e) in (i .1, i .2), λ f. same ∙ idle-first R cs (f .0) (f .1))

@@ -41,6 +41,8 @@ pub mod Flush
 pub mod EndFrame
 -- reads in pieces
 pub mod AnyPieces
+-- all of these at each rate
+pub mod AtEachRate
 -- examples, computed
 pub mod Worked
 -- instances that meet what the laws ask

@@ -1,7 +1,7 @@
--- From a fresh start no call is refused as unfit: the rules know no refusal 1. Assumes nothing.
+-- From a fresh start no call is refused as unfit, nor for its rate: the rules know no refusal 1 or 15. Assumes nothing.
 use mathlib.Core.Path.{_≡_, sym, subst}
 use mathlib.Core.Logic.{inl, inr}
-use mathlib.Core.Bool.{Bool, false, not}
+use mathlib.Core.Bool.{Bool, false, not, _||_}
 use mathlib.Core.List.{List, [], _∷_, List·Memᴰ, List·Memᴰ·not-nil, List·Memᴰ·cases-cons}
 use lib.Dec.{T, eqb}
 use Rattle.machine.specs.Runs.{answers, Each}
@@ -14,9 +14,9 @@ use Rattle.modulator_run.specs.Run.{answersTo, Given}
 use Rattle.modulator_run.proofs.EachCall.{Refusing, miscounted, outside, unheaded, large, below, each-call}
 use Rattle.modulator_run.proofs.SenderRun.{sender-run}
 
--- 1: "record unfit"
+-- 1: "record unfit"; 15: "any rate but the two"
 abbrev unfit : Paper → Bool
-unfit (refusal (bare number)) = eqb number 1
+unfit (refusal (bare number)) = eqb number 1 || eqb number 15
 unfit (refusal (placed number place)) = false
 unfit done = false
 unfit (wrote n) = false
@@ -60,8 +60,10 @@ module _ (R : Rate) where
     | inr j ↦ fine-all cs (called R s c .sent) a j
   ]
 
-  pub rules-never-unfit : (cs : List Call) (s : Sent) (a : Said) → List·Memᴰ a (answers (rules R) s cs) → a .answer ≡ refusal (bare 1) → ⊥
-  rules-never-unfit cs s a i e = subst (λ (b : Paper). T (not (unfit b))) e (fine-all cs s a i)
+  pub rules-never-unfit : (cs : List Call) (s : Sent) (a : Said) → List·Memᴰ a (answers (rules R) s cs) → (a .answer ≡ refusal (bare 1) → ⊥) × (a .answer ≡ refusal (bare 15) → ⊥)
+  rules-never-unfit cs s a i =
+      let fine = fine-all cs s a i in
+      (λ e. subst (λ (b : Paper). T (not (unfit b))) e fine, λ e. subst (λ (b : Paper). T (not (unfit b))) e fine)
 
-pub never-unfit : (R : Rate) → Facts R → (cs : List Call) → Each Given cs → (a : Said) → List·Memᴰ a (answersTo R cs) → a .answer ≡ refusal (bare 1) → ⊥
+pub never-unfit : (R : Rate) → Facts R → (cs : List Call) → Each Given cs → (a : Said) → List·Memᴰ a (answersTo R cs) → (a .answer ≡ refusal (bare 1) → ⊥) × (a .answer ≡ refusal (bare 15) → ⊥)
 never-unfit R F cs g a i = rules-never-unfit R cs start a (rw (sender-run R F cs g .1) at i)

@@ -77,9 +77,9 @@ module _ (R : Rate) (F : Facts R) where
   pub window-inside : tapCount (R .p) ≤ 81
   window-inside = let u = F .few in omega arith
 
-  pub fresh-remembers : Remembers R fresh [] 0
+  pub fresh-remembers : (rate : ℕ) → Remembers R (fresh rate) [] 0
   unfolding fresh enteringAt
-  fresh-remembers = record {
+  fresh-remembers rate = record {
     window-places = let u = window-inside in omega (arith, length-replicate 81 (ofBits binary32 0));
     window-cursor = omega arith;
     window = λ i l.

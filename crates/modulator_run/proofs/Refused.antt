@@ -7,7 +7,7 @@ use lib.Dec.{T, ltb}
 use lib.IntN.{ℤ}
 use lib.Ieee.{Float}
 use Rattle.machine.specs.Runs.{run, answers}
-use Rattle.shaping.specs.Rate.{Rate}
+use Rattle.shaping.specs.Rate.{Rate, rateOf}
 use Rattle.protocol.specs.Refusals.{PaperRefusal, bare}
 use Rattle.modulator.specs.declared.ModulatorFrame.{ModulatorFrame}
 use Rattle.modulator.specs.declared.ModulatorFrame.the-variants.{Nothing as NoFrame, Preamble, Symbols as GivenSymbols, EndOfTransmission}
@@ -22,7 +22,7 @@ use Rattle.modulator.specs.Calls.{settled as settledRecord, drained as drainedR
 use Rattle.modulator_laws.proofs.Picked.{picked}
 use Rattle.modulator_laws.proofs.EachCase.{each-given, each-update, each-action}
 use Rattle.modulator_run.specs.Rules.{Call, provide, read, update, ask, Sent, After, settled, drained, called, rules}
-use Rattle.modulator_run.specs.Run.{left, saidBy, sender}
+use Rattle.modulator_run.specs.Run.{leftAt, left, saidBy, sender}
 use Rattle.modulator_run.specs.Kinds.{stores}
 use Rattle.modulator_run.proofs.EachCall.{Refusing, miscounted, outside, unheaded, large, below, each-call}
 
@@ -121,23 +121,25 @@ module _ (R : Rate) (m : SoftModulator) where
   unfolding settledRecord
   kept-action = each-action (controlOf m) KeptBy (record { told-end = λ _ _ t. absurd t; unread = λ _ _ t. absurd t; idles = λ _ _ _ t. absurd t; wishes = λ _ _ _ t. absurd t; rests = λ _ _ _ t. absurd t })
 
-  -- 1: "record unfit"
+  -- 15: "any rate but the two"; 1: "record unfit"
   unless-unfit : (room : List ℤ) (l : Left) → KeptRecord room l → KeptRecord room (unlessUnfit (R .p) m room l)
   unless-unfit room l k = picked (KeptRecord room) (not (recordFit (R .p) m)) _ _ (λ _ _. (refl, refl)) (λ _. k)
 
-  kept-record : (c : Call) → KeptRecord (lent c) (left R m c)
-  unfolding left provided readInto updated ran drainedRecord
+  kept-record : (c : Call) → KeptRecord (lent c) (leftAt R m c)
+  unfolding leftAt provided readInto updated ran drainedRecord
   kept-record (provide frame symbols) = unless-unfit [] _ (kept-frame frame symbols)
   kept-record (read room) = unless-unfit room _ (λ t. absurd t)
   kept-record (update fill capacity latency) = unless-unfit [] _ (kept-update fill capacity latency)
   kept-record ask = unless-unfit [] _ kept-action
 
-  pub refused-record : (c : Call) (number : PaperRefusal) → left R m c .answer ≡ refusal number → (left R m c .modulator ≡ m) × (left R m c .room ≡ lent c)
-  refused-record c number e = kept-record c (refused-by _ number e)
+-- at whatever rate it says
+module _ (m : SoftModulator) where
+  pub refused-record : (c : Call) (number : PaperRefusal) → left m c .answer ≡ refusal number → (left m c .modulator ≡ m) × (left m c .room ≡ lent c)
+  refused-record c number e = kept-record (rateOf (m .rate)) m c (refused-by _ number e)
 
-  pub skipped-record : (c : Call) (number : PaperRefusal) (cs : List Call) → left R m c .answer ≡ refusal number
-      → (run (sender R) m (c ∷ cs) ≡ run (sender R) m cs) × (answers (sender R) m (c ∷ cs) ≡ saidBy (left R m c) ∷ answers (sender R) m cs)
+  pub skipped-record : (c : Call) (number : PaperRefusal) (cs : List Call) → left m c .answer ≡ refusal number
+      → (run sender m (c ∷ cs) ≡ run sender m cs) × (answers sender m (c ∷ cs) ≡ saidBy (left m c) ∷ answers sender m cs)
   unfolding run answers
   skipped-record c number cs e =
       let k = refused-record c number e .0 in
-      (ap (λ (n : SoftModulator). run (sender R) n cs) k, ap (λ (n : SoftModulator). saidBy (left R m c) ∷ answers (sender R) n cs) k)
+      (ap (λ (n : SoftModulator). run sender n cs) k, ap (λ (n : SoftModulator). saidBy (left m c) ∷ answers sender n cs) k)

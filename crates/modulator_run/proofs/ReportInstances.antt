@@ -87,7 +87,7 @@ reporting : Reporting earlier
 unfolding stores
 reporting = record { before = end ∷ end ∷ []; fill = 100; capacity = 3000; latency = 50; since = []; parts = refl; taken = tt; owed = owed-again (end ∷ []) }
 
-told-of-record : left at48 (recordAfter at48 earlier) ask .answer ≡ transmitEnd 2870
+told-of-record : left (recordAfter at48 earlier) ask .answer ≡ transmitEnd 2870
 unfolding reporting none delays
 told-of-record = told-by-record at48 facts48 earlier earlier-given 2870 .1 (record { report = reporting; number = whole-end (end ∷ []) tt 100 50; unasked = tt; newest = reporting-none })
 
@@ -152,7 +152,7 @@ late-given : Each Given (readOut ++ update 100 3000 50 ∷ [])
 unfolding Each Given Delay
 late-given = (tt, (tt, (tt, tt)))
 
-late-told : left at48 (recordAfter at48 (readOut ++ update 100 3000 50 ∷ [])) ask .answer ≡ transmitEnd 150
+late-told : left (recordAfter at48 (readOut ++ update 100 3000 50 ∷ [])) ask .answer ≡ transmitEnd 150
 unfolding reporting-late none delays
 late-told = told-by-record at48 facts48 (readOut ++ update 100 3000 50 ∷ []) late-given 150 .1 (record {
   report = reporting-late;
@@ -167,7 +167,7 @@ late-as-before = told-as-before at48 facts48 (readOut ++ update 100 3000 50 ∷ 
 
 -- ---- a made-up record with nothing to read that owes an end
 abbrev owing : SoftModulator
-owing = withPending (record { «update_idle» = true; «calculate_tx_end» = true; «report_tx_end» = NoReport; «try_get_frame» = false }) (fresh .buffer) fresh
+owing = withPending (record { «update_idle» = true; «calculate_tx_end» = true; «report_tx_end» = NoReport; «try_get_frame» = false }) ((fresh 48000) .buffer) (fresh 48000)
 
 owing-fit : recordFit 10 owing ≡ true
 unfolding recordFit windowFit pulseFit allBelow fresh ofBits le

@@ -34,7 +34,7 @@ use Rattle.modulator_laws.proofs.Instances.{fresh-fit}
 use Rattle.modulator_run.specs.Stream.{enteringAt, sentAt}
 use Rattle.modulator_run.specs.Rules.{Call, provide, read, update, ask, start, settled, drained, called, sentAll, saidAll}
 use Rattle.modulator_run.specs.Rules.{framed as framedBy}
-use Rattle.modulator_run.specs.Run.{left, saidBy, recordAfter, answersTo, Delay, Given}
+use Rattle.modulator_run.specs.Run.{leftAt, left, saidBy, recordAfter, answersTo, Delay, Given}
 use Rattle.modulator_run.specs.Represents.{Remembers, Represents}
 use Rattle.modulator_run.specs.Loudness.{SymbolsFit, Quiet}
 use Rattle.modulator_run.proofs.Entered.{symbolNo, entering-pulse}
@@ -90,18 +90,18 @@ even-within : natAbs (sentAt even three 21) ≤ 20000
 even-within = stream-within even 20000 (lit< tt) even-finite refl even-phases (lit≤ tt) three three-fit 21
 
 -- ---- one frame, and one call, from a fresh start
-fresh-framed : Remembers at48 (framed at48 (preamble Ordinary) 0 (fresh .pending) fresh) (firsts (preamble Ordinary .symbol) 192) 0
-fresh-framed = next-frame at48 facts48 fresh [] 0 (fresh-remembers at48 facts48) (preamble Ordinary) 0 (fresh .pending) (lit≤ tt)
+fresh-framed : Remembers at48 (framed at48 (preamble Ordinary) 0 ((fresh 48000) .pending) (fresh 48000)) (firsts (preamble Ordinary .symbol) 192) 0
+fresh-framed = next-frame at48 facts48 (fresh 48000) [] 0 (fresh-remembers at48 facts48 48000) (preamble Ordinary) 0 ((fresh 48000) .pending) (lit≤ tt)
 
-fresh-represents : Represents at48 fresh start
+fresh-represents : Represents at48 (fresh 48000) start
 unfolding fresh
-fresh-represents = record { remembers = fresh-remembers at48 facts48; progress = refl; pending = refl; buffer = refl }
+fresh-represents = record { rate = refl; remembers = fresh-remembers at48 facts48 48000; progress = refl; pending = refl; buffer = refl }
 
-fresh-asked : Agrees at48 facts48 (left at48 fresh ask) (called at48 start ask)
-fresh-asked = call-agrees at48 facts48 fresh start fresh-represents fresh-fit ask
+fresh-asked : Agrees at48 facts48 (left (fresh 48000) ask) (called at48 start ask)
+fresh-asked = call-agrees at48 facts48 (fresh 48000) start fresh-represents fresh-fit ask
 
-fresh-kept : recordFit 10 (left at48 fresh (update 100 3000 50) .modulator) ≡ true
-fresh-kept = stays-fit at48 fresh fresh-fit (update 100 3000 50) (unfold Given in tt)
+fresh-kept : recordFit 10 (leftAt at48 (fresh 48000) (update 100 3000 50) .modulator) ≡ true
+fresh-kept = stays-fit at48 (fresh 48000) fresh-fit (update 100 3000 50) (unfold Given in tt)
 
 -- ---- calls of each kind, refused ones among them
 abbrev mixed : List Call
@@ -121,7 +121,7 @@ mixed-on-the-way = after-each at48 facts48 (ask ∷ []) _ mixed-given .1
 mixed-fit : recordFit 10 (recordAfter at48 mixed) ≡ true
 mixed-fit = fit-throughout at48 facts48 mixed mixed-given
 
-mixed-next : saidBy (left at48 (recordAfter at48 mixed) ask) ≡ called at48 (sentAll at48 mixed) ask .said
+mixed-next : saidBy (left (recordAfter at48 mixed) ask) ≡ called at48 (sentAll at48 mixed) ask .said
 mixed-next = next-call at48 facts48 mixed mixed-given ask
 
 -- ---- what a run hands out: P2's samples
@@ -137,4 +137,4 @@ opening-made : Quiet (getD (recordAfter at48 opening .«next_transmission») 191
 opening-made = within-made at48 facts48 opening opening-given 1919 (rw opening-long (lit< tt))
 
 opening-taken : done ≡ refusal (bare 1) → ⊥
-opening-taken = never-unfit at48 facts48 opening opening-given (record { answer = done; room = [] }) (rw p2-run (List·Memᴰ·head refl))
+opening-taken = never-unfit at48 facts48 opening opening-given (record { answer = done; room = [] }) (rw p2-run (List·Memᴰ·head refl)) .0

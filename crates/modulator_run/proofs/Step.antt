@@ -1,5 +1,5 @@
--- One call: on a fit record that holds what the rules have sent, it is answered as the rules say and leaves what they say. Assumes nothing.
-use mathlib.Core.Path.{_≡_, refl, sym, ap}
+-- One call: on a fit record that says its rate and holds what the rules have sent, it is answered as the rules say and leaves what they say. Assumes nothing.
+use mathlib.Core.Path.{_≡_, refl, sym, subst, ap, _∙_}
 use mathlib.Core.Bool.{true}
 use mathlib.Core.List.{List, _++_}
 use Prim.Native.Nat.{ℕ, _+_}
@@ -8,8 +8,8 @@ use lib.IntN.{ℤ, pos}
 use lib.ListN.{length, drop, replicate}
 use lib.Ieee.{Float}
 use Rattle.numbers.proofs.Firsts.{firsts-same}
-use Rattle.shaping.specs.Rate.{Rate}
-use Rattle.shaping.proofs.RateFacts.{Facts}
+use Rattle.shaping.specs.Rate.{Rate, rateOf, perSecond}
+use Rattle.shaping.proofs.RateFacts.{Facts, own-rate}
 use Rattle.modulator.specs.declared.OutputBuffer.{OutputBuffer}
 use Rattle.modulator.specs.declared.Pending.{Pending}
 use Rattle.modulator.specs.declared.SoftModulator.{SoftModulator}
@@ -24,7 +24,7 @@ use Rattle.modulator.specs.Calls.{read as readInto}
 use Rattle.modulator_laws.proofs.OutcomeLimits.{Few, frame-few, update-few, action-few}
 use Rattle.modulator_run.specs.Rules.{Call, provide, read, update, ask, Sent, After, framed, frameSample, called}
 use Rattle.modulator_run.specs.Rules.{settled as settledBy, drained as drainedBy}
-use Rattle.modulator_run.specs.Run.{left, saidBy}
+use Rattle.modulator_run.specs.Run.{leftAt, left, saidBy}
 use Rattle.modulator_run.specs.Represents.{Remembers, Represents}
 use Rattle.modulator_run.proofs.NextFrame.{next-frame}
 
@@ -38,13 +38,18 @@ module _ (R : Rate) (F : Facts R) where
     pub represents : Represents R (l .modulator) (a .sent)
     pub says : saidBy l ≡ a .said
 
-  module _ (m : SoftModulator) (xs : List Float) (b : ℕ) (r : Remembers R m xs b) where
+  -- a record that says this rate is called at it
+  pub own : (m : SoftModulator) → m .rate ≡ perSecond (R .p) → rateOf (m .rate) ≡ R
+  own m e = ap rateOf e ∙ own-rate R F
+
+  module _ (m : SoftModulator) (xs : List Float) (b : ℕ) (rate : m .rate ≡ perSecond (R .p)) (r : Remembers R m xs b) where
     abbrev s : Sent
     s = shown m xs b
 
     -- ---- neither window nor store is touched
     pended : (pending : Pending) (buffer : OutputBuffer) → Represents R (withPending pending buffer m) (shown (withPending pending buffer m) xs b)
     pended pending buffer = record {
+      rate = rate;
       remembers = record {
         window-places = r .window-places;
         window-cursor = r .window-cursor;
@@ -61,9 +66,9 @@ module _ (R : Rate) (F : Facts R) where
     -- ---- a frame, an update and an action request, by what comes of them
     settled-agrees : (o : Outcome) → Few o → Agrees (settled R m o) (settledBy R s o)
     unfolding Few settled settledBy framedRecord framed
-    settled-agrees (only answer) few = record { represents = record { remembers = r; progress = refl; pending = refl; buffer = refl }; says = refl }
+    settled-agrees (only answer) few = record { represents = record { rate = rate; remembers = r; progress = refl; pending = refl; buffer = refl }; says = refl }
     settled-agrees (told answer pending buffer) few = record { represents = pended pending buffer; says = refl }
-    settled-agrees (sends frame padding pending) few = record { represents = record { remembers = next-frame R F m xs b r frame padding pending few; progress = refl; pending = refl; buffer = refl }; says = refl }
+    settled-agrees (sends frame padding pending) few = record { represents = record { rate = rate; remembers = next-frame R F m xs b r frame padding pending few; progress = refl; pending = refl; buffer = refl }; says = refl }
 
     -- ---- a read
     -- what the store holds of the frame is the stream's
@@ -77,6 +82,7 @@ module _ (R : Rate) (F : Facts R) where
     unfolding drained drainedBy
     drained-agrees room = record {
       represents = record {
+        rate = rate;
         remembers = record {
           window-places = r .window-places;
           window-cursor = r .window-cursor;
@@ -92,15 +98,16 @@ module _ (R : Rate) (F : Facts R) where
       says = ap (λ (l : List ℤ). record { answer = wrote (writtenCount (m .progress) (length room)); room = l ++ drop (writtenCount (m .progress) (length room)) room }) (handed (length room));
     }
 
-    each : recordFit (R .p) m ≡ true → (c : Call) → Agrees (left R m c) (called R s c)
-    unfolding left called provided readInto updated ran
+    each : recordFit (R .p) m ≡ true → (c : Call) → Agrees (leftAt R m c) (called R s c)
+    unfolding leftAt called provided readInto updated ran
     each fit (provide frame symbols) = rw fit (settled-agrees (frameOutcome (R .p) frame symbols (controlOf m)) (frame-few (R .p) (controlOf m) frame symbols))
     each fit (read room) = rw fit (drained-agrees room)
     each fit (update fill capacity latency) = rw fit (settled-agrees (updateOutcome (R .p) fill capacity latency (controlOf m)) (update-few (R .p) (controlOf m) fill capacity latency))
     each fit ask = rw fit (settled-agrees (actionOutcome (controlOf m)) (action-few (R .p) (controlOf m)))
 
-  pub call-agrees : (m : SoftModulator) (s : Sent) → Represents R m s → recordFit (R .p) m ≡ true → (c : Call) → Agrees (left R m c) (called R s c)
-  call-agrees m s r fit c = rw (sym whole) (each m (s .symbols) (s .before) (r .remembers) fit c)
+  pub call-agrees : (m : SoftModulator) (s : Sent) → Represents R m s → recordFit (R .p) m ≡ true → (c : Call) → Agrees (left m c) (called R s c)
+  call-agrees m s r fit c =
+      subst (λ (Q : Rate). Agrees (leftAt Q m c) (called R s c)) (sym (own m (r .rate))) (rw (sym whole) (each m (s .symbols) (s .before) (r .rate) (r .remembers) fit c))
     where
       whole : shown m (s .symbols) (s .before) ≡ s
       whole = rw (r .progress, r .pending, r .buffer)

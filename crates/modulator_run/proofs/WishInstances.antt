@@ -16,7 +16,7 @@ use Rattle.modulator.specs.Outcome.{frameOutcome, updateOutcome, actionBy}
 use Rattle.modulator.proofs.Cases.{read-unfit}
 use Rattle.modulator_laws.proofs.Instances.{astray, astray-unfit}
 use Rattle.modulator_run.specs.Rules.{Call, provide, read, update, ask, start, framed, settled, called, rules, sentAll}
-use Rattle.modulator_run.specs.Run.{left, sender, recordAfter, Delay, Given}
+use Rattle.modulator_run.specs.Run.{leftAt, left, sender, recordAfter, Delay, Given}
 use Rattle.modulator_run.specs.Kinds.{stores, raises, drops, delays, none}
 use Rattle.modulator_run.specs.Wish.{Wished}
 use Rattle.modulator_run.specs.Padding.{latencyOf, lastLatency, placesOf, placesRead, PaddingLeft, unset, set}
@@ -87,12 +87,12 @@ below-skipped = refused-skipped at48 start (update 9 5 0) (bare 9) wishing refl 
 abbrev room : List ℤ
 room = pos 7 ∷ []
 
-astray-refuses : left at48 astray (read room) .answer ≡ refusal (bare 1)
-unfolding left
+astray-refuses : left astray (read room) .answer ≡ refusal (bare 1)
+unfolding leftAt
 astray-refuses = rw (read-unfit at48 astray room astray-unfit)
 
-astray-kept : left at48 astray (read room) .room ≡ room
-astray-kept = refused-record at48 astray (read room) (bare 1) astray-refuses .1
+astray-kept : left astray (read room) .room ≡ room
+astray-kept = refused-record astray (read room) (bare 1) astray-refuses .1
 
-astray-skipped : run (sender at48) astray (read room ∷ wishing) ≡ run (sender at48) astray wishing
-astray-skipped = skipped-record at48 astray (read room) (bare 1) wishing astray-refuses .0
+astray-skipped : run sender astray (read room ∷ wishing) ≡ run sender astray wishing
+astray-skipped = skipped-record astray (read room) (bare 1) wishing astray-refuses .0

@@ -13,7 +13,7 @@ use Rattle.modulator_run.specs.Pieces.{total}
 
 -- the samples that the reads of further calls bring, by their answers
 abbrev pub brought : Rate → List Call → List Call → ℕ
-brought R cs ds = total (answers (sender R) (recordAfter R cs) ds)
+brought R cs ds = total (answers sender (recordAfter R cs) ds)
 
 -- The calls `cs` end with an update of this fill and latency; `ds` are any further calls of which none provides a frame.
 pub record Covers (R : Rate) (cs : List Call) (fill latency n : ℕ) : Type 0 where

@@ -45,6 +45,6 @@ pub record SameAs (pieces : List Said) (once : Said) : Type 0 where
 
 -- the same of a record's reads, and of the record that they leave
 pub record SameLeft (R : Rate) (m : SoftModulator) (rooms : List (List ℤ)) : Type 0 where
-  pub number : readInto R m (flatten rooms) .answer ≡ wrote (total (answers (sender R) m (reads rooms)))
-  pub modulator : run (sender R) m (reads rooms) ≡ readInto R m (flatten rooms) .modulator
-  pub written : flatten (map roomOf (answers (sender R) m (reads rooms))) ≡ readInto R m (flatten rooms) .room
+  pub number : readInto R m (flatten rooms) .answer ≡ wrote (total (answers sender m (reads rooms)))
+  pub modulator : run sender m (reads rooms) ≡ readInto R m (flatten rooms) .modulator
+  pub written : flatten (map roomOf (answers sender m (reads rooms))) ≡ readInto R m (flatten rooms) .room

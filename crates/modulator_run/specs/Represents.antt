@@ -4,7 +4,7 @@ use mathlib.Core.List.{List}
 use Prim.Native.Nat.{ℕ, _+_, _-_, _*_, _≤_, _<_}
 use lib.ListN.{length}
 use lib.Ieee.{Float}
-use Rattle.shaping.specs.Rate.{Rate, tapCount, storePlaces}
+use Rattle.shaping.specs.Rate.{Rate, perSecond, tapCount, storePlaces}
 use Rattle.shaping.specs.Sum.{valueAt}
 use Rattle.modulator.specs.declared.SoftModulator.{SoftModulator}
 use Rattle.modulator.specs.Record.{storedSample}
@@ -22,8 +22,9 @@ pub record Remembers (R : Rate) (m : SoftModulator) (symbols : List Float) (befo
   -- the frame at hand is the end of the stream
   pub last : before + m .progress .«next_len» ≡ R .p * length symbols
 
--- the whole record: length, read place, padding, what is pending and what the last update gave are the rules'
+-- the whole record: it says its rate, and length, read place, padding, what is pending and what the last update gave are the rules'
 pub record Represents (R : Rate) (m : SoftModulator) (s : Sent) : Type 0 where
+  pub rate : m .rate ≡ perSecond (R .p)
   pub remembers : Remembers R m (s .symbols) (s .before)
   pub progress : m .progress ≡ s .progress
   pub pending : m .pending ≡ s .pending

@@ -4,12 +4,12 @@ use mathlib.Core.List.{List, [], _∷_}
 use Prim.Native.Nat.{ℕ, _-_}
 use lib.ListN.{getD}
 use Rattle.protocol.specs.declared.Refusal.{Refusal}
-use Rattle.protocol.specs.declared.Refusal.the-variants.{RecordUnfit, ReplyOwed, NoReplyOwed, RoomTooSmall, CountAtItsEnd, WrongCount, SymbolNotANumber, SymbolInfinite, SymbolAboveOne, SymbolBelowMinusOne, BufferTooLarge, CapacityBelowFill, ValueOutside, WrongBurst}
+use Rattle.protocol.specs.declared.Refusal.the-variants.{RecordUnfit, ReplyOwed, NoReplyOwed, RoomTooSmall, CountAtItsEnd, WrongCount, SymbolNotANumber, SymbolInfinite, SymbolAboveOne, SymbolBelowMinusOne, BufferTooLarge, CapacityBelowFill, ValueOutside, WrongBurst, WrongRate}
 use Rattle.protocol.specs.Refusals.{PaperRefusal, bare, placed, onPaper}
 
--- those without a place in the order of their numbers, from 1; 7 is none's, and any stands there
+-- those without a place in the order of their numbers, from 1; 7 and 12 to 14 are none's, and any stands there
 table : List Refusal
-table = RecordUnfit ∷ ReplyOwed ∷ NoReplyOwed ∷ RoomTooSmall ∷ CountAtItsEnd ∷ WrongCount ∷ RecordUnfit ∷ BufferTooLarge ∷ CapacityBelowFill ∷ ValueOutside ∷ WrongBurst ∷ []
+table = RecordUnfit ∷ ReplyOwed ∷ NoReplyOwed ∷ RoomTooSmall ∷ CountAtItsEnd ∷ WrongCount ∷ RecordUnfit ∷ BufferTooLarge ∷ CapacityBelowFill ∷ ValueOutside ∷ WrongBurst ∷ RecordUnfit ∷ RecordUnfit ∷ RecordUnfit ∷ WrongRate ∷ []
 
 -- those with one, from 71
 tableAt : ℕ → List Refusal
@@ -36,6 +36,7 @@ numbered-back BufferTooLarge = refl
 numbered-back CapacityBelowFill = refl
 numbered-back ValueOutside = refl
 numbered-back WrongBurst = refl
+numbered-back WrongRate = refl
 
 pub refusal-once : (a b : Refusal) → onPaper a ≡ onPaper b → a ≡ b
 refusal-once a b e = sym (numbered-back a) ∙ ap numbered e ∙ numbered-back b

@@ -2,7 +2,7 @@
 use mathlib.Core.Path.{_≡_}
 use Prim.Native.Nat.{ℕ}
 use Rattle.protocol.specs.declared.Refusal.{Refusal}
-use Rattle.protocol.specs.declared.Refusal.the-variants.{RecordUnfit, ReplyOwed, NoReplyOwed, RoomTooSmall, CountAtItsEnd, WrongCount, SymbolNotANumber, SymbolInfinite, SymbolAboveOne, SymbolBelowMinusOne, BufferTooLarge, CapacityBelowFill, ValueOutside, WrongBurst}
+use Rattle.protocol.specs.declared.Refusal.the-variants.{RecordUnfit, ReplyOwed, NoReplyOwed, RoomTooSmall, CountAtItsEnd, WrongCount, SymbolNotANumber, SymbolInfinite, SymbolAboveOne, SymbolBelowMinusOne, BufferTooLarge, CapacityBelowFill, ValueOutside, WrongBurst, WrongRate}
 use Rattle.protocol.specs.declared.Place.{Place}
 use Rattle.protocol.specs.declared.Place.the-variants.{Nothing, At}
 
@@ -37,6 +37,8 @@ onPaper CapacityBelowFill = bare 9
 onPaper ValueOutside = bare 10
 -- "a BERT frame whose first eight symbols are not that burst's signs"
 onPaper WrongBurst = bare 11
+-- "any rate but the two, checked first"
+onPaper WrongRate = bare 15
 
 abbrev pub numberOf : PaperRefusal → ℕ
 numberOf (bare number) = number

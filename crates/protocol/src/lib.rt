@@ -61,6 +61,7 @@ pub enum Refusal {
     CapacityBelowFill,
     ValueOutside,
     WrongBurst,
+    WrongRate,
 }
 
 // What a refusal tells beside its number: nothing, or a place, counted from 0.
@@ -89,6 +90,7 @@ impl Refusal {
             Refusal::CapacityBelowFill => 9,
             Refusal::ValueOutside => 10,
             Refusal::WrongBurst => 11,
+            Refusal::WrongRate => 15,
         }
     }
 

@@ -2,8 +2,12 @@
 -- the values that enter the window, and what they leave
 pub mod Pulses
 pub mod Stream
+-- the next place of a ring
+pub mod Places
 -- what the filter sees of the window
 pub mod View
+-- the table of a rate
+pub mod Tables
 -- a window that holds pulses only
 pub mod PhaseSums
 -- a slice's tail, lent and back

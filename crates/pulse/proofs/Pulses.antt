@@ -7,21 +7,24 @@ use borrow.Author.Tests.{ne-eqb}
 use lib.Ieee.{Float, binary32, ofBits, mul}
 use Rattle.pulse.specs.Pulse.{pulses}
 
-module _ (p : ℕ) (symbol : ℕ → Float) where
-  -- the symbol of sample j of symbol i
-  symbol-of : (i j : ℕ) → j < p → (p * i + j) / p ≡ i
-  symbol-of i j h =
-      let some : 0 < p = omega arith in
-      ap (λ (t : ℕ). t / p) (add-comm (p * i) j) ∙ add-mul-div-left j i some ∙ omega (arith, div-eq-of-lt h)
+-- the symbol of sample j of symbol i
+pub symbol-of : (p i j : ℕ) → j < p → (p * i + j) / p ≡ i
+symbol-of p i j h =
+    let some : 0 < p = omega arith in
+    ap (λ (t : ℕ). t / p) (add-comm (p * i) j) ∙ add-mul-div-left j i some ∙ omega (arith, div-eq-of-lt h)
 
+module _ (p : ℕ) (symbol : ℕ → Float) where
   -- a symbol's samples are those of a symbol alone
   pub alone : (i j : ℕ) → j < p → pulses p symbol (p * i + j) ≡ pulses p (λ (_ : ℕ). symbol i) j
   unfolding pulses
-  alone i j h = rw (mul-add-mod-self-left p i j, symbol-of i j h)
+  alone i j h = rw (mul-add-mod-self-left p i j, symbol-of p i j h)
 
   pub pulse-at : (i : ℕ) → 0 < p → pulses p symbol (p * i) ≡ mul binary32 (symbol i) (ofBits binary32 0x470a_8500)
   unfolding pulses
   pulse-at i h = rw (mul-mod-right p i, mul-div-cancel-left i h)
+
+  pub pulse-first : 0 < p → pulses p symbol 0 ≡ mul binary32 (symbol 0) (ofBits binary32 0x470a_8500)
+  pulse-first h = ap (pulses p symbol) {x = 0} {y = p * 0} (omega arith) ∙ pulse-at 0 h
 
   pub gap : (j : ℕ) → 0 < j → j < p → pulses p symbol j ≡ ofBits binary32 0
   unfolding pulses

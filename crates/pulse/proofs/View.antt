@@ -1,6 +1,7 @@
 -- What the filter sees of a line: its values from the oldest to the newest, wherever the cursor is. The ring law, of a stream of values: what is seen depends on what was
 -- seen before and the values that entered, and on nothing else. Assumes nothing.
 use mathlib.Core.Path.{_≡_, refl, sym, ap, _∙_}
+use mathlib.Core.Logic.{⊎-elim}
 use mathlib.Core.Bool.{cond}
 use mathlib.Core.List.{List}
 use Prim.Native.Nat.{ℕ, zero, suc, _+_, _-_, _%_, _≤_, _<_}
@@ -9,9 +10,10 @@ use native.Mathlib.Omega.{arith}
 use borrow.Author.Tests.{lt-ltb, le-ltb}
 use lib.Dec.{ltb, lit≤, lit<}
 use lib.ListN.{length, getD, replicate, length-set, length-replicate, getD-replicate}
-use lib.Seq.{ext-getD}
+use lib.Seq.{ext-getD, getD-set-other}
 use lib.Ieee.{Float, nan, binary32, ofBits}
 use Rattle.numbers.proofs.Ring.{Recent, push}
+use Rattle.numbers.proofs.Tests.{lt-or-le}
 use Rattle.shaping.specs.Rate.{tapCount}
 use Rattle.shaping.specs.Sum.{valueAt}
 use Rattle.pulse.specs.Pulse.{Line, after, lineAt}
@@ -102,31 +104,43 @@ module _ (p : ℕ) (e : ℕ → Float) where
   after-cursor zero line h = rw (add-zero (line .cursor), mod-eq-of-lt h)
   after-cursor (suc n) line h = rw (after-cursor n line h, mod-add-mod (line .cursor + n) (tapCount p) 1) (ap (λ (k : ℕ). k % tapCount p) (omega (arith, add-suc (line .cursor) n)))
 
-  -- two windows that whole values have gone through hold the same
-  forgets : (n : ℕ) (a b : Line) → a .cursor ≡ b .cursor → a .cursor < tapCount p → length (a .window) ≡ tapCount p → length (b .window) ≡ tapCount p → tapCount p ≤ n
-      → after p e n a ≡ after p e n b
-  forgets n a b same h la lb enough =
+  -- what lies past the ring is as it was
+  after-past : (n : ℕ) (line : Line) → line .cursor < tapCount p → (j : ℕ) → tapCount p ≤ j → getD (after p e n line .window) j nan ≡ getD (line .window) j nan
+  unfolding after
+  after-past zero line h j l = refl
+  after-past (suc n) line h j l =
+      let stays = cursor-stays p e n line h in
+      getD-set-other (after p e n line .window) (after p e n line .cursor) j (e n) nan (λ (q : j ≡ after p e n line .cursor). omega arith) ∙ after-past n line h j l
+
+  -- two windows that whole values have gone through hold the same, where they do past the ring
+  forgets : (n : ℕ) (a b : Line) → a .cursor ≡ b .cursor → a .cursor < tapCount p → tapCount p ≤ length (a .window) → length (a .window) ≡ length (b .window)
+      → ((j : ℕ) → tapCount p ≤ j → getD (a .window) j nan ≡ getD (b .window) j nan) → tapCount p ≤ n → after p e n a ≡ after p e n b
+  forgets n a b same h long alike past enough =
       let hb : b .cursor < tapCount p = rw same at h in
       let cursors : after p e n a .cursor ≡ after p e n b .cursor = after-cursor n a h ∙ rw same (sym (after-cursor n b hb)) in
-      let lengths : length (after p e n a .window) ≡ length (after p e n b .window) = after-length n a ∙ la ∙ sym (after-length n b ∙ lb) in
-      let windows : after p e n a .window ≡ after p e n b .window =
-      ext-getD nan _ _ lengths λ j l.
-      let k : j < tapCount p = omega (arith, after-length n a, la) in
+      let lengths : length (after p e n a .window) ≡ length (after p e n b .window) = after-length n a ∙ alike ∙ sym (after-length n b) in
+      let ringed : (j : ℕ) → j < tapCount p → getD (after p e n a .window) j nan ≡ getD (after p e n b .window) j nan =
+      λ j k.
       let i = seen-at p (after p e n a .cursor) j (cursor-stays p e n a h) k in
-      let left : view p (after p e n a) (i .0) ≡ e (n + i .0 - tapCount p) = view-entered p e a (omega arith) h n (i .0) (i .1) (omega arith) in
+      let left : view p (after p e n a) (i .0) ≡ e (n + i .0 - tapCount p) = view-entered p e a long h n (i .0) (i .1) (omega arith) in
       let right : view p (after p e n b) (i .0) ≡ e (n + i .0 - tapCount p) = view-entered p e b (omega arith) hb n (i .0) (i .1) (omega arith) in
       let there : (after p e n b .cursor + i .0) % tapCount p ≡ j = rw (sym cursors) (i .2) in
       ap (λ (m : ℕ). getD (after p e n a .window) m nan) (sym (i .2)) ∙ left ∙ sym right ∙ ap (λ (m : ℕ). getD (after p e n b .window) m nan) there
       in
+      let windows : after p e n a .window ≡ after p e n b .window =
+      ext-getD nan _ _ lengths λ j l.
+      ⊎-elim (λ (k : j < tapCount p). ringed j k) (λ (k : tapCount p ≤ j). after-past n a h j k ∙ past j k ∙ sym (after-past n b hb j k)) (lt-or-le j (tapCount p))
+      in
       same-line (after p e n a) (after p e n b) windows cursors
 
--- of m + n values the last n are enough, where they fill the window: the cursor alone has to pass the others
-pub last-enough : (p : ℕ) (e : ℕ → Float) (m n : ℕ) (window : List Float) (cursor : ℕ) → length window ≡ tapCount p → cursor < tapCount p → tapCount p ≤ n
+-- of m + n values the last n are enough, where they fill the ring: the cursor alone has to pass the others
+pub last-enough : (p : ℕ) (e : ℕ → Float) (m n : ℕ) (window : List Float) (cursor : ℕ) → tapCount p ≤ length window → cursor < tapCount p → tapCount p ≤ n
     → after p e (m + n) (lineAt window cursor) ≡ after p (λ (j : ℕ). e (m + j)) n (lineAt window ((cursor + m) % tapCount p))
 last-enough p e m n window cursor long inside enough =
     let line = lineAt window cursor in
     after-cut p e m n line
-    ∙ forgets p (λ (j : ℕ). e (m + j)) n (after p e m line) (lineAt window ((cursor + m) % tapCount p)) (after-cursor p e m line inside) (cursor-stays p e m line inside) (after-length p e m line ∙ long) long enough
+    ∙ forgets p (λ (j : ℕ). e (m + j)) n (after p e m line) (lineAt window ((cursor + m) % tapCount p)) (after-cursor p e m line inside) (cursor-stays p e m line inside)
+    (rw (after-length p e m line) long) (after-length p e m line) (after-past p e m line inside) enough
 
 -- ---- the hypotheses can be met: a fresh window at 48 kHz, and what is seen of it after one value
 fresh-line : Line
@@ -146,4 +160,9 @@ fresh-kept e = view-kept 10 e fresh-line (let n = length-replicate 81 (ofBits bi
 
 fresh-last : (e : ℕ → Float) → after 10 e 91 fresh-line ≡ after 10 (λ (j : ℕ). e (1 + j)) 90 (lineAt (fresh-line .window) 1)
 unfolding fresh-line
-fresh-last e = last-enough 10 e 1 90 (replicate 81 (ofBits binary32 0)) 0 (length-replicate 81 (ofBits binary32 0)) (lit< tt) (lit≤ tt)
+fresh-last e = last-enough 10 e 1 90 (replicate 81 (ofBits binary32 0)) 0 (let n = length-replicate 81 (ofBits binary32 0) in omega arith) (lit< tt) (lit≤ tt)
+
+-- at 24 kHz the same window has a ring of 41
+fresh-last-24 : (e : ℕ → Float) → after 5 e 46 fresh-line ≡ after 5 (λ (j : ℕ). e (1 + j)) 45 (lineAt (fresh-line .window) 1)
+unfolding fresh-line
+fresh-last-24 e = last-enough 5 e 1 45 (replicate 81 (ofBits binary32 0)) 0 (let n = length-replicate 81 (ofBits binary32 0) in omega arith) (lit< tt) (lit≤ tt)

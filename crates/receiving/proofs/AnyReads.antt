@@ -11,13 +11,12 @@ use lib.Seq.{take-take}
 use Rattle.machine.specs.Runs.{run, answers}
 use Rattle.machine.proofs.Parts.{run-joined}
 use Rattle.demodulator.specs.declared.SoftDemodulator.{SoftDemodulator}
-use Rattle.demodulator.specs.Fit.{recordFit}
 use Rattle.receiving.specs.declared.Odd.{Odd}
 use Rattle.receiving.specs.declared.Receiving.{Receiving}
 use Rattle.receiving.specs.Pairs.{samplesOf, oddOf, waiting}
-use Rattle.receiving.specs.Listener.{listener}
+use Rattle.receiving.specs.Listener.{listener, ownRecord}
 use Rattle.receiving.specs.Text.{verdict, linesOf, textFrom}
-use Rattle.receiving.specs.Hear.{looked, samplesIn, record48}
+use Rattle.receiving.specs.Hear.{looked, samplesIn, emptyTold}
 use Rattle.receiving.specs.Caller.{Read, Caller, input, given, intakeAt, after, callerAfter, textOf, consumedBy}
 use Rattle.receiving.proofs.BytePairs.{samples-joined, odd-joined, no-samples, odd-alone}
 use Rattle.receiving.proofs.Lines.{text-joined}
@@ -40,10 +39,10 @@ looked-front bytes places t l = take-take t (cond (ltb places 97) 0 512) bytes (
 
 -- what a record and a waiting byte come to with some bytes
 abbrev pub madeOf : Receiving → List ℕ → Receiving
-madeOf r bytes = record { demodulator = run (listener record48 verdict) (r .demodulator) (samplesIn (r .odd) bytes); odd = oddOf (waiting (r .odd) ++ bytes) }
+madeOf r bytes = record { demodulator = run (listener ownRecord verdict) (r .demodulator) (samplesIn (r .odd) bytes); odd = oddOf (waiting (r .odd) ++ bytes) }
 
 abbrev pub textBy : Receiving → List ℕ → List ℕ
-textBy r bytes = textFrom record48 (r .demodulator) (samplesIn (r .odd) bytes)
+textBy r bytes = textFrom ownRecord (r .demodulator) (samplesIn (r .odd) bytes)
 
 module _ (c : Caller) (r : Read) where
   abbrev m : SoftDemodulator
@@ -56,25 +55,25 @@ module _ (c : Caller) (r : Read) where
   front = take (intakeAt c r .consumed) (given c r)
 
   same-front : take (intakeAt c r .consumed) seen ≡ front
-  same-front = looked-front (given c r) (r .places) (intakeAt c r .consumed) (consumed-most record48 (recordFit 10) m (c .receiving .odd) seen (r .places))
+  same-front = looked-front (given c r) (r .places) (intakeAt c r .consumed) (consumed-most ownRecord emptyTold m (c .receiving .odd) seen (r .places))
 
   pub call-text : intakeAt c r .text ≡ textBy (c .receiving) front
-  call-text = consumed-text record48 (recordFit 10) m (c .receiving .odd) seen (r .places) ∙ ap (textBy (c .receiving)) same-front
+  call-text = consumed-text ownRecord emptyTold m (c .receiving .odd) seen (r .places) ∙ ap (textBy (c .receiving)) same-front
 
   pub call-leaves : after c r .receiving ≡ madeOf (c .receiving) front
   call-leaves = λ i. record {
-    demodulator = (consumed-state record48 (recordFit 10) m (c .receiving .odd) seen (r .places) ∙ ap (λ (l : List ℕ). run (listener record48 verdict) m (samplesIn (c .receiving .odd) l)) same-front) i;
-    odd = (consumed-odd record48 (recordFit 10) m (c .receiving .odd) seen (r .places) ∙ ap (λ (l : List ℕ). oddOf (waiting (c .receiving .odd) ++ l)) same-front) i;
+    demodulator = (consumed-state ownRecord emptyTold m (c .receiving .odd) seen (r .places) ∙ ap (λ (l : List ℕ). run (listener ownRecord verdict) m (samplesIn (c .receiving .odd) l)) same-front) i;
+    odd = (consumed-odd ownRecord emptyTold m (c .receiving .odd) seen (r .places) ∙ ap (λ (l : List ℕ). oddOf (waiting (c .receiving .odd) ++ l)) same-front) i;
   }
 
 -- ---- the two halves of what bytes come to
 module _ (r : Receiving) (front back : List ℕ) where
   pub text-cut : textBy r (front ++ back) ≡ textBy r front ++ textBy (madeOf r front) back
-  text-cut = ap (textFrom record48 (r .demodulator)) (samples-cut (r .odd) front back) ∙ text-joined record48 (r .demodulator) (samplesIn (r .odd) front) (samplesIn (oddThen (r .odd) front back) back)
+  text-cut = ap (textFrom ownRecord (r .demodulator)) (samples-cut (r .odd) front back) ∙ text-joined ownRecord (r .demodulator) (samplesIn (r .odd) front) (samplesIn (oddThen (r .odd) front back) back)
 
   pub made-cut : madeOf r (front ++ back) ≡ madeOf (madeOf r front) back
   made-cut = λ i. record {
-    demodulator = (ap (run (listener record48 verdict) (r .demodulator)) (samples-cut (r .odd) front back) ∙ run-joined (listener record48 verdict) (samplesIn (r .odd) front) (samplesIn (oddThen (r .odd) front back) back) (r .demodulator)) i;
+    demodulator = (ap (run (listener ownRecord verdict) (r .demodulator)) (samples-cut (r .odd) front back) ∙ run-joined (listener ownRecord verdict) (samplesIn (r .odd) front) (samplesIn (oddThen (r .odd) front back) back) (r .demodulator)) i;
     odd = odd-cut (r .odd) front back i;
   }
 
@@ -90,8 +89,8 @@ any-reads [] c =
     let none = no-samples (c .receiving .odd) in
     record {
       cut = sym (append-nil (c .unused));
-      text = sym (ap (textFrom record48 (c .receiving .demodulator)) none);
-      leaves = sym (λ i. record { demodulator = ap (run (listener record48 verdict) (c .receiving .demodulator)) none i; odd = odd-alone (c .receiving .odd) i });
+      text = sym (ap (textFrom ownRecord (c .receiving .demodulator)) none);
+      leaves = sym (λ i. record { demodulator = ap (run (listener ownRecord verdict) (c .receiving .demodulator)) none i; odd = odd-alone (c .receiving .odd) i });
     }
 any-reads (r ∷ reads) c =
     let there : Caller = after c r in

@@ -1,7 +1,7 @@
 -- The bytes that a call consumes are those of the samples that went in: a call is as one that is given just these. Assumes nothing.
 use mathlib.Core.Path.{_≡_, refl, sym, ap, _∙_}
 use mathlib.Core.Logic.{inl, inr}
-use mathlib.Core.Bool.{Bool, cond}
+use mathlib.Core.Bool.{cond}
 use mathlib.Core.List.{List, [], _∷_, _++_}
 use Prim.Native.Nat.{ℕ, zero, suc, _-_, _*_, _≤_, _<_}
 use native.Mathlib.Omega.{arith}
@@ -81,7 +81,7 @@ samples-long (b ∷ []) = lit≤ tt
 samples-long (low ∷ high ∷ bytes) = omega (arith, samples-long bytes)
 
 -- ---- a call
-module _ {S : Type 0} (m : Machine S Single Said) (fit : S → Bool) (s : S) (odd : Odd) (bytes : List ℕ) (places : ℕ) where
+module _ {S : Type 0} (m : Machine S Single Said) (empty : S → Paper) (s : S) (odd : Odd) (bytes : List ℕ) (places : ℕ) where
   abbrev xs : List ℤ
   xs = samplesIn odd bytes
 
@@ -89,13 +89,13 @@ module _ {S : Type 0} (m : Machine S Single Said) (fit : S → Bool) (s : S) (od
   said = answers (listener m verdict) s xs
 
   abbrev told : Paper
-  told = toldTo (fit s) said
+  told = toldTo (empty s) said
 
   abbrev n : ℕ
   n = goIn said places
 
   abbrev call : Intake S
-  call = intakeOf m fit s odd bytes places
+  call = intakeOf m empty s odd bytes places
 
   pub most : n ≤ length xs
   most = rw (← answers-long (listener m verdict) xs s) (in-most said places)
@@ -111,7 +111,7 @@ module _ {S : Type 0} (m : Machine S Single Said) (fit : S → Bool) (s : S) (od
   consumed-samples : samplesIn odd (take (call .consumed) bytes) ≡ take n xs
   unfolding intakeOf batchOf
   consumed-samples =
-      by-test (λ (t : ℕ). samplesIn odd (take t bytes) ≡ take n xs) (isRefusal told) _ _ (λ e. rw (told-none (fit s) said places e) (no-samples odd))
+      by-test (λ (t : ℕ). samplesIn odd (take t bytes) ≡ take n xs) (isRefusal told) _ _ (λ e. rw (told-none (empty s) said places e) (no-samples odd))
       (λ _. by-test (λ (t : ℕ). samplesIn odd (take t bytes) ≡ take n xs) (eqb n (length xs)) _ _
       (λ e. let all : length xs ≤ n = omega (arith, eqb-true n (length xs) e) in rw (take-length bytes) (sym (take-all n xs all)))
       (λ _. part-samples odd bytes n))

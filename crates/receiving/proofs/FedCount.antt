@@ -45,15 +45,15 @@ cramped-in [] places l = refl
 cramped-in (a ∷ said) places l = rw (lt-ltb places 97 l)
 
 -- ---- by what the call is told: a refused one has none, another one at least where there is room
-pub told-none : (fit : Bool) (said : List Said) (places : ℕ) → isRefusal (toldTo fit said) ≡ true → goIn said places ≡ 0
+pub told-none : (empty : Paper) (said : List Said) (places : ℕ) → isRefusal (toldTo empty said) ≡ true → goIn said places ≡ 0
 unfolding goIn toldTo
-told-none fit [] places e = refl
-told-none fit (a ∷ said) places e = let bad : isRefusal (a .answer) ≡ true = sym (refusal-kept (a .answer)) ∙ e in rw bad (none-by (ltb places 97) _)
+told-none empty [] places e = refl
+told-none empty (a ∷ said) places e = let bad : isRefusal (a .answer) ≡ true = sym (refusal-kept (a .answer)) ∙ e in rw bad (none-by (ltb places 97) _)
 
-pub told-some : (fit : Bool) (said : List Said) (places : ℕ) → 97 ≤ places → isRefusal (toldTo fit said) ≡ false → 1 ≤ length said → 1 ≤ goIn said places
+pub told-some : (empty : Paper) (said : List Said) (places : ℕ) → 97 ≤ places → isRefusal (toldTo empty said) ≡ false → 1 ≤ length said → 1 ≤ goIn said places
 unfolding goIn toldTo
-told-some fit [] places enough e l = absurd (omega arith)
-told-some fit (a ∷ said) places enough e l =
+told-some empty [] places enough e l = absurd (omega arith)
+told-some empty (a ∷ said) places enough e l =
     let fine : isRefusal (a .answer) ≡ false = sym (refusal-kept (a .answer)) ∙ e in
     rw (le-ltb places 97 enough, fine) (omega arith)
 
@@ -61,7 +61,7 @@ told-some fit (a ∷ said) places enough e l =
 abbrev pub NotRefused : Said → Type 0
 NotRefused a = isRefusal (a .answer) ≡ false
 
-pub told-nothing : (said : List Said) → Each NotRefused said → toldTo true said ≡ nothing
+pub told-nothing : (said : List Said) → Each NotRefused said → toldTo nothing said ≡ nothing
 unfolding toldTo Each
 told-nothing [] e = refl
 told-nothing (a ∷ said) e = rw (e .0)

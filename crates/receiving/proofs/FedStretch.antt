@@ -11,63 +11,67 @@ use lib.IntN.{ℤ}
 use lib.ListN.{length, drop}
 use lib.Ieee.{Float}
 use Rattle.machine.specs.Runs.{run, answers}
-use Rattle.shaping.specs.Rate.{at48}
+use Rattle.shaping.specs.Rate.{Rate, rateOf}
 use Rattle.protocol.specs.Refusals.{bare}
 use Rattle.demodulator.specs.declared.SoftDemodulator.{SoftDemodulator}
 use Rattle.demodulator.specs.declared.Offer.{Offer}
-use Rattle.demodulator.specs.Fit.{recordFit}
 use Rattle.demodulator.specs.Calls.{Paper, refusal, nothing, frame, isRefusal, Left, refused, demodulated}
-use Rattle.demodulator.specs.Singles.{left}
+use Rattle.demodulator.specs.Singles.{sample, leftAt}
 use Rattle.demodulator.specs.Feed.{Stretch, stopsBefore, fedFrom}
 use Rattle.demodulator.proofs.FeedSteps.{restFrom}
 use Rattle.demodulator_laws.proofs.SampleComes.{Comes, silent, offering, stuck, comes, fed-silent, fed-offering, fed-stuck}
-use Rattle.receiving.specs.Listener.{listedOf, blank, replyTo, listener, offers}
+use Rattle.demodulator_run.proofs.Refused.{rate-kept}
+use Rattle.receiving.specs.Listener.{listedOf, blank, replyTo, listener, offers, ownRecord}
 use Rattle.receiving.specs.Text.{verdict, linesOf, textFrom, goIn, Batch, refusalIn, toldTo}
-use Rattle.receiving.specs.Hear.{record48}
+use Rattle.receiving.specs.Hear.{emptyTold}
 use Rattle.receiving.specs.Parts.{isOffer, lineOfStretch, leftByStretch, recordTold, recordBatch}
 use Rattle.receiving.proofs.Lines.{line-short}
 use Rattle.receiving.proofs.FedCount.{told-none, none, ahead, ahead-ahead, batch-none, batch-first}
 
 -- ---- a list from its first sample on
+-- what a sample comes to, at the rate that the record says
+abbrev pub leftBySample : SoftDemodulator → ℤ → Left
+leftBySample m x = demodulated (rateOf (m .rate)) m x blank
+
 abbrev pub lineAfter : Left → List ℕ
 lineAfter l = linesOf (listedOf verdict (l .answer) (l .room))
 
 abbrev pub afterReply : Left → SoftDemodulator
-afterReply l = run record48 (l .demodulator) (map replyTo (listedOf verdict (l .answer) (l .room)))
+afterReply l = run ownRecord (l .demodulator) (map replyTo (listedOf verdict (l .answer) (l .room)))
 
-module _ (m : SoftDemodulator) (x : ℤ) (xs : List ℤ) (l : Left) (e : demodulated at48 m x blank ≡ l) where
+module _ (m : SoftDemodulator) (x : ℤ) (xs : List ℤ) (l : Left) (e : leftBySample m x ≡ l) where
   pub batch-at : (places : ℕ) → 97 ≤ places → isRefusal (l .answer) ≡ false → recordBatch m (x ∷ xs) places ≡ ahead 1 (lineAfter l) (recordBatch (afterReply l) xs (places - length (lineAfter l)))
-  unfolding run left
+  unfolding run leftAt
   batch-at places enough fine =
-      batch-first record48 m x xs places enough (ap (λ (k : Left). isRefusal (k .answer)) e ∙ fine)
+      batch-first ownRecord m x xs places enough (ap (λ (k : Left). isRefusal (k .answer)) e ∙ fine)
       ∙ ap (λ (k : Left). ahead 1 (lineAfter k) (recordBatch (afterReply k) xs (places - length (lineAfter k)))) e
 
   pub told-at : recordTold m (x ∷ xs) ≡ refusalIn (l .answer)
-  unfolding answers left toldTo
+  unfolding answers leftAt toldTo
   told-at = ap (λ (k : Left). refusalIn (k .answer)) e
 
 -- ---- a record that refuses each sample
 abbrev pub RefusesAll : ℕ → SoftDemodulator → Type 0
-RefusesAll number m = (y : ℤ) → demodulated at48 m y blank ≡ refused number m blank
+RefusesAll number m = (y : ℤ) → leftBySample m y ≡ refused number m blank
 
 module _ (number : ℕ) (m : SoftDemodulator) (s : RefusesAll number m) where
-  stuck-in : (xs : List ℤ) (places : ℕ) → goIn (answers (listener record48 verdict) m xs) places ≡ 0
+  stuck-in : (xs : List ℤ) (places : ℕ) → goIn (answers (listener ownRecord verdict) m xs) places ≡ 0
   unfolding answers goIn
   stuck-in [] places = refl
-  stuck-in (x ∷ xs) places = told-none (recordFit 10 m) _ places (ap isRefusal (told-at m x xs (refused number m blank) (s x)))
+  stuck-in (x ∷ xs) places = told-none (emptyTold m) _ places (ap isRefusal (told-at m x xs (refused number m blank) (s x)))
 
   pub stuck-batch : (xs : List ℤ) (places : ℕ) → recordBatch m xs places ≡ none m
-  stuck-batch xs places = batch-none record48 m xs places (stuck-in xs places)
+  stuck-batch xs places = batch-none ownRecord m xs places (stuck-in xs places)
 
-  pub stuck-after : (xs : List ℤ) → run (listener record48 verdict) m xs ≡ m
-  unfolding run left listedOf
+  pub stuck-after : (xs : List ℤ) → run (listener ownRecord verdict) m xs ≡ m
+  unfolding run leftAt listedOf
   stuck-after [] = refl
-  stuck-after (x ∷ xs) = ap (λ (k : Left). run (listener record48 verdict) (afterReply k) xs) (s x) ∙ stuck-after xs
+  stuck-after (x ∷ xs) = ap (λ (k : Left). run (listener ownRecord verdict) (afterReply k) xs) (s x) ∙ stuck-after xs
 
-  pub stuck-text : (xs : List ℤ) → textFrom record48 m xs ≡ []
-  unfolding run answers left listedOf linesOf flatMap
+  pub stuck-text : (xs : List ℤ) → textFrom ownRecord m xs ≡ []
+  unfolding run answers leftAt listedOf linesOf flatMap
   stuck-text [] = refl
-  stuck-text (x ∷ xs) = ap (λ (k : Left). linesOf (listedOf verdict (k .answer) (k .room) ++ offers record48 verdict (afterReply k) xs)) (s x) ∙ stuck-text xs
+  stuck-text (x ∷ xs) = ap (λ (k : Left). linesOf (listedOf verdict (k .answer) (k .room) ++ offers ownRecord verdict (afterReply k) xs)) (s x) ∙ stuck-text xs
 
 -- ---- where a stretch stops before a sample: no offer, and the refusal only at its start
 module _ (number : ℕ) where
@@ -102,18 +106,22 @@ pub record Goes (n : ℕ) (m : SoftDemodulator) (xs : List ℤ) (places : ℕ) (
   pub told : 1 ≤ n + length xs → cond (eqb n 0) (recordTold m xs) nothing ≡ refusalIn (f .answer)
 
 module _ (n : ℕ) (m : SoftDemodulator) (x : ℤ) (xs : List ℤ) (places : ℕ) (enough : 97 ≤ places) where
+  abbrev R : Rate
+  R = rateOf (m .rate)
+
   abbrev Here : Stretch SoftDemodulator → Type 0
   Here = Goes n m (x ∷ xs) places
 
   -- of a sample that is admitted
-  none-told : (l : Left) → demodulated at48 m x blank ≡ l → refusalIn (l .answer) ≡ nothing → cond (eqb n 0) (recordTold m (x ∷ xs)) nothing ≡ nothing
+  none-told : (l : Left) → leftBySample m x ≡ l → refusalIn (l .answer) ≡ nothing → cond (eqb n 0) (recordTold m (x ∷ xs)) nothing ≡ nothing
   none-told l e fine = ap (λ (a : Paper). cond (eqb n 0) a nothing) (told-at m x xs l e ∙ fine) ∙ either-way (eqb n 0)
 
-  goes-silent : (m′ : SoftDemodulator) → Goes (n + 1) m′ xs places (restFrom at48 (n + 1) m′ xs blank) → demodulated at48 m x blank ≡ record { answer = nothing; demodulator = m′; room = blank } → Here (restFrom at48 (n + 1) m′ xs blank)
+  goes-silent : (m′ : SoftDemodulator) → Goes (n + 1) m′ xs places (restFrom R (n + 1) m′ xs blank)
+      → leftBySample m x ≡ record { answer = nothing; demodulator = m′; room = blank } → Here (restFrom R (n + 1) m′ xs blank)
   unfolding run listedOf linesOf flatMap
   goes-silent m′ g e =
       let l : Left = record { answer = nothing; demodulator = m′; room = blank } in
-      let f : Stretch SoftDemodulator = restFrom at48 (n + 1) m′ xs blank in
+      let f : Stretch SoftDemodulator = restFrom R (n + 1) m′ xs blank in
       let k : ℕ = f .fed - (n + 1) in
       let one-more : f .fed - n ≡ suc k = omega arith in
       let one : 1 + k ≡ suc k = omega arith in
@@ -129,7 +137,9 @@ module _ (n : ℕ) (m : SoftDemodulator) (x : ℤ) (xs : List ℤ) (places : ℕ
         told = λ _. none-told l e refl ∙ later;
       }
 
-  goes-offering : (o : Offer) (m′ : SoftDemodulator) (window : List Float) → demodulated at48 m x blank ≡ record { answer = frame o; demodulator = m′; room = window } → Here (record { answer = frame o; fed = n + 1; state = m′; room = window })
+  goes-offering : (o : Offer) (m′ : SoftDemodulator) (window : List Float)
+      → leftBySample m x ≡ record { answer = frame o; demodulator = m′; room = window }
+      → Here (record { answer = frame o; fed = n + 1; state = m′; room = window })
   unfolding isOffer
   goes-offering o m′ window e =
       let l : Left = record { answer = frame o; demodulator = m′; room = window } in
@@ -156,21 +166,32 @@ module _ (n : ℕ) (m : SoftDemodulator) (x : ℤ) (xs : List ℤ) (places : ℕ
         told = λ _. ap (λ (a : Paper). cond (eqb n 0) a nothing) (told-at m x xs (refused number m blank) (all x)) ∙ stops-told number (eqb n 0);
       }
 
-  goes-by : ((m′ : SoftDemodulator) → Goes (n + 1) m′ xs places (restFrom at48 (n + 1) m′ xs blank)) → Comes m blank (λ (y : ℤ). demodulated at48 m y blank) (demodulated at48 m x blank) → Here (restFrom at48 n m (x ∷ xs) blank)
-  goes-by rest (silent m′ e) = subst Here (sym (fed-silent at48 m x xs blank n m′ e)) (goes-silent m′ (rest m′) e)
-  goes-by rest (offering o m′ window e) = subst Here (sym (fed-offering at48 m x xs blank n o m′ window e)) (goes-offering o m′ window e)
-  goes-by rest (stuck number e all) = subst Here (sym (fed-stuck at48 m x xs blank n number e)) (goes-stuck number all)
+  -- the rest goes on at the same rate
+  kept : (l : Left) → leftBySample m x ≡ l → l .demodulator .rate ≡ m .rate
+  unfolding leftAt
+  kept l e = ap (λ (k : Left). k .demodulator .rate) (sym e) ∙ rate-kept R m (sample x blank)
 
-pub stretch-goes : (n : ℕ) (m : SoftDemodulator) (xs : List ℤ) (places : ℕ) → 97 ≤ places → Goes n m xs places (restFrom at48 n m xs blank)
+  goes-by : ((m′ : SoftDemodulator) → m′ .rate ≡ m .rate → Goes (n + 1) m′ xs places (restFrom R (n + 1) m′ xs blank))
+      → Comes m blank (leftBySample m) (leftBySample m x)
+      → Here (restFrom R n m (x ∷ xs) blank)
+  goes-by rest (silent m′ e) = subst Here (sym (fed-silent R m x xs blank n m′ e)) (goes-silent m′ (rest m′ (kept _ e)) e)
+  goes-by rest (offering o m′ window e) = subst Here (sym (fed-offering R m x xs blank n o m′ window e)) (goes-offering o m′ window e)
+  goes-by rest (stuck number e all) = subst Here (sym (fed-stuck R m x xs blank n number e)) (goes-stuck number all)
+
+pub stretch-goes : (n : ℕ) (m : SoftDemodulator) (xs : List ℤ) (places : ℕ) → 97 ≤ places
+    → Goes n m xs places (restFrom (rateOf (m .rate)) n m xs blank)
 unfolding fedFrom listedOf linesOf flatMap isOffer run answers goIn
 stretch-goes n m [] places enough =
     let none-fed : n - n ≡ 0 = omega arith in
     record {
       least = omega arith;
       most = omega arith;
-      batch = rw none-fed (batch-none record48 m [] places refl);
+      batch = rw none-fed (batch-none ownRecord m [] places refl);
       line-most = omega arith;
       moves = λ e. absurd (false≢true e);
       told = λ some. rw (ne-eqb n 0 (λ z. omega arith));
     }
-stretch-goes n m (x ∷ xs) places enough = goes-by n m x xs places enough (λ m′. stretch-goes (n + 1) m′ xs places enough) (comes at48 m x blank)
+stretch-goes n m (x ∷ xs) places enough =
+    goes-by n m x xs places enough
+    (λ m′ kept. subst (λ (rate : ℕ). Goes (n + 1) m′ xs places (restFrom (rateOf rate) (n + 1) m′ xs blank)) kept (stretch-goes (n + 1) m′ xs places enough))
+    (comes (rateOf (m .rate)) m x blank)

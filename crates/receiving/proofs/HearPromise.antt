@@ -13,7 +13,6 @@ use lib.Seq.{take-all, take-length, length-take-le}
 use Rattle.machine.specs.Runs.{answers}
 use Rattle.search.proofs.AgeInPass.{by-test}
 use Rattle.demodulator.specs.declared.SoftDemodulator.{SoftDemodulator}
-use Rattle.demodulator.specs.Fit.{recordFit}
 use Rattle.demodulator.specs.Calls.{isRefusal}
 use Rattle.demodulator_laws.proofs.SampleFits.{either}
 use Rattle.receiving.specs.declared.Odd.{Odd}
@@ -25,8 +24,9 @@ use Rattle.receiving.specs.declared.pairs.Paired.{Paired}
 use Rattle.receiving.specs.declared.pairs.Part.{Part}
 use Rattle.receiving.specs.declared.windows.AfterSamples.{AfterSamples}
 use Rattle.receiving.specs.Pairs.{oddOf, waiting}
+use Rattle.receiving.specs.Listener.{ownRecord}
 use Rattle.receiving.specs.Text.{Batch, batchOf}
-use Rattle.receiving.specs.Hear.{looked, samplesIn, consumedOf, intakeOf, record48, recordIntake, receiptPaper, hear-says}
+use Rattle.receiving.specs.Hear.{looked, samplesIn, consumedOf, intakeOf, emptyTold, recordIntake, receiptPaper, hear-says}
 use Rattle.receiving.specs.Parts.{isAdmitted, looksAt, PairsUp, ConsumesPart, recordTold, recordBatch, HearsAll}
 use Rattle.receiving.proofs.BytePairs.{no-samples}
 use Rattle.receiving.proofs.FedCount.{told-none, batch-none}
@@ -86,7 +86,7 @@ module _ (r : Receiving) (bytes lines : List ℕ) (p : Paired) (a : AfterSamples
 
   pub fed-most : a .fed ≤ length xs
   unfolding batchOf
-  fed-most = rw (all .feeds) (most record48 (recordFit 10) m (r .odd) seen (length lines))
+  fed-most = rw (all .feeds) (most ownRecord emptyTold m (r .odd) seen (length lines))
 
   in-words : (consumed : ℕ) (odd : Odd) → consumed ≡ consumedOf (r .odd) seen (recordTold m xs) (a .fed) → odd ≡ oddOf (waiting (r .odd) ++ take consumed seen)
       → hear-says r bytes lines (record { answer = a .answer; consumed = consumed; written = a .written; receiving = record { demodulator = a .demodulator; odd = odd } }) after
@@ -121,7 +121,7 @@ module _ (r : Receiving) (bytes lines : List ℕ) (p : Paired) (a : AfterSamples
       ] in
       let counted : 2 * a .fed - length (waiting (r .odd)) ≡ consumedOf (r .odd) seen (recordTold m xs) (a .fed) =
       by-test (λ (k : ℕ). 2 * a .fed - length (waiting (r .odd)) ≡ k) (isRefusal (recordTold m xs)) _ _
-      (λ t. let none-fed : a .fed ≡ 0 = all .feeds ∙ ap (λ (b : Batch SoftDemodulator). b .count) (batch-none record48 m xs (length lines) (told-none (recordFit 10 m) _ (length lines) t)) in omega arith)
+      (λ t. let none-fed : a .fed ≡ 0 = all .feeds ∙ ap (λ (b : Batch SoftDemodulator). b .count) (batch-none ownRecord m xs (length lines) (told-none (emptyTold m) _ (length lines) t)) in omega arith)
       (λ t. rw (ne-eqb (a .fed) (length xs) (short t))) in
       in-words (q .consumed) (q .odd) (part .bytes ∙ counted) (part .held ∙ sym (rw (part .bytes) (part-odd (r .odd) seen (a .fed) fed-most)))
 
@@ -134,4 +134,4 @@ written-fits r bytes lines a after says =
 pub consumed-fits : (r : Receiving) (bytes lines : List ℕ) (a : AfterBytes) (after : List ℕ) → hear-says r bytes lines a after → a .consumed ≤ length bytes
 consumed-fits r bytes lines a after says =
     let places : ℕ = length lines in
-    omega (arith, says .consumes, consumed-most record48 (recordFit 10) (r .demodulator) (r .odd) (looked bytes places) places, looked-long bytes places, looks-most bytes places)
+    omega (arith, says .consumes, consumed-most ownRecord emptyTold (r .demodulator) (r .odd) (looked bytes places) places, looked-long bytes places, looks-most bytes places)

@@ -7,15 +7,15 @@ use lib.Dec.{lit<, lit≤}
 use lib.IntN.{pos, negsuc}
 use lib.ListN.{length, take}
 use Rattle.machine.specs.Runs.{run, Each}
-use Rattle.shaping.specs.Rate.{at48}
-use Rattle.shaping.proofs.RateFacts.{facts48}
+use Rattle.shaping.specs.Rate.{at48, at24}
+use Rattle.shaping.proofs.RateFacts.{facts48, facts24}
 use Rattle.demodulator.specs.Record.{fresh}
 use Rattle.demodulator.specs.Calls.{nothing}
 use Rattle.demodulator_run.specs.Rules.{start}
 use Rattle.house.specs.Samples.{numberOf, sampleOf}
 use Rattle.receiving.specs.declared.Odd.the-variants.{Held}
 use Rattle.receiving.specs.Pairs.{samplesOf, oddOf}
-use Rattle.receiving.specs.Listener.{listener, offers, recordAt}
+use Rattle.receiving.specs.Listener.{listener, offers, ownRecord}
 use Rattle.receiving.specs.Text.{verdict}
 use Rattle.receiving.specs.Hear.{looked}
 use Rattle.receiving.specs.Caller.{Bytes, Read, Short, freshCaller, input, given, intakeAt, callerAfter, textOf, consumedBy}
@@ -109,6 +109,9 @@ cut-goes-on = next-taken cut one-more six-bytes three-samples .0
 cut-by-rules : let c = callerAfter freshCaller cut in SameIntake (intakeAt c one-more) (rulesIntake (run (listener rules48 verdict) start (samplesOf (consumedBy freshCaller cut))) (c .receiving .odd) (looked (given c one-more) (one-more .places)) (one-more .places))
 cut-by-rules = hear-run cut one-more six-bytes
 
--- ---- the list of offers
-cut-offers : offers (recordAt at48) verdict fresh (samplesOf (input cut)) ≡ offers (rulesAt at48) verdict start (samplesOf (input cut))
+-- ---- the list of offers, at either rate
+cut-offers : offers ownRecord verdict (fresh 48000) (samplesOf (input cut)) ≡ offers (rulesAt at48) verdict start (samplesOf (input cut))
 cut-offers = same-offers at48 facts48 verdict (samplesOf (input cut)) (bytes-fit (input cut) cut-bytes)
+
+cut-offers-24 : offers ownRecord verdict (fresh 24000) (samplesOf (input cut)) ≡ offers (rulesAt at24) verdict start (samplesOf (input cut))
+cut-offers-24 = same-offers at24 facts24 verdict (samplesOf (input cut)) (bytes-fit (input cut) cut-bytes)

@@ -1,6 +1,6 @@
 -- The next call after any reads since a fresh start: it is answered as the rules say, and leaves what they say. Assumes nothing.
 use mathlib.Core.Path.{_≡_, sym, ap, subst, _∙_}
-use mathlib.Core.Bool.{true, cond}
+use mathlib.Core.Bool.{cond}
 use mathlib.Core.List.{List, [], _∷_, _++_, append-assoc}
 use Prim.Native.Nat.{ℕ, _+_, _^_, _≤_}
 use native.Mathlib.Omega.{arith}
@@ -18,26 +18,25 @@ use Rattle.shaping.specs.Rate.{at48}
 use Rattle.shaping.proofs.RateFacts.{facts48}
 use Rattle.demodulator.specs.declared.SoftDemodulator.{SoftDemodulator}
 use Rattle.demodulator.specs.Record.{fresh}
-use Rattle.demodulator.specs.Fit.{recordFit}
 use Rattle.demodulator.specs.Calls.{nothing}
 use Rattle.demodulator.specs.Singles.{Said}
 use Rattle.demodulator_run.specs.Rules.{History, start}
 use Rattle.demodulator_run.specs.Represents.{Represents}
-use Rattle.demodulator_run.proofs.Whole.{Stands, stands-fit, stands-start}
+use Rattle.demodulator_run.proofs.Whole.{Stands, stands-start}
 use Rattle.house.proofs.Samples.{sample-fits}
 use Rattle.receiving.specs.declared.Odd.{Odd}
 use Rattle.receiving.specs.declared.Receiving.{Receiving}
 use Rattle.receiving.specs.Pairs.{samplesOf, oddOf, waiting}
-use Rattle.receiving.specs.Listener.{listener}
+use Rattle.receiving.specs.Listener.{listener, ownRecord}
 use Rattle.receiving.specs.Text.{verdict, linesOf, textFrom, goIn, batchOf, toldTo}
-use Rattle.receiving.specs.Hear.{looked, samplesIn, consumedOf, Intake, intakeOf, record48}
+use Rattle.receiving.specs.Hear.{looked, samplesIn, consumedOf, Intake, intakeOf, emptyTold}
 use Rattle.receiving.specs.Caller.{Bytes, Read, Caller, freshCaller, input, given, intakeAt, callerAfter, consumedBy}
 use Rattle.receiving.specs.Rules.{rules48, rulesIntake}
 use Rattle.receiving.proofs.BytePairs.{samples-joined}
 use Rattle.receiving.proofs.FedCount.{NotRefused, told-nothing, all-in}
 use Rattle.receiving.proofs.AnyReads.{samples-cut, any-reads}
 use Rattle.receiving.proofs.WholeReads.{few-samples, looked-all}
-use Rattle.receiving.proofs.Agreement.{listens, offers-agree}
+use Rattle.receiving.proofs.Agreement.{empty-alike, listens, offers-agree}
 use Rattle.receiving.proofs.OwedReply.{untroubled, between-start}
 
 -- ---- bytes make samples that a caller can give
@@ -58,21 +57,23 @@ pub record SameIntake (f : Intake SoftDemodulator) (g : Intake History) : Type 0
   pub odd : f .odd ≡ g .odd
   pub represents : Represents at48 (f .state) (g .state)
 
-same-intake : (m : SoftDemodulator) (h : History) (odd : Odd) (bytes : List ℕ) (places : ℕ) → Stands at48 facts48 m h → SixteenBits (samplesIn odd bytes) → SameIntake (intakeOf record48 (recordFit 10) m odd bytes places) (rulesIntake h odd bytes places)
+same-intake : (m : SoftDemodulator) (h : History) (odd : Odd) (bytes : List ℕ) (places : ℕ) → Stands at48 facts48 m h
+    → SixteenBits (samplesIn odd bytes)
+    → SameIntake (intakeOf ownRecord emptyTold m odd bytes places) (rulesIntake h odd bytes places)
 unfolding intakeOf batchOf
 same-intake m h odd bytes places s g =
     let xs : List ℤ = samplesIn odd bytes in
     let said = answers-alike (listens at48 facts48 verdict) xs g m h s in
-    let fit = stands-fit at48 facts48 m h s .for-query in
-    let n : ℕ = goIn (answers (listener record48 verdict) m xs) places in
+    let empty = empty-alike at48 facts48 m h s in
+    let n : ℕ = goIn (answers (listener ownRecord verdict) m xs) places in
     let front = each-front (SFits w16) (take n xs) (drop n xs) (subst SixteenBits (sym (take-append-drop n xs)) g) in
     let counted = ap (λ (l : List Said). goIn l places) said in
     record {
-      answers = λ i. toldTo (fit i) (said i);
-      consumes = λ i. consumedOf odd bytes (toldTo (fit i) (said i)) (counted i);
+      answers = λ i. toldTo (empty i) (said i);
+      consumes = λ i. consumedOf odd bytes (toldTo (empty i) (said i)) (counted i);
       text = ap linesOf (offers-agree at48 facts48 verdict (take n xs) front m h s) ∙ ap (λ (k : ℕ). textFrom rules48 h (take k xs)) counted;
-      odd = λ i. oddOf (waiting odd ++ take (consumedOf odd bytes (toldTo (fit i) (said i)) (counted i)) bytes);
-      represents = subst (λ (k : ℕ). Represents at48 (run (listener record48 verdict) m (take n xs)) (run (listener rules48 verdict) h (take k xs))) counted (runs-related (listens at48 facts48 verdict) (take n xs) front m h s .represents);
+      odd = λ i. oddOf (waiting odd ++ take (consumedOf odd bytes (toldTo (empty i) (said i)) (counted i)) bytes);
+      represents = subst (λ (k : ℕ). Represents at48 (run (listener ownRecord verdict) m (take n xs)) (run (listener rules48 verdict) h (take k xs))) counted (runs-related (listens at48 facts48 verdict) (take n xs) front m h s .represents);
     }
 
 -- ---- after any reads
@@ -104,7 +105,7 @@ module _ (reads : List Read) (r : Read) (b : Bytes (input reads ++ r .bytes)) wh
   made-odd : odd ≡ oddOf before
   made-odd = ap (λ (q : Receiving). q .odd) (any-reads reads freshCaller .leaves)
 
-  made-record : c .receiving .demodulator ≡ run (listener record48 verdict) fresh xs
+  made-record : c .receiving .demodulator ≡ run (listener ownRecord verdict) (fresh 48000) xs
   made-record = ap (λ (q : Receiving). q .demodulator) (any-reads reads freshCaller .leaves)
 
   samples : samplesOf (input reads ++ r .bytes) ≡ xs ++ (ys ++ zs)
@@ -123,7 +124,7 @@ module _ (reads : List Read) (r : Read) (b : Bytes (input reads ++ r .bytes)) wh
   fits-now = each-front (SFits w16) ys zs (each-back (SFits w16) xs (ys ++ zs) fits)
 
   stands : Stands at48 facts48 (c .receiving .demodulator) (run (listener rules48 verdict) start xs)
-  stands = rw made-record (runs-related (listens at48 facts48 verdict) xs (each-front (SFits w16) xs (ys ++ zs) fits) fresh start (stands-start at48 facts48))
+  stands = rw made-record (runs-related (listens at48 facts48 verdict) xs (each-front (SFits w16) xs (ys ++ zs) fits) (fresh 48000) start (stands-start at48 facts48))
 
   pub hear-run : SameIntake (intakeAt c r) (rulesIntake (run (listener rules48 verdict) start xs) odd seen (r .places))
   hear-run = same-intake (c .receiving .demodulator) (run (listener rules48 verdict) start xs) odd seen (r .places) stands fits-now
@@ -141,7 +142,7 @@ module _ (reads : List Read) (r : Read) (b : Bytes (input reads ++ r .bytes)) wh
     next-taken =
         let same = hear-run in
         let said = answers (listener rules48 verdict) (run (listener rules48 verdict) start xs) ys in
-        let told : toldTo true said ≡ nothing = told-nothing said calm in (
+        let told : toldTo nothing said ≡ nothing = told-nothing said calm in (
           same .answers ∙ told,
           λ few enough.
               let whole : seen ≡ given c r = looked-all (given c r) (r .places) few (omega arith) in

@@ -13,7 +13,7 @@ use lib.IntN.{ℤ}
 use lib.ListN.{length, take, drop, length-append, length-drop, take-append-drop, drop-of-length-le}
 use lib.Seq.{take-at, drop-at, drop-drop, length-take-le}
 use Rattle.machine.specs.Runs.{answers}
-use Rattle.shaping.specs.Rate.{at48}
+use Rattle.shaping.specs.Rate.{rateOf}
 use Rattle.demodulator.specs.declared.SoftDemodulator.{SoftDemodulator}
 use Rattle.demodulator.specs.Calls.{Paper, refusal, nothing, frame, done, carrier, heardPaper}
 use Rattle.demodulator.specs.Feed.{fedInto, Stretch as FedStretch}
@@ -21,9 +21,9 @@ use Rattle.demodulator.proofs.FeedSteps.{fed-some}
 use Rattle.receiving.specs.declared.Receipt.{Receipt}
 use Rattle.receiving.specs.declared.Receipt.the-variants.{Admitted}
 use Rattle.receiving.specs.declared.windows.Stretch.{Stretch}
-use Rattle.receiving.specs.Listener.{blank}
+use Rattle.receiving.specs.Listener.{blank, ownRecord}
 use Rattle.receiving.specs.Text.{goIn, Batch, refusalIn}
-use Rattle.receiving.specs.Hear.{record48, receiptPaper}
+use Rattle.receiving.specs.Hear.{receiptPaper}
 use Rattle.receiving.specs.Parts.{isOffer, refusedAfter, inFront, lineOfStretch, leftByStretch, HearsStretch, recordTold, recordBatch, HearsAll}
 use Rattle.receiving.proofs.Lines.{line-short, tail-back}
 use Rattle.receiving.proofs.FedCount.{cramped-in, none, ahead, ahead-ahead, batch-none}
@@ -39,7 +39,7 @@ offer-no-refusal (carrier there) e = refl
 
 empty-batch : (m : SoftDemodulator) (places : ℕ) → recordBatch m [] places ≡ none m
 unfolding answers goIn
-empty-batch m places = batch-none record48 m [] places refl
+empty-batch m places = batch-none ownRecord m [] places refl
 
 -- ---- how far the work has come
 pub record SoFar (xs : List ℤ) (lines₀ lines : List ℕ) (fed written : ℕ) : Type 0 where
@@ -94,20 +94,20 @@ module _ (m₀ : SoftDemodulator) (xs : List ℤ) (lines₀ : List ℕ) where
           | inl all ↦
               let out-of : length xs ≤ fed = omega arith in
               ap (λ (l : List ℤ). recordBatch m l left) (drop-of-length-le xs out-of) ∙ empty-batch m left
-          | inr more ↦ batch-none record48 m ys left (cramped-in _ left (out more))
+          | inr more ↦ batch-none ownRecord m ys left (cramped-in _ left (out more))
         ] in
         let quiet : recordTold m₀ xs ≡ nothing = t .told ∙ rw (ne-eqb fed 0 (λ z. omega arith)) in
         ends Admitted lines m fed written s (t .batch ∙ ap (ahead fed (take written lines)) no-more) (sym quiet)
 
     module _ (more : fed < length xs) (enough : 97 ≤ left) where
       abbrev f : FedStretch SoftDemodulator
-      f = fedInto at48 m ys blank
+      f = fedInto (rateOf (m .rate)) m ys blank
 
       some : 1 ≤ length ys
       some = simp length-drop (omega arith)
 
       g : Goes 0 m ys left f
-      g = rw (fed-some at48 m ys blank some) (stretch-goes 0 m ys left enough)
+      g = rw (fed-some (rateOf (m .rate)) m ys blank some) (stretch-goes 0 m ys left enough)
 
       abbrev line : List ℕ
       line = lineOfStretch f

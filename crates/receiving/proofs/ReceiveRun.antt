@@ -8,7 +8,7 @@ use Prim.Native.Nat.{ℕ, _^_, _≤_, _<_}
 use native.Mathlib.Omega.{arith}
 use lib.IntN.{ℤ}
 use lib.ListN.{length, take, drop, length-append, take-append-drop, drop-of-length-le}
-use Rattle.machine.specs.Runs.{Machine, run, answers, Each}
+use Rattle.machine.specs.Runs.{Machine, run, Each}
 use Rattle.machine.proofs.Parts.{run-joined, given-joined, each-front}
 use Rattle.machine.proofs.Simulation.{runs-related}
 use Rattle.shaping.specs.Rate.{Rate, at48}
@@ -17,15 +17,14 @@ use Rattle.shaping.proofs.RateFacts.{facts48}
 use Rattle.search.specs.declared.Reply.{Reply}
 use Rattle.search.proofs.AgeInPass.{by-test}
 use Rattle.demodulator.specs.Record.{fresh}
-use Rattle.demodulator.specs.Singles.{Single, reply, Said}
-use Rattle.demodulator_run.specs.Rules.{History, After, start, answered, single, saidAll, singleRules}
+use Rattle.demodulator.specs.Singles.{reply, Said}
+use Rattle.demodulator_run.specs.Rules.{History, After, start, answered, single, saidAll}
 use Rattle.demodulator_run.specs.Represents.{Represents}
 use Rattle.demodulator_run.proofs.Whole.{stands-start}
 use Rattle.receiving.specs.declared.Receiving.{Receiving}
 use Rattle.receiving.specs.Pairs.{samplesOf, oddOf, waiting}
-use Rattle.receiving.specs.Listener.{Rule, listedOf, listedIn, listener, calls}
+use Rattle.receiving.specs.Listener.{Rule, listedOf, listedIn, listener, calls, ownRecord}
 use Rattle.receiving.specs.Text.{verdict, linesOf, textFrom}
-use Rattle.receiving.specs.Hear.{record48}
 use Rattle.receiving.specs.Caller.{Bytes, Read, Caller, Short, freshCaller, input, given, intakeAt, calling, callerAfter, textOf, consumedBy}
 use Rattle.receiving.specs.Rules.{rulesAt, rules48, receivedText}
 use Rattle.receiving.proofs.Listener.{calls-offers}
@@ -40,9 +39,10 @@ abbrev rulesListener : Machine History ℤ Said
 rulesListener = listener rules48 verdict
 
 -- ---- the record and the rules from a fresh start
-alike-from-start : (xs : List ℤ) → SixteenBits xs → (textFrom record48 fresh xs ≡ textFrom rules48 start xs) × Represents at48 (run (listener record48 verdict) fresh xs) (run rulesListener start xs)
+alike-from-start : (xs : List ℤ) → SixteenBits xs
+    → (textFrom ownRecord (fresh 48000) xs ≡ textFrom rules48 start xs) × Represents at48 (run (listener ownRecord verdict) (fresh 48000) xs) (run rulesListener start xs)
 alike-from-start xs g =
-    (ap linesOf (same-offers at48 facts48 verdict xs g), runs-related (listens at48 facts48 verdict) xs g fresh start (stands-start at48 facts48) .represents)
+    (ap linesOf (same-offers at48 facts48 verdict xs g), runs-related (listens at48 facts48 verdict) xs g (fresh 48000) start (stands-start at48 facts48) .represents)
 
 -- ---- two parts of the input
 text-cut : (xs ys : List ℕ) → receivedText (xs ++ ys) ≡ receivedText xs ++ textFrom rules48 (run rulesListener start (samplesOf xs)) (samplesOf (waiting (oddOf xs) ++ ys))

@@ -8,6 +8,7 @@ use lib.IntN.{ℤ}
 use lib.ListN.{length, drop}
 use lib.Ieee.{Float}
 use Rattle.machine.specs.Runs.{run, answers}
+use Rattle.shaping.specs.Rate.{samplesIn}
 use Rattle.protocol.specs.declared.Kind.{Kind}
 use Rattle.protocol.specs.declared.Refusal.{Refusal}
 use Rattle.protocol.specs.Refusals.{bare}
@@ -16,24 +17,26 @@ use Rattle.demodulator.specs.declared.SoftDemodulator.{SoftDemodulator}
 use Rattle.demodulator.specs.declared.Heard.the-variants.{Refused, Quiet, Offered}
 use Rattle.demodulator.specs.declared.Offer.{Offer}
 use Rattle.demodulator.specs.declared.AfterStretch.{AfterStretch}
-use Rattle.demodulator.specs.Fit.{recordFit}
+use Rattle.demodulator.specs.Fit.{unfitNumber, recordFit}
 use Rattle.demodulator.specs.Calls.{Paper, refusal, nothing, carrier, heardPaper, answered, timerHeld, detected}
-use Rattle.demodulator.specs.Singles.{left}
+use Rattle.demodulator.specs.Singles.{leftAt}
 use Rattle.demodulator.specs.Feed.{feed-says}
 use Rattle.house.specs.Line.{lineOf}
 use Rattle.house.specs.Accept.{accepted, symbolAt}
 use Rattle.receiving.specs.declared.Receipt.{Receipt}
 use Rattle.receiving.specs.declared.windows.Settled.{Settled}
 use Rattle.receiving.specs.declared.windows.Stretch.{Stretch}
-use Rattle.receiving.specs.Listener.{listedOf, blank, replyTo}
+use Rattle.receiving.specs.Listener.{listedOf, blank, replyTo, ownRecord}
 use Rattle.receiving.specs.Text.{verdict, ifAccepted, linesOf, goIn, batchOf, refusalIn, toldTo}
-use Rattle.receiving.specs.Hear.{record48, receiptPaper}
+use Rattle.receiving.specs.Hear.{receiptPaper}
 use Rattle.receiving.specs.Parts.{inFront, Settles, HearsStretch, recordTold, HearsAll}
 use Rattle.receiving.proofs.Lines.{length-line, line-alone}
 
 -- ---- an offer
 module _ (m : SoftDemodulator) (kind : Kind) (window : List Float) (room : List ℕ) (next : SoftDemodulator) where
-  pub settles-accepted : (after : List ℕ) → accepted kind (symbolAt window) ≡ true → next ≡ answered 10 m Accepted [] .demodulator → after ≡ lineOf window ++ drop 97 room → Settles m kind window room (record { written = 97; demodulator = next }) after
+  pub settles-accepted : (after : List ℕ) → accepted kind (symbolAt window) ≡ true
+      → next ≡ answered (samplesIn (m .rate)) m Accepted [] .demodulator → after ≡ lineOf window ++ drop 97 room
+      → Settles m kind window room (record { written = 97; demodulator = next }) after
   unfolding verdict ifAccepted
   settles-accepted after good l w = record {
     counts = rw (good, length-line window) refl;
@@ -41,7 +44,9 @@ module _ (m : SoftDemodulator) (kind : Kind) (window : List Float) (room : List 
     writes = rw (good, length-line window) w;
   }
 
-  pub settles-rejected : accepted kind (symbolAt window) ≡ false → next ≡ answered 10 m Rejected [] .demodulator → Settles m kind window room (record { written = 0; demodulator = next }) room
+  pub settles-rejected : accepted kind (symbolAt window) ≡ false
+      → next ≡ answered (samplesIn (m .rate)) m Rejected [] .demodulator
+      → Settles m kind window room (record { written = 0; demodulator = next }) room
   unfolding verdict ifAccepted
   settles-rejected bad l = record {
     counts = rw bad refl;
@@ -56,7 +61,7 @@ module _ (m : SoftDemodulator) (xs : List ℤ) (room : List ℕ) (r : AfterStret
   line a = linesOf (listedOf verdict a window)
 
   abbrev settled : Paper → SoftDemodulator
-  settled a = run record48 (r .demodulator) (map replyTo (listedOf verdict a window))
+  settled a = run ownRecord (r .demodulator) (map replyTo (listedOf verdict a window))
 
   in-words : (a : Paper) → heardPaper (r .answer) ≡ a → (written : ℕ) (next : SoftDemodulator) (after : List ℕ) → written ≡ length (line a) → next ≡ settled a → after ≡ inFront (line a) room
       → HearsStretch m xs room (record { answer = r .answer; fed = r .fed; written = written; demodulator = next }) after
@@ -81,19 +86,19 @@ module _ (m : SoftDemodulator) (xs : List ℤ) (room : List ℕ) (r : AfterStret
 
   pub stretch-offered : (o : Offer) → r .answer ≡ Offered o → (s : Settled) (after : List ℕ) → Settles (r .demodulator) (o .kind) window room s after
       → HearsStretch m xs room (record { answer = r .answer; fed = r .fed; written = s .written; demodulator = s .demodulator }) after
-  unfolding listedOf run left
+  unfolding listedOf run leftAt
   stretch-offered o e s after settles =
       in-words (heardPaper (Offered o)) (rw e refl) (s .written) (s .demodulator) after (rw line-alone (settles .counts)) (settles .leaves) (rw line-alone (settles .writes))
 
 -- ---- no sample: the call is refused where the record is unfit, and leaves all as it was
-by-fitness : (m : SoftDemodulator) (b : Bool) → refusalIn (cond (not b) (refusal (bare 1)) (carrier (timerHeld (m .control .dcd)))) ≡ cond b nothing (refusal (bare 1))
-by-fitness m true = refl
-by-fitness m false = refl
+by-fitness : (b there : Bool) (number : ℕ) → refusalIn (cond (not b) (refusal (bare number)) (carrier there)) ≡ cond b nothing (refusal (bare number))
+by-fitness true there number = refl
+by-fitness false there number = refl
 
 -- a question for the carrier is refused as an empty stretch is
-pub tests-record : (m : SoftDemodulator) → refusalIn (detected 10 m) ≡ recordTold m []
+pub tests-record : (m : SoftDemodulator) → refusalIn (detected (samplesIn (m .rate)) m) ≡ recordTold m []
 unfolding detected answers toldTo
-tests-record m = by-fitness m (recordFit 10 m)
+tests-record m = by-fitness (recordFit (samplesIn (m .rate)) m) (timerHeld (m .control .dcd)) (unfitNumber m)
 
 pub hears-nothing : (m : SoftDemodulator) (xs : List ℤ) (lines : List ℕ) (answer : Receipt) → length xs ≡ 0 → receiptPaper answer ≡ recordTold m []
     → HearsAll m xs lines (record { answer = answer; fed = 0; written = 0; demodulator = m }) lines

@@ -11,26 +11,25 @@ use lib.IntN.{ℤ}
 use lib.ListN.{length, length-append, drop-of-length-le}
 use lib.Seq.{take-all}
 use Rattle.machine.specs.Runs.{run, answers, Each}
-use Rattle.shaping.specs.Rate.{at48}
+use Rattle.shaping.specs.Rate.{rateOf}
 use Rattle.protocol.specs.Refusals.{bare}
 use Rattle.demodulator.specs.declared.SoftDemodulator.{SoftDemodulator}
-use Rattle.demodulator.specs.Fit.{recordFit, fitForSample}
+use Rattle.demodulator.specs.Fit.{unfitNumber, recordFit, fitForSample}
 use Rattle.demodulator.specs.Calls.{refusal, nothing, isRefusal, Left, demodulated}
-use Rattle.demodulator.proofs.CallCases.{sample-unfit}
 use Rattle.demodulator_laws.proofs.SampleFits.{either}
 use Rattle.demodulator_laws.proofs.SampleComes.{silent, offering, stuck, comes}
 use Rattle.receiving.specs.declared.Odd.{Odd}
 use Rattle.receiving.specs.declared.Receiving.{Receiving}
 use Rattle.receiving.specs.Pairs.{waiting}
-use Rattle.receiving.specs.Listener.{blank}
+use Rattle.receiving.specs.Listener.{blank, ownRecord}
 use Rattle.receiving.specs.Text.{goIn, Batch, toldTo}
-use Rattle.receiving.specs.Hear.{looked, samplesIn, intakeOf, record48}
+use Rattle.receiving.specs.Hear.{looked, samplesIn, intakeOf, emptyTold}
 use Rattle.receiving.specs.Parts.{recordTold, recordBatch}
 use Rattle.receiving.specs.Caller.{Read, Caller, Short, input, given, after, callerAfter, textOf, consumedBy}
 use Rattle.receiving.proofs.BytePairs.{one-waits}
 use Rattle.receiving.proofs.Lines.{line-short}
 use Rattle.receiving.proofs.FedCount.{told-none, none, batch-none}
-use Rattle.receiving.proofs.FedStretch.{RefusesAll, lineAfter, afterReply, batch-at, stuck-batch, stuck-text, stuck-after}
+use Rattle.receiving.proofs.FedStretch.{leftBySample, RefusesAll, lineAfter, afterReply, batch-at, stuck-batch, stuck-text, stuck-after}
 use Rattle.receiving.proofs.ConsumedBytes.{samples-long}
 use Rattle.receiving.proofs.AnyReads.{textBy, madeOf, text-cut, made-cut, any-reads}
 
@@ -40,37 +39,38 @@ AllIn xs b = (b .count ≡ length xs) ⊎ ((number : ℕ) × RefusesAll number (
 
 all-in : (xs : List ℤ) (m : SoftDemodulator) (places : ℕ) → 97 * length xs ≤ places → AllIn xs (recordBatch m xs places)
 unfolding answers goIn
-all-in [] m places enough = rw (batch-none record48 m [] places refl) (inl refl)
+all-in [] m places enough = rw (batch-none ownRecord m [] places refl) (inl refl)
 all-in (x ∷ xs) m places enough =
-    let goes-in : (l : Left) → demodulated at48 m x blank ≡ l → isRefusal (l .answer) ≡ false → AllIn (x ∷ xs) (recordBatch m (x ∷ xs) places) = λ l e fine.
+    let goes-in : (l : Left) → leftBySample m x ≡ l → isRefusal (l .answer) ≡ false → AllIn (x ∷ xs) (recordBatch m (x ∷ xs) places) = λ l e fine.
     subst (AllIn (x ∷ xs)) (sym (batch-at m x xs l e places (omega arith) fine))
     (elim (all-in xs (afterReply l) (places - length (lineAfter l)) (omega (arith, line-short (l .answer) (l .room)))) [
       | inl all ↦ inl (omega arith)
       | inr s ↦ inr s
     ]) in
-    elim (comes at48 m x blank) [
+    elim (comes (rateOf (m .rate)) m x blank) [
       | silent m′ e ↦ goes-in _ e refl
       | offering o m′ window e ↦ goes-in _ e refl
       | stuck number e all ↦ rw (stuck-batch number m all (x ∷ xs) places) (inr (number, all))
     ]
 
 -- ---- a call
-unfit-stuck : (m : SoftDemodulator) → recordFit 10 m ≡ false → RefusesAll 1 m
-unfolding fitForSample
-unfit-stuck m e y = sample-unfit m y blank (rw e)
+unfit-stuck : (m : SoftDemodulator) → recordFit (rateOf (m .rate) .p) m ≡ false → RefusesAll (unfitNumber m) m
+unfolding demodulated fitForSample
+unfit-stuck m e y = rw e
 
 -- refused with no sample: the record is unfit
-unfit-told : (m : SoftDemodulator) (xs : List ℤ) → length xs ≡ 0 → isRefusal (recordTold m xs) ≡ true → recordFit 10 m ≡ false
+unfit-told : (m : SoftDemodulator) (xs : List ℤ) → length xs ≡ 0 → isRefusal (recordTold m xs) ≡ true → recordFit (rateOf (m .rate) .p) m ≡ false
 unfolding answers toldTo
-unfit-told m [] none = by-fitness (recordFit 10 m)
+unfit-told m [] none = by-fitness (recordFit (rateOf (m .rate) .p) m)
   where
-    by-fitness : (b : Bool) → isRefusal (cond b nothing (refusal (bare 1))) ≡ true → b ≡ false
+    by-fitness : (b : Bool) → isRefusal (cond b nothing (refusal (bare (unfitNumber m)))) ≡ true → b ≡ false
     by-fitness true e = absurd (false≢true e)
     by-fitness false e = refl
 unfit-told m (x ∷ xs) none = absurd (omega arith)
 
 module _ (m : SoftDemodulator) (odd : Odd) (bytes : List ℕ) (places : ℕ) (enough : 97 * length (samplesIn odd bytes) ≤ places) where
-  call-whole : (intakeOf record48 (recordFit 10) m odd bytes places .consumed ≡ length bytes) ⊎ ((number : ℕ) × RefusesAll number (intakeOf record48 (recordFit 10) m odd bytes places .state))
+  call-whole : (intakeOf ownRecord emptyTold m odd bytes places .consumed ≡ length bytes)
+      ⊎ ((number : ℕ) × RefusesAll number (intakeOf ownRecord emptyTold m odd bytes places .state))
   unfolding intakeOf
   call-whole =
       let xs : List ℤ = samplesIn odd bytes in
@@ -80,9 +80,9 @@ module _ (m : SoftDemodulator) (odd : Odd) (bytes : List ℕ) (places : ℕ) (en
         | inl all ↦ elim (either (isRefusal (recordTold m xs))) [
           | inr fine ↦ inl (rw (fine, eq-eqb (b .count) (length xs) all))
           | inl bad ↦
-              let no-more : b ≡ none m = batch-none record48 m xs places (told-none (recordFit 10 m) _ places bad) in
+              let no-more : b ≡ none m = batch-none ownRecord m xs places (told-none (emptyTold m) _ places bad) in
               let empty : length xs ≡ 0 = sym all ∙ ap (λ (c : Batch SoftDemodulator). c .count) no-more in
-              inr (1, rw no-more (unfit-stuck m (unfit-told m xs empty bad)))
+              inr (unfitNumber m, rw no-more (unfit-stuck m (unfit-told m xs empty bad)))
         ]
       ]
 
@@ -104,7 +104,7 @@ read-whole c r none few enough =
     rw seen
     (elim (call-whole (c .receiving .demodulator) (c .receiving .odd) all (r .places) (omega (arith, few-samples (c .receiving .odd) all short))) [
       | inl e ↦
-          let out : length all ≤ intakeOf record48 (recordFit 10) (c .receiving .demodulator) (c .receiving .odd) all (r .places) .consumed = omega arith in
+          let out : length all ≤ intakeOf ownRecord emptyTold (c .receiving .demodulator) (c .receiving .odd) all (r .places) .consumed = omega arith in
           inl (drop-of-length-le all out)
       | inr s ↦ inr s
     ])

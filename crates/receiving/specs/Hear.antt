@@ -1,18 +1,18 @@
 -- A call with bytes, said once for any receiver: what it answers, how many bytes it consumes, and what it leaves. Assumes nothing.
 use mathlib.Core.Path.{_≡_}
-use mathlib.Core.Bool.{Bool, cond}
+use mathlib.Core.Bool.{cond}
 use mathlib.Core.List.{List, _++_}
 use Prim.Native.Nat.{ℕ, _-_, _*_}
 use lib.Dec.{eqb, ltb}
 use lib.IntN.{ℤ}
 use lib.ListN.{length, take, drop}
 use Rattle.machine.specs.Runs.{Machine, answers}
-use Rattle.shaping.specs.Rate.{at48}
+use Rattle.shaping.specs.Rate.{rateOf}
 use Rattle.protocol.specs.Refusals.{onPaper}
 use Rattle.demodulator.specs.declared.SoftDemodulator.{SoftDemodulator}
 use Rattle.demodulator.specs.Record.{fresh}
-use Rattle.demodulator.specs.Fit.{recordFit}
 use Rattle.demodulator.specs.Calls.{Paper, refusal, nothing, isRefusal}
+use Rattle.demodulator.specs.Feed.{emptySaid}
 use Rattle.demodulator.specs.Singles.{Single, Said}
 use Rattle.receiving.specs.declared.Odd.{Odd}
 use Rattle.receiving.specs.declared.Odd.the-variants.{Nothing}
@@ -21,7 +21,7 @@ use Rattle.receiving.specs.declared.Receipt.{Receipt}
 use Rattle.receiving.specs.declared.Receipt.the-variants.{Refused, Admitted}
 use Rattle.receiving.specs.declared.AfterBytes.{AfterBytes}
 use Rattle.receiving.specs.Pairs.{samplesOf, oddOf, waiting}
-use Rattle.receiving.specs.Listener.{listener, recordAt}
+use Rattle.receiving.specs.Listener.{listener, ownRecord}
 use Rattle.receiving.specs.Text.{verdict, Batch, batchOf, toldTo}
 
 -- ---- the bytes
@@ -46,11 +46,11 @@ pub record Intake (S : Type 0) : Type 0 where
   pub state : S
   pub odd : Odd
 
--- the call's own bytes are those that it looks at
-unfoldable pub intakeOf : {S : Type 0} → Machine S Single Said → (S → Bool) → S → Odd → List ℕ → ℕ → Intake S
-intakeOf {S} m fit s odd bytes places =
+-- the call's own bytes are those that it looks at; `empty` is what a call with no sample is answered with
+unfoldable pub intakeOf : {S : Type 0} → Machine S Single Said → (S → Paper) → S → Odd → List ℕ → ℕ → Intake S
+intakeOf {S} m empty s odd bytes places =
     let xs : List ℤ = samplesIn odd bytes in
-    let told : Paper = toldTo (fit s) (answers (listener m verdict) s xs) in
+    let told : Paper = toldTo (empty s) (answers (listener m verdict) s xs) in
     let b : Batch S = batchOf m s xs places in
     record {
       answer = told;
@@ -61,14 +61,16 @@ intakeOf {S} m fit s odd bytes places =
     }
 
 -- ---- the record
-abbrev pub record48 : Machine SoftDemodulator Single Said
-record48 = recordAt at48
+-- no sample: nothing, or 15 or 1 where the record is unfit with no filtered value tested
+abbrev pub emptyTold : SoftDemodulator → Paper
+emptyTold m = emptySaid (rateOf (m .rate) .p) m
 
 abbrev pub recordIntake : Receiving → List ℕ → ℕ → Intake SoftDemodulator
-recordIntake r bytes places = intakeOf record48 (recordFit 10) (r .demodulator) (r .odd) (looked bytes places) places
+recordIntake r bytes places = intakeOf ownRecord emptyTold (r .demodulator) (r .odd) (looked bytes places) places
 
+-- document 02 k): "The two programs .. stay at 48 kHz"
 abbrev pub freshReceiving : Receiving
-freshReceiving = record { demodulator = fresh; odd = Nothing }
+freshReceiving = record { demodulator = fresh 48000; odd = Nothing }
 
 abbrev pub receiptPaper : Receipt → Paper
 receiptPaper (Refused why) = refusal (onPaper why)

@@ -5,7 +5,6 @@ use lib.IntN.{ℤ}
 use lib.ListN.{replicate}
 use lib.Ieee.{Float, binary32, ofBits}
 use Rattle.machine.specs.Runs.{Machine, run, answers}
-use Rattle.shaping.specs.Rate.{Rate}
 use Rattle.protocol.specs.declared.Kind.{Kind}
 use Rattle.search.specs.declared.Reply.{Reply}
 use Rattle.demodulator.specs.declared.SoftDemodulator.{SoftDemodulator}
@@ -59,6 +58,6 @@ module _ {S : Type 0} (m : Machine S Single Said) (rule : Rule) where
   calls s [] = []
   calls s (x ∷ xs) = callsAt s x ++ calls (run m s (callsAt s x)) xs
 
--- ---- the record as such a receiver
-abbrev pub recordAt : Rate → Machine SoftDemodulator Single Said
-recordAt R = record { next = λ m c. left R m c .demodulator; says = λ m c. saidBy (left R m c) }
+-- ---- the record as such a receiver: each call is at the rate that it says
+abbrev pub ownRecord : Machine SoftDemodulator Single Said
+ownRecord = record { next = λ m c. left m c .demodulator; says = λ m c. saidBy (left m c) }

@@ -8,10 +8,9 @@ use lib.IntN.{ℤ}
 use lib.ListN.{length, take, drop}
 use lib.Ieee.{Float}
 use Rattle.machine.specs.Runs.{run, answers}
-use Rattle.shaping.specs.Rate.{at48}
+use Rattle.shaping.specs.Rate.{samplesIn, rateOf}
 use Rattle.protocol.specs.declared.Kind.{Kind}
 use Rattle.demodulator.specs.declared.SoftDemodulator.{SoftDemodulator}
-use Rattle.demodulator.specs.Fit.{recordFit}
 use Rattle.demodulator.specs.Calls.{Paper, refusal, nothing, frame, done, carrier, heardPaper, answered}
 use Rattle.demodulator.specs.Feed.{fedInto, Stretch as FedStretch}
 use Rattle.house.specs.Line.{lineOf}
@@ -25,9 +24,9 @@ use Rattle.receiving.specs.declared.windows.Settled.{Settled}
 use Rattle.receiving.specs.declared.windows.Stretch.{Stretch}
 use Rattle.receiving.specs.declared.windows.AfterSamples.{AfterSamples}
 use Rattle.receiving.specs.Pairs.{samplesOf, oddOf, waiting}
-use Rattle.receiving.specs.Listener.{Listed, listedOf, blank, replyTo, listener}
+use Rattle.receiving.specs.Listener.{Listed, listedOf, blank, replyTo, listener, ownRecord}
 use Rattle.receiving.specs.Text.{verdict, ifAccepted, linesOf, Batch, batchOf, refusalIn, toldTo}
-use Rattle.receiving.specs.Hear.{record48, receiptPaper}
+use Rattle.receiving.specs.Hear.{emptyTold, receiptPaper}
 
 -- ---- an answer, as the code looks at it
 abbrev pub isAdmitted : Receipt → Bool
@@ -72,7 +71,7 @@ lineFor kind window = ifAccepted (verdict kind window) (lineOf window)
 -- an offer, settled by the rule of acceptance
 pub record Settles (m : SoftDemodulator) (kind : Kind) (window : List Float) (room : List ℕ) (r : Settled) (after : List ℕ) : Type 0 where
   pub counts : r .written ≡ length (lineFor kind window)
-  pub leaves : r .demodulator ≡ answered 10 m (verdict kind window) [] .demodulator
+  pub leaves : r .demodulator ≡ answered (samplesIn (m .rate)) m (verdict kind window) [] .demodulator
   pub writes : after ≡ inFront (lineFor kind window) room
 
 -- the offer that a stretch ends with, if there is one: its line, and the record after its reply
@@ -83,22 +82,22 @@ abbrev pub lineOfStretch : FedStretch SoftDemodulator → List ℕ
 lineOfStretch f = linesOf (listedAtEnd f)
 
 abbrev pub leftByStretch : FedStretch SoftDemodulator → SoftDemodulator
-leftByStretch f = run record48 (f .state) (map replyTo (listedAtEnd f))
+leftByStretch f = run ownRecord (f .state) (map replyTo (listedAtEnd f))
 
 -- a stretch of samples, and what its answer leads to
 pub record HearsStretch (m : SoftDemodulator) (xs : List ℤ) (room : List ℕ) (r : Stretch) (after : List ℕ) : Type 0 where
-  pub answers : heardPaper (r .answer) ≡ fedInto at48 m xs blank .answer
-  pub feeds : r .fed ≡ fedInto at48 m xs blank .fed
-  pub counts : r .written ≡ length (lineOfStretch (fedInto at48 m xs blank))
-  pub leaves : r .demodulator ≡ leftByStretch (fedInto at48 m xs blank)
-  pub writes : after ≡ inFront (lineOfStretch (fedInto at48 m xs blank)) room
+  pub answers : heardPaper (r .answer) ≡ fedInto (rateOf (m .rate)) m xs blank .answer
+  pub feeds : r .fed ≡ fedInto (rateOf (m .rate)) m xs blank .fed
+  pub counts : r .written ≡ length (lineOfStretch (fedInto (rateOf (m .rate)) m xs blank))
+  pub leaves : r .demodulator ≡ leftByStretch (fedInto (rateOf (m .rate)) m xs blank)
+  pub writes : after ≡ inFront (lineOfStretch (fedInto (rateOf (m .rate)) m xs blank)) room
 
 -- ---- all samples: what the call is told, and what they come to
 abbrev pub recordTold : SoftDemodulator → List ℤ → Paper
-recordTold m xs = toldTo (recordFit 10 m) (answers (listener record48 verdict) m xs)
+recordTold m xs = toldTo (emptyTold m) (answers (listener ownRecord verdict) m xs)
 
 abbrev pub recordBatch : SoftDemodulator → List ℤ → ℕ → Batch SoftDemodulator
-recordBatch = batchOf record48
+recordBatch = batchOf ownRecord
 
 -- no more than pairs of bytes make, and none without room for a line
 pub record Roomy (xs : List ℤ) (lines : List ℕ) : Type 0 where

@@ -1,9 +1,9 @@
 -- What receive writes of all the bytes of its input, by the receiver's rules since a fresh start. Assumes nothing.
-use mathlib.Core.Bool.{true}
 use mathlib.Core.List.{List}
 use Prim.Native.Nat.{ℕ}
 use Rattle.machine.specs.Runs.{Machine}
 use Rattle.shaping.specs.Rate.{Rate, at48}
+use Rattle.demodulator.specs.Calls.{nothing}
 use Rattle.demodulator.specs.Singles.{Single, Said}
 use Rattle.demodulator_run.specs.Rules.{History, start, singleRules}
 use Rattle.receiving.specs.declared.Odd.{Odd}
@@ -22,4 +22,4 @@ receivedText bytes = textFrom rules48 start (samplesOf bytes)
 
 -- a call with bytes: the rules have no unfit record
 abbrev pub rulesIntake : History → Odd → List ℕ → ℕ → Intake History
-rulesIntake = intakeOf rules48 (λ (h : History). true)
+rulesIntake = intakeOf rules48 (λ (h : History). nothing)

@@ -1,5 +1,5 @@
 -- Document 01, 'The two programs': what receive makes of a list of samples. Over any receiver. Assumes nothing.
-use mathlib.Core.Bool.{Bool, cond, _||_}
+use mathlib.Core.Bool.{cond, _||_}
 use mathlib.Core.List.{List, [], _∷_, flatMap}
 use Prim.Native.Nat.{ℕ, _+_, _-_}
 use lib.Dec.{ltb}
@@ -8,10 +8,9 @@ use lib.ListN.{length, take}
 use lib.Ieee.{Float}
 use Rattle.machine.specs.Runs.{Machine, run, answers}
 use Rattle.protocol.specs.declared.Kind.{Kind}
-use Rattle.protocol.specs.Refusals.{bare}
 use Rattle.search.specs.declared.Reply.{Reply}
 use Rattle.search.specs.declared.Reply.the-variants.{Accepted, Rejected}
-use Rattle.demodulator.specs.Calls.{Paper, refusal, nothing, isRefusal}
+use Rattle.demodulator.specs.Calls.{Paper, nothing, isRefusal}
 use Rattle.demodulator.specs.Singles.{Single, Said}
 use Rattle.house.specs.Line.{lineOf}
 use Rattle.house.specs.Accept.{accepted, symbolAt}
@@ -54,7 +53,7 @@ abbrev pub refusalIn : Paper → Paper
 refusalIn a = cond (isRefusal a) a nothing
 
 -- "Every refusal returns its number only, with record and buffers as they were": as in `feed`, only the first sample can be refused,
--- and a call that gives none with 1, where the receiver is unfit with no filtered value tested
-unfoldable pub toldTo : Bool → List Said → Paper
-toldTo fit [] = cond fit nothing (refusal (bare 1))
-toldTo fit (a ∷ later) = refusalIn (a .answer)
+-- and what a call that gives none is answered with is given
+unfoldable pub toldTo : Paper → List Said → Paper
+toldTo empty [] = empty
+toldTo empty (a ∷ later) = refusalIn (a .answer)

@@ -63,8 +63,10 @@ impl Receiving {
     pub fn new() -> Self
         ensures { λ r. ⌜ new-says r ⌝ }
     {
+        let begun = SoftDemodulator::new(48000);
+        let demodulator = begun.demodulator;
         Receiving {
-            demodulator: SoftDemodulator::new(),
+            demodulator,
             odd: Odd::Nothing,
         }
     }

@@ -10,14 +10,14 @@ use Rattle.search.specs.declared.Turn.{Turn}
 use Rattle.search.specs.declared.Reply.{Reply}
 use Rattle.search.specs.Promises.{control-fit-says, turn-of-says, searched-says, replied-says}
 
-pub control-fit-only-answer : (c : Control) (r s : Bool) → control-fit-says c r → control-fit-says c s → r ≡ s
-control-fit-only-answer c r s = same-answer
+pub control-fit-only-answer : (p : ℕ) (c : Control) (r s : Bool) → control-fit-says p c r → control-fit-says p c s → r ≡ s
+control-fit-only-answer p c r s = same-answer
 
 pub turn-of-only-answer : (c : Control) (n : ℕ) (r s : Turn) → turn-of-says c n r → turn-of-says c n s → r ≡ s
 turn-of-only-answer c n r s = same-answer
 
-pub searched-only-answer : (c : Control) (vs : List Float) (r s : Control) → searched-says c vs r → searched-says c vs s → r ≡ s
-searched-only-answer c vs r s = same-answer
+pub searched-only-answer : (p : ℕ) (c : Control) (vs : List Float) (r s : Control) → searched-says p c vs r → searched-says p c vs s → r ≡ s
+searched-only-answer p c vs r s = same-answer
 
-pub replied-only-answer : (c : Control) (reply : Reply) (vs : List Float) (r s : Control) → replied-says c reply vs r → replied-says c reply vs s → r ≡ s
-replied-only-answer c reply vs r s = same-answer
+pub replied-only-answer : (p : ℕ) (c : Control) (reply : Reply) (vs : List Float) (r s : Control) → replied-says p c reply vs r → replied-says p c reply vs s → r ≡ s
+replied-only-answer p c reply vs r s = same-answer

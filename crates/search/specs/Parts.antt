@@ -11,8 +11,8 @@ use Rattle.search.specs.declared.Control.{Control}
 use Rattle.search.specs.Search.{carried, tried}
 
 -- `m` is what the burst's comparison came to, of whichever values
-abbrev pub Carries : Correlation → Control → Control → Type 0
-Carries m c r = (burst : SyncBurst) (v : ℕ → Float) → m ≡ correlation burst v → r ≡ carried 10 burst v c
+abbrev pub Carries : ℕ → Correlation → Control → Control → Type 0
+Carries p m c r = (burst : SyncBurst) (v : ℕ → Float) → m ≡ correlation burst v → r ≡ carried p burst v c
 
-abbrev pub Tries : Kind → Correlation → Control → Control → Type 0
-Tries kind m c r = (v : ℕ → Float) → m ≡ correlation (Frame kind) v → r ≡ tried 10 v kind c
+abbrev pub Tries : ℕ → Kind → Correlation → Control → Control → Type 0
+Tries p kind m c r = (v : ℕ → Float) → m ≡ correlation (Frame kind) v → r ≡ tried p v kind c

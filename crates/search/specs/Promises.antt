@@ -1,4 +1,4 @@
--- What the functions promise, of any control, number and values. Assumes nothing.
+-- What the functions promise, of any number of samples in a symbol, control, number and values. Assumes nothing.
 use mathlib.Core.Path.{_≡_}
 use mathlib.Core.Bool.{Bool}
 use mathlib.Core.List.{List}
@@ -12,14 +12,14 @@ use Rattle.search.specs.Search.{searched}
 use Rattle.search.specs.Turn.{turnOf, replied}
 use Rattle.search.specs.Fit.{controlFit}
 
-abbrev pub control-fit-says : Control → Bool → Type 0
-control-fit-says c r = r ≡ controlFit 10 c
+abbrev pub control-fit-says : ℕ → Control → Bool → Type 0
+control-fit-says p c r = r ≡ controlFit p c
 
 abbrev pub turn-of-says : Control → ℕ → Turn → Type 0
 turn-of-says c n r = r ≡ turnOf n c
 
-abbrev pub searched-says : Control → List Float → Control → Type 0
-searched-says c vs r = r ≡ searched 10 (valuesOf vs) c
+abbrev pub searched-says : ℕ → Control → List Float → Control → Type 0
+searched-says p c vs r = r ≡ searched p (valuesOf vs) c
 
-abbrev pub replied-says : Control → Reply → List Float → Control → Type 0
-replied-says c reply vs r = r ≡ replied 10 (valuesOf vs) reply c
+abbrev pub replied-says : ℕ → Control → Reply → List Float → Control → Type 0
+replied-says p c reply vs r = r ≡ replied p (valuesOf vs) reply c

@@ -1,6 +1,8 @@
 // The search: what eight filtered values do to the control. Their zeros lose their sign once, their spread is taken once, and each of the six bursts is compared once.
 use crate::Candidate;
 use crate::Control;
+use crate::FRAME_CARRIER;
+use crate::FRAME_REST;
 use crate::Timer;
 use crate::Wait;
 use crate::Waiting;
@@ -10,6 +12,7 @@ use decode::SYNC_MIN_GAIN;
 use protocol::Kind;
 use protocol::SyncBurst;
 ghost use mathlib.Core.Path.{_≡_};
+ghost use Prim.Native.Nat.{_*_, _-_};
 ghost use lib.Ieee.{lt};
 ghost use Rattle.decode.specs.Correlator.{threshold};
 ghost use Rattle.search.specs.TakenBurst.{heldIn, heldBy, taken, older};
@@ -20,13 +23,8 @@ ghost use Rattle.search.specs.Promises.{searched-says};
 // A diff below it is a match.
 const SYNC_THRESHOLD: f32 = 100.0;
 
-// How long the carrier is taken to last after a preamble or an end of transmission, and after a frame's burst.
-const BURST_CARRIER: u64 = 240;
-
-const FRAME_CARRIER: u64 = 3840;
-
-// A frame is due so many samples after its burst was heard whole.
-const FRAME_REST: u16 = 1840;
+// How long the carrier is taken to last after a preamble or an end of transmission, in symbols.
+const BURST_CARRIER: u64 = 24;
 
 fn is_match(m: Correlation) -> bool
     ensures { λ r. ⌜ r ≡ lt (m .diff) threshold ⌝ }
@@ -53,13 +51,14 @@ fn older(age: u8) -> u8
 }
 
 // The first part's turn of one burst: a match sets the timer, even to a sooner end.
-fn set_timer(control: Control, m: Correlation) -> Control
-    ensures { λ r. ⌜ Carries m control r ⌝ }
+fn set_timer(p: u8, control: Control, m: Correlation) -> Control
+    ensures { λ r. ⌜ Carries p m control r ⌝ }
 {
     if is_match(m) {
         let candidate = control.candidate;
         let wait = control.wait;
-        let end = end_after(control.sample, BURST_CARRIER);
+        let span = BURST_CARRIER * (p as u64);
+        let end = end_after(control.sample, span);
         return Control {
             candidate,
             wait,
@@ -147,9 +146,18 @@ fn age_or_take(control: Control, kind: Kind, m: Correlation) -> Control
     }
 }
 
+// The samples from such an age to the frame: none where the age has passed them, which no age of a byte does at 10 samples a symbol or at 5.
+fn rest_after(p: u8, age: u8) -> u16
+    ensures { λ r. ⌜ r ≡ 184 * p - age ⌝ }
+{
+    let whole = FRAME_REST * (p as u16);
+    let passed = age as u16;
+    if passed < whole { whole - passed } else { 0 }
+}
+
 // No match: where the held candidate is of the kind, its frame is awaited.
-fn await_frame(kind: Kind, control: Control) -> Control
-    ensures { λ r. ⌜ r ≡ missed 10 kind (heldIn (control .candidate)) control ⌝ }
+fn await_frame(p: u8, kind: Kind, control: Control) -> Control
+    ensures { λ r. ⌜ r ≡ missed p kind (heldIn (control .candidate)) control ⌝ }
 {
     let candidate = control.candidate;
     if let Candidate::Held {
@@ -161,8 +169,9 @@ fn await_frame(kind: Kind, control: Control) -> Control
         taken_at: _,
     } = candidate {
         if rank(k) == rank(kind) {
-            let left = FRAME_REST - (age as u16);
-            let end = end_after(control.sample, FRAME_CARRIER);
+            let left = rest_after(p, age);
+            let span = FRAME_CARRIER * (p as u64);
+            let end = end_after(control.sample, span);
             return Control {
                 candidate,
                 wait: Wait::Due(Waiting {
@@ -180,18 +189,18 @@ fn await_frame(kind: Kind, control: Control) -> Control
 }
 
 // The second part's turn of one kind.
-fn try_kind(control: Control, kind: Kind, m: Correlation) -> Control
-    ensures { λ r. ⌜ Tries kind m control r ⌝ }
+fn try_kind(p: u8, control: Control, kind: Kind, m: Correlation) -> Control
+    ensures { λ r. ⌜ Tries p kind m control r ⌝ }
 {
     if is_match(m) {
         return age_or_take(control, kind, m);
     }
-    await_frame(kind, control)
+    await_frame(p, kind, control)
 }
 
-// With nothing held, a gain that matches no burst leaves the control at once, and so do six bursts of which none matches: most searches end there.
-pub fn searched(control: Control, values: [f32; 8]) -> Control
-    ensures { λ r. ⌜ searched-says control values r ⌝ }
+// At p samples a symbol. With nothing held, a gain that matches no burst leaves the control at once, and so do six bursts of which none matches: most searches end there.
+pub fn searched(p: u8, control: Control, values: [f32; 8]) -> Control
+    ensures { λ r. ⌜ searched-says p control values r ⌝ }
 {
     let unsigned = decode::unsign_zeros(values);
     let spread = decode::spread_of(unsigned);
@@ -215,10 +224,10 @@ pub fn searched(control: Control, values: [f32; 8]) -> Control
     if free & !matched {
         return control;
     }
-    let after_preamble = set_timer(control, preamble);
-    let after_end = set_timer(after_preamble, end);
-    let after_lsf = try_kind(after_end, Kind::Lsf, lsf);
-    let after_bert = try_kind(after_lsf, Kind::Bert, bert);
-    let after_stream = try_kind(after_bert, Kind::Stream, stream);
-    try_kind(after_stream, Kind::Packet, packet)
+    let after_preamble = set_timer(p, control, preamble);
+    let after_end = set_timer(p, after_preamble, end);
+    let after_lsf = try_kind(p, after_end, Kind::Lsf, lsf);
+    let after_bert = try_kind(p, after_lsf, Kind::Bert, bert);
+    let after_stream = try_kind(p, after_bert, Kind::Stream, stream);
+    try_kind(p, after_stream, Kind::Packet, packet)
 }

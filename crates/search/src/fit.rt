@@ -1,6 +1,8 @@
 // Whether a control is fit: no phrase of 'Unfit receiver' applies to it. Tests are joined by `&`: none depends on another.
 use crate::Candidate;
 use crate::Control;
+use crate::FRAME_CARRIER;
+use crate::FRAME_REST;
 use crate::LAST_COUNT;
 use crate::Timer;
 use crate::Wait;
@@ -8,15 +10,16 @@ ghost use mathlib.Core.Path.{_≡_};
 ghost use Rattle.search.specs.Fit.{timerFit, candidateFit, held, waitFit, takenFit, keptFit};
 ghost use Rattle.search.specs.Promises.{control-fit-says};
 
-// The latest end of the carrier timer: 3,840 samples after the largest count.
-const LAST_END: u64 = 9223372036854779648;
-
-fn timer_fit(timer: Timer) -> bool
-    ensures { λ r. ⌜ r ≡ timerFit 10 timer ⌝ }
+// The timer's latest end is a frame's, set at the largest count.
+fn timer_fit(p: u8, timer: Timer) -> bool
+    ensures { λ r. ⌜ r ≡ timerFit p timer ⌝ }
 {
     match timer {
         Timer::Off => true,
-        Timer::Until(end) => end <= LAST_END,
+        Timer::Until(end) => {
+            let span = FRAME_CARRIER * (p as u64);
+            end <= LAST_COUNT + span
+        }
     }
 }
 
@@ -57,15 +60,16 @@ pub(crate) fn is_held(candidate: Candidate) -> bool
     }
 }
 
-fn wait_fit(wait: Wait, candidate: Candidate, owed: bool) -> bool
-    ensures { λ r. ⌜ r ≡ waitFit 10 wait candidate owed ⌝ }
+fn wait_fit(p: u8, wait: Wait, candidate: Candidate, owed: bool) -> bool
+    ensures { λ r. ⌜ r ≡ waitFit p wait candidate owed ⌝ }
 {
     match wait {
         Wait::Free => true,
         Wait::Due(w) => {
             let held = is_held(candidate);
             let left = w.left;
-            (1 <= left) & (left < 1840) & held & !owed
+            let whole = FRAME_REST * (p as u16);
+            (1 <= left) & (left < whole) & held & !owed
         }
     }
 }
@@ -98,8 +102,9 @@ fn kept_fit(wait: Wait) -> bool
     }
 }
 
-pub fn control_fit(control: Control) -> bool
-    ensures { λ r. ⌜ control-fit-says control r ⌝ }
+// At p samples a symbol.
+pub fn control_fit(p: u8, control: Control) -> bool
+    ensures { λ r. ⌜ control-fit-says p control r ⌝ }
 {
     let candidate = control.candidate;
     let wait = control.wait;
@@ -107,9 +112,9 @@ pub fn control_fit(control: Control) -> bool
     let owed = control.owed;
     let owed_with_candidate = owed & is_held(candidate);
     (control.sample <= LAST_COUNT)
-        & timer_fit(timer)
+        & timer_fit(p, timer)
         & candidate_fit(candidate)
-        & wait_fit(wait, candidate, owed)
+        & wait_fit(p, wait, candidate, owed)
         & !owed_with_candidate
         & taken_fit(candidate, control.sample)
         & kept_fit(wait)

@@ -1,4 +1,4 @@
-// The receiver's control: the candidate, the wait, the carrier timer, whether a reply is owed, and the count. What a sample, a search and a reply do to it reads no ring.
+// The receiver's control: the candidate, the wait, the carrier timer, whether a reply is owed, and the count. What a sample, a search and a reply do to it reads no ring. Where a span is a number of symbols, the samples in a symbol, p, are handed in.
 use protocol::Kind;
 
 mod bursts;
@@ -12,6 +12,11 @@ pub use turns::turn_of;
 
 // The largest count.
 pub const LAST_COUNT: u64 = 9223372036854775808;
+
+// A frame is due so many symbols after its burst was heard whole, and the carrier is taken to last so many.
+pub(crate) const FRAME_REST: u16 = 184;
+
+pub(crate) const FRAME_CARRIER: u64 = 384;
 
 // A place that may be decoded, or none. `taken_at` is the number of the sample at which it was taken.
 pub enum Candidate {

@@ -102,13 +102,13 @@ pub fn turn_of(control: Control, sample: u64) -> Turn
 }
 
 // A reply ends the wait for it; a frame that is not accepted leaves the sample to the search.
-pub fn replied(control: Control, reply: Reply, values: [f32; 8]) -> Control
-    ensures { λ r. ⌜ replied-says control reply values r ⌝ }
+pub fn replied(p: u8, control: Control, reply: Reply, values: [f32; 8]) -> Control
+    ensures { λ r. ⌜ replied-says p control reply values r ⌝ }
 {
     let mut settled = control;
     settled.owed = false;
     match reply {
         Reply::Accepted => settled,
-        Reply::Rejected => bursts::searched(settled, values),
+        Reply::Rejected => bursts::searched(p, settled, values),
     }
 }

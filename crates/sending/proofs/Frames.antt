@@ -16,7 +16,7 @@ use Rattle.numbers.specs.Firsts.{firsts}
 use Rattle.numbers.proofs.Tests.{holds}
 use Rattle.numbers.proofs.Below.{all-below}
 use Rattle.numbers.proofs.Firsts.{length-firsts, firsts-at, firsts-same}
-use Rattle.shaping.specs.Rate.{at48}
+use Rattle.shaping.specs.Rate.{Rate, at48}
 use Rattle.pulse.specs.Pulse.{listed}
 use Rattle.given_symbols.specs.declared.Traffic.the-variants.{Ordinary}
 use Rattle.given_symbols.specs.declared.Verdict.the-variants.{Fine}
@@ -83,9 +83,9 @@ module _ (line : List ℕ) (good : goodLine line ≡ true) where
   all-fit = fit-judged (symbolsOf line) 192 fit-at
 
   -- by every record that is fit
-  pub line-accepted : (m : SoftModulator) → settledRecord at48 m (frameOutcome 10 (GivenSymbols Ordinary) (symbolsOf line) (controlOf m)) .answer ≡ done
+  pub line-accepted : (R : Rate) (m : SoftModulator) → settledRecord R m (frameOutcome (R .p) (GivenSymbols Ordinary) (symbolsOf line) (controlOf m)) .answer ≡ done
   unfolding settledRecord frameOutcome judgedAs headed
-  line-accepted m = rw (symbols-number, all-fit)
+  line-accepted R m = rw (symbols-number, all-fit)
 
   pub gives-line : Gives (GivenSymbols Ordinary) (symbolsOf line) (given (symbolsOf line))
   unfolding Delay called settled frameOutcome judgedAs headed

@@ -9,7 +9,7 @@ use lib.ListN.{length, take, drop, replicate}
 use lib.Ieee.{le, ofBits}
 use Rattle.numbers.specs.Below.{allBelow}
 use Rattle.numbers.specs.Firsts.{firsts}
-use Rattle.shaping.specs.Rate.{at48}
+use Rattle.shaping.specs.Rate.{at48, rateOf}
 use Rattle.protocol.specs.Refusals.{bare}
 use Rattle.modulator.specs.declared.ModulatorFrame.the-variants.{EndOfTransmission}
 use Rattle.modulator.specs.Paper.{refusal, done}
@@ -141,24 +141,25 @@ unfolding past-end opened partOf starting wholeCase
 past-end-taken = bytes-taken (opened .sending) past-end past-end-done
 
 -- ---- a fresh sender's end of transmission, which is then read
-fresh-ends : provided at48 fresh EndOfTransmission noSymbols .answer ≡ done
+fresh-ends : provided at48 (fresh 48000) EndOfTransmission noSymbols .answer ≡ done
 unfolding provided settled frameOutcome recordFit windowFit pulseFit allBelow fresh ofBits le
 fresh-ends = refl
 
-fresh-end-read : isRefusal (readInto at48 (provided at48 fresh EndOfTransmission noSymbols .modulator) emptyRoom .answer) ≡ false
-unfolding Delay
-fresh-end-read = read-follows fresh EndOfTransmission noSymbols tt fresh-ends emptyRoom
+fresh-end-read : let taken = provided at48 (fresh 48000) EndOfTransmission noSymbols .modulator in isRefusal (readInto (rateOf (taken .rate)) taken emptyRoom .answer) ≡ false
+unfolding Delay fresh
+fresh-end-read = read-follows (fresh 48000) EndOfTransmission noSymbols tt fresh-ends emptyRoom
 
 -- ---- an unfit sender, "cursor past 80", with half of the whole case's line at hand
 unfit : Sending
 unfit = record {
   modulator = record {
-    «next_transmission» = fresh .«next_transmission»;
-    «filter_win» = fresh .«filter_win»;
+    rate = 48000;
+    «next_transmission» = fresh 48000 .«next_transmission»;
+    «filter_win» = fresh 48000 .«filter_win»;
     «filter_cursor» = 81;
-    progress = fresh .progress;
-    pending = fresh .pending;
-    buffer = fresh .buffer;
+    progress = fresh 48000 .progress;
+    pending = fresh 48000 .pending;
+    buffer = fresh 48000 .buffer;
   };
   line = wholeCase;
   have = 50;

@@ -8,7 +8,7 @@ use lib.Dec.{ltb}
 use lib.IntN.{pos}
 use lib.ListN.{length, length-replicate}
 use lib.Ieee.{Float}
-use Rattle.shaping.specs.Rate.{at48}
+use Rattle.shaping.specs.Rate.{rateOf}
 use Rattle.given_symbols.specs.declared.Traffic.the-variants.{Ordinary}
 use Rattle.modulator.specs.declared.ModulatorFrame.{ModulatorFrame}
 use Rattle.modulator.specs.declared.ModulatorFrame.the-variants.{Symbols as GivenSymbols}
@@ -26,7 +26,7 @@ use Rattle.sending.proofs.Parts.{read-within}
 
 part-within : (s : Sending) (frame : ModulatorFrame) (symbols : List Float) (bad last : Bool) → partOf s frame symbols bad last .length ≤ 5440
 unfolding partOf
-part-within s frame symbols bad last = omega (arith, read-within (provided at48 (s .modulator) frame symbols .modulator) emptyRoom, length-replicate 2720 (pos 0))
+part-within s frame symbols bad last = omega (arith, read-within (provided (rateOf (s .modulator .rate)) (s .modulator) frame symbols .modulator) emptyRoom, length-replicate 2720 (pos 0))
 
 judged-within : (s : Sending) → judged s .length ≤ 5440
 unfolding judged

@@ -11,18 +11,18 @@ use Rattle.numbers.specs.Firsts.{firsts}
 use Rattle.numbers.proofs.Firsts.{length-firsts}
 use Rattle.machine.specs.Runs.{run, answers, Each}
 use Rattle.machine.proofs.Parts.{run-joined, each-joined}
-use Rattle.shaping.specs.Rate.{at48}
+use Rattle.shaping.specs.Rate.{at48, rateOf}
 use Rattle.shaping.proofs.RateFacts.{facts48}
 use Rattle.modulator.specs.declared.SoftModulator.{SoftModulator}
 use Rattle.modulator.specs.declared.ModulatorFrame.{ModulatorFrame}
 use Rattle.modulator.specs.declared.Pending.{Pending}
 use Rattle.modulator.specs.Paper.{done, wrote}
 use Rattle.modulator.specs.Frame.{Symbols}
-use Rattle.modulator.specs.Record.{fresh}
 use Rattle.modulator.specs.Calls.{provided}
+use Rattle.modulator.specs.Calls.{Left as SenderLeft}
 use Rattle.modulator.specs.Calls.{read as readInto}
 use Rattle.modulator_run.specs.Rules.{Call, provide, read, Sent, Said, After, start, after, framed, drained, called, rules, sentAll}
-use Rattle.modulator_run.specs.Run.{left, saidBy, sender, recordAfter, Given}
+use Rattle.modulator_run.specs.Run.{leftAt, saidBy, sender, freshAt, recordAfter, Given}
 use Rattle.modulator_run.specs.Pieces.{counted}
 use Rattle.modulator_run.proofs.SenderRun.{answers-from}
 use Rattle.sending.specs.declared.Sending.{Sending}
@@ -57,6 +57,13 @@ module _ (s : Sending) (cs : List Call) (xs : List Float) (sits : Sits (s .modul
   abbrev m : SoftModulator
   m = s .modulator
 
+  -- the two calls, at the rate that the record says
+  abbrev taken : SenderLeft
+  taken = provided (rateOf (m .rate)) m frame symbols
+
+  abbrev out : SenderLeft
+  out = readInto (rateOf (taken .modulator .rate)) (taken .modulator) emptyRoom
+
   abbrev before : Sent
   before = sentAll at48 cs
 
@@ -78,27 +85,27 @@ module _ (s : Sending) (cs : List Call) (xs : List Float) (sits : Sits (s .modul
   frame-called = gives .calls before (sits .padding)
 
   -- what the two calls say, by the record and by the rules
-  said : answers (sender at48) m (partCalls frame symbols) ≡ answers (rules at48) before (partCalls frame symbols)
+  said : answers sender m (partCalls frame symbols) ≡ answers (rules at48) before (partCalls frame symbols)
   said = rw (sits .by) (answers-from at48 facts48 cs (partCalls frame symbols) (sits .given) calls-given)
 
-  each-said : (saidBy (provided at48 m frame symbols) ≡ called at48 before (provide frame symbols) .said)
-      × (saidBy (readInto at48 (provided at48 m frame symbols .modulator) emptyRoom) ≡ called at48 (called at48 before (provide frame symbols) .sent) (read emptyRoom) .said)
-  unfolding answers left
+  each-said : (saidBy taken ≡ called at48 before (provide frame symbols) .said)
+      × (saidBy out ≡ called at48 (called at48 before (provide frame symbols) .sent) (read emptyRoom) .said)
+  unfolding answers leftAt
   each-said = both said
 
-  frame-said : provided at48 m frame symbols .answer ≡ done
+  frame-said : taken .answer ≡ done
   frame-said = ap (λ (x : Said). x .answer) (each-said .0 ∙ ap (λ (a : After). a .said) frame-called)
 
-  read-said : saidBy (readInto at48 (provided at48 m frame symbols .modulator) emptyRoom) ≡ drained at48 emptyRoom next .said
+  read-said : saidBy out ≡ drained at48 emptyRoom next .said
   read-said =
       each-said .1
       ∙ ap (λ (a : After). called at48 (a .sent) (read emptyRoom) .said) frame-called
       ∙ ap (λ (a : After). a .said) (read-called next emptyRoom)
 
-  count-said : readInto at48 (provided at48 m frame symbols .modulator) emptyRoom .answer ≡ wrote (10 * f .count)
+  count-said : out .answer ≡ wrote (10 * f .count)
   count-said = ap (λ (x : Said). x .answer) read-said ∙ all-read before f (gives .few) pending
 
-  room-said : readInto at48 (provided at48 m frame symbols .modulator) emptyRoom .room ≡ samplesBehind xs new ++ drop (10 * f .count) emptyRoom
+  room-said : out .room ≡ samplesBehind xs new ++ drop (10 * f .count) emptyRoom
   room-said =
       ap (λ (x : Said). x .room) read-said
       ∙ room-read before f (gives .few) pending
@@ -112,10 +119,10 @@ module _ (s : Sending) (cs : List Call) (xs : List Float) (sits : Sits (s .modul
       ∙ ap (λ (a : After). called at48 (a .sent) (read emptyRoom) .sent) frame-called
       ∙ ap (λ (a : After). a .sent) (read-called next emptyRoom)
 
-  sits-next : Sits (readInto at48 (provided at48 m frame symbols .modulator) emptyRoom .modulator) (cs ++ partCalls frame symbols) (xs ++ new)
-  unfolding run left
+  sits-next : Sits (out .modulator) (cs ++ partCalls frame symbols) (xs ++ new)
+  unfolding run leftAt
   sits-next = record {
-    by = rw (sits .by) (sym (run-joined (sender at48) cs (partCalls frame symbols) fresh));
+    by = rw (sits .by) (sym (run-joined sender cs (partCalls frame symbols) (freshAt at48)));
     given = each-joined Given cs (partCalls frame symbols) (sits .given) calls-given;
     symbols =
         ap (λ (x : Sent). x .symbols) both-called ∙ then-symbols before f (gives .few) pending ∙ ap (λ (l : List Float). l ++ new) (sits .symbols);

@@ -10,7 +10,7 @@ use lib.IntN.{ℤ}
 use lib.ListN.{length, take, replicate, length-take}
 use lib.Ieee.{Float}
 use lib.Seq.{paste, take-all, take-take, length-take-le}
-use Rattle.shaping.specs.Rate.{at48}
+use Rattle.shaping.specs.Rate.{samplesIn, rateOf}
 use Rattle.given_symbols.specs.declared.Traffic.the-variants.{Ordinary}
 use Rattle.modulator.specs.declared.SoftModulator.{SoftModulator}
 use Rattle.modulator.specs.declared.ModulatorFrame.{ModulatorFrame}
@@ -33,13 +33,13 @@ use Rattle.sending.specs.Text.{hasFeed, sampleBytes}
 use Rattle.sending.specs.Calls.{withModulator, emptyRoom, partOf, quiet, starting, opened, lacking, atHand, added, held, nextLine, judged, Says}
 
 -- a read writes no more than the room holds
-pub read-within : (m : SoftModulator) (room : List ℤ) → counted (readInto at48 m room .answer) ≤ length room
+pub read-within : (m : SoftModulator) (room : List ℤ) → counted (readInto (rateOf (m .rate)) m room .answer) ≤ length room
 unfolding counted drained
-read-within m room = by-test (recordFit 10 m) refl
+read-within m room = by-test (recordFit (samplesIn (m .rate)) m) refl
   where
-    by-test : (t : Bool) → recordFit 10 m ≡ t → counted (readInto at48 m room .answer) ≤ length room
-    by-test true e = rw (read-fit at48 m room e) (omega arith)
-    by-test false e = rw (read-unfit at48 m room e) (omega arith)
+    by-test : (t : Bool) → recordFit (samplesIn (m .rate)) m ≡ t → counted (readInto (rateOf (m .rate)) m room .answer) ≤ length room
+    by-test true e = rw (read-fit (rateOf (m .rate)) m room e) (omega arith)
+    by-test false e = rw (read-unfit (rateOf (m .rate)) m room e) (omega arith)
 
 pub counted-within : {m : SoftModulator} {room : List ℤ} {r : AfterRead} {after : List ℤ} → read-output-samples-says m room r after → counted (readPaper (r .answer)) ≤ length room
 counted-within {m} {room} said = rw (said .answers) (read-within m room)
@@ -59,7 +59,7 @@ part-said s frame symbols bad last given out after bytes n first second b k = re
   ends = refl;
 }
 
-pub open-said : (m : SoftModulator) → m ≡ fresh → (r : AfterPart)
+pub open-said : (m : SoftModulator) → m ≡ fresh 48000 → (r : AfterPart)
     → Says (partOf (record { modulator = m; line = replicate 97 0; have = 0; number = 1 }) (Preamble Ordinary (record { 0 = 0 })) noSymbols false false) r → Says opened r
 unfolding opened starting
 open-said m e r said = rw e at said

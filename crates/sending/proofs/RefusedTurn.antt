@@ -1,12 +1,12 @@
 -- A refused turn leaves what it was given; and which turns are refused. Assumes nothing.
-use mathlib.Core.Path.{_≡_, refl, sym, _∙_}
+use mathlib.Core.Path.{_≡_, refl, sym, subst, _∙_}
 use mathlib.Core.Bool.{Bool, true, false, not, cond, _&&_}
 use mathlib.Core.List.{List, [], _∷_}
 use Prim.Native.Nat.{ℕ}
 use lib.Dec.{ltb}
 use lib.IntN.{ℤ}
 use lib.Ieee.{Float}
-use Rattle.shaping.specs.Rate.{at48}
+use Rattle.shaping.specs.Rate.{Rate, samplesIn, rateOf}
 use Rattle.protocol.specs.Refusals.{PaperRefusal, bare}
 use Rattle.given_symbols.specs.declared.Traffic.the-variants.{Ordinary}
 use Rattle.modulator.specs.declared.SoftModulator.{SoftModulator}
@@ -14,14 +14,14 @@ use Rattle.modulator.specs.declared.ModulatorFrame.{ModulatorFrame}
 use Rattle.modulator.specs.declared.ModulatorFrame.the-variants.{Symbols as GivenSymbols, EndOfTransmission}
 use Rattle.modulator.specs.Paper.{refusal, done}
 use Rattle.modulator.specs.Record.{controlOf}
-use Rattle.modulator.specs.Fit.{recordFit}
+use Rattle.modulator.specs.Fit.{recordFit, unfitNumber}
 use Rattle.modulator.specs.Outcome.{frameOutcome}
 use Rattle.modulator.specs.Calls.{left, settled, drained, provided}
 use Rattle.modulator.specs.Calls.{read as readInto}
 use Rattle.modulator.proofs.Cases.{read-fit}
 use Rattle.modulator_run.specs.Rules.{provide}
-use Rattle.modulator_run.specs.Run.{Delay, Given}
-use Rattle.modulator_run.specs.Run.{left as senderLeft}
+use Rattle.modulator_laws.proofs.RateKept.{provided-rate}
+use Rattle.modulator_run.specs.Run.{leftAt, Delay, Given}
 use Rattle.modulator_run.proofs.SenderRun.{stays-fit}
 use Rattle.house.specs.Line.{goodLine, symbolsOf, noSymbols}
 use Rattle.sending.specs.declared.Sending.{Sending}
@@ -61,16 +61,17 @@ pub turn-answer : (s : Sending) (bytes : List ℕ) → turned s bytes .answer �
 turn-answer s bytes = turned-answer s bytes ∙ moved-answer s bytes
 
 -- ---- by the sender's record
--- a fit sender takes the frame, and any other refuses it with 1
+-- a fit sender takes the frame, and any other refuses it with 1, or with 15 for its rate
 abbrev Takeable : TurnFrame → Type 0
-Takeable f = (m : SoftModulator) → answerTo m f ≡ cond (isGiven f && not (recordFit 10 m)) (refusal (bare 1)) done
+Takeable f = (m : SoftModulator) → answerTo m f ≡ cond (isGiven f && not (recordFit (samplesIn (m .rate)) m)) (refusal (bare (unfitNumber m))) done
 
-takeable : (frame : ModulatorFrame) (symbols : List Float) → ((m : SoftModulator) → settled at48 m (frameOutcome 10 frame symbols (controlOf m)) .answer ≡ done) → Takeable (given frame symbols)
+takeable : (frame : ModulatorFrame) (symbols : List Float) → ((R : Rate) (m : SoftModulator) → settled R m (frameOutcome (R .p) frame symbols (controlOf m)) .answer ≡ done) → Takeable (given frame symbols)
 unfolding answerTo isGiven provided
-takeable frame symbols fine m = by-test (recordFit 10 m)
+takeable frame symbols fine m = by-test (recordFit (samplesIn (m .rate)) m)
   where
-    by-test : (fit : Bool) → cond (not fit) (left (refusal (bare 1)) m []) (settled at48 m (frameOutcome 10 frame symbols (controlOf m))) .answer ≡ cond (not fit) (refusal (bare 1)) done
-    by-test true = fine m
+    by-test : (fit : Bool) → cond (not fit) (left (refusal (bare (unfitNumber m))) m []) (settled (rateOf (m .rate)) m (frameOutcome (samplesIn (m .rate)) frame symbols (controlOf m))) .answer
+        ≡ cond (not fit) (refusal (bare (unfitNumber m))) done
+    by-test true = fine (rateOf (m .rate)) m
     by-test false = refl
 
 none-takeable : Takeable noFrame
@@ -79,7 +80,7 @@ none-takeable m = refl
 
 end-takeable : Takeable endFrame
 unfolding settled frameOutcome
-end-takeable = takeable EndOfTransmission noSymbols λ m. refl
+end-takeable = takeable EndOfTransmission noSymbols λ R m. refl
 
 line-takeable : (s : Sending) → Takeable (lineFrame s)
 unfolding lineFrame
@@ -96,26 +97,29 @@ unfolding turnFrame
 turn-takeable s [] = end-takeable
 turn-takeable s (b ∷ bytes) = line-takeable (held s (b ∷ bytes))
 
--- A turn is refused exactly if it gives the sender a frame and the sender's record is unfit, and then with 1.
-pub refused-exactly : (s : Sending) (bytes : List ℕ) → turned s bytes .answer ≡ cond (isGiven (turnFrame s bytes) && not (recordFit 10 (s .modulator))) (refusal (bare 1)) done
+-- A turn is refused exactly if it gives the sender a frame and the sender's record is unfit, and then with 1, or with 15 for its rate.
+pub refused-exactly : (s : Sending) (bytes : List ℕ) → turned s bytes .answer ≡ cond (isGiven (turnFrame s bytes) && not (recordFit (samplesIn (s .modulator .rate)) (s .modulator))) (refusal (bare (unfitNumber (s .modulator)))) done
 refused-exactly s bytes = turn-answer s bytes ∙ turn-takeable s bytes (s .modulator)
 
 -- ---- the second call of a part
-admitted-fit : (m : SoftModulator) (frame : ModulatorFrame) (symbols : List Float) → provided at48 m frame symbols .answer ≡ done → recordFit 10 m ≡ true
+admitted-fit : (R : Rate) (m : SoftModulator) (frame : ModulatorFrame) (symbols : List Float) → provided R m frame symbols .answer ≡ done → recordFit (R .p) m ≡ true
 unfolding provided
-admitted-fit m frame symbols fine = by-test (recordFit 10 m) fine
+admitted-fit R m frame symbols fine = by-test (recordFit (R .p) m) fine
   where
-    by-test : (fit : Bool) → cond (not fit) (left (refusal (bare 1)) m []) (settled at48 m (frameOutcome 10 frame symbols (controlOf m))) .answer ≡ done → fit ≡ true
+    by-test : (fit : Bool) → cond (not fit) (left (refusal (bare (unfitNumber m))) m []) (settled R m (frameOutcome (R .p) frame symbols (controlOf m))) .answer ≡ done → fit ≡ true
     by-test true e = refl
     by-test false e = cc
 
 -- Where the sender takes a frame, the read that follows is not refused: no refusal is hidden in what a part writes.
-pub read-follows : (m : SoftModulator) (frame : ModulatorFrame) (symbols : List Float) → Delay frame → provided at48 m frame symbols .answer ≡ done → (room : List ℤ)
-    → isRefusal (readInto at48 (provided at48 m frame symbols .modulator) room .answer) ≡ false
-unfolding drained Given senderLeft
+pub read-follows : (m : SoftModulator) (frame : ModulatorFrame) (symbols : List Float) → Delay frame → provided (rateOf (m .rate)) m frame symbols .answer ≡ done → (room : List ℤ)
+    → let taken = provided (rateOf (m .rate)) m frame symbols .modulator in isRefusal (readInto (rateOf (taken .rate)) taken room .answer) ≡ false
+unfolding drained Given leftAt
 read-follows m frame symbols byte fine room =
-    let fit : recordFit 10 (provided at48 m frame symbols .modulator) ≡ true = stays-fit at48 m (admitted-fit m frame symbols fine) (provide frame symbols) byte in
-    rw (read-fit at48 (provided at48 m frame symbols .modulator) room fit)
+    let R = rateOf (m .rate) in
+    let taken = provided R m frame symbols .modulator in
+    let fit : recordFit (R .p) taken ≡ true = stays-fit R m (admitted-fit R m frame symbols fine) (provide frame symbols) byte in
+    let there : isRefusal (readInto R taken room .answer) ≡ false = rw (read-fit R taken room fit) in
+    subst (λ (rate : ℕ). isRefusal (readInto (rateOf rate) taken room .answer) ≡ false) (sym (provided-rate R m frame symbols)) there
 
 -- ---- what it leaves
 -- Whenever a turn is refused, it leaves the sending that it was given, takes no byte, and nothing is to be written.

@@ -7,7 +7,7 @@ use lib.Dec.{ltb}
 use lib.IntN.{ℤ, pos}
 use lib.ListN.{length, take, drop, replicate}
 use lib.Ieee.{Float}
-use Rattle.shaping.specs.Rate.{at48}
+use Rattle.shaping.specs.Rate.{rateOf}
 use Rattle.given_symbols.specs.declared.Traffic.the-variants.{Ordinary}
 use Rattle.modulator.specs.declared.SoftModulator.{SoftModulator}
 use Rattle.modulator.specs.declared.ModulatorFrame.{ModulatorFrame}
@@ -56,8 +56,8 @@ emptyRoom = replicate 2720 (pos 0)
 
 unfoldable pub partOf : Sending → ModulatorFrame → List Float → Bool → Bool → Left
 partOf s frame symbols bad last =
-    let given : SenderLeft = provided at48 (s .modulator) frame symbols in
-    let out : SenderLeft = readInto at48 (given .modulator) emptyRoom in
+    let given : SenderLeft = provided (rateOf (s .modulator .rate)) (s .modulator) frame symbols in
+    let out : SenderLeft = readInto (rateOf (given .modulator .rate)) (given .modulator) emptyRoom in
     record {
       answer = given .answer;
       sending = withModulator (out .modulator) s;
@@ -72,9 +72,9 @@ partOf s frame symbols bad last =
 abbrev pub quiet : Paper → Sending → Bool → Left
 quiet answer s bad = record { answer = answer; sending = s; bytes = replicate 5440 0; length = 0; taken = 0; bad = bad; last = false }
 
--- ---- "Send writes preamble (TxDelay 0)"
+-- ---- "Send writes preamble (TxDelay 0)"; "The two programs .. stay at 48 kHz"
 unfoldable pub starting : Sending
-starting = record { modulator = fresh; line = replicate 97 0; have = 0; number = 1 }
+starting = record { modulator = fresh 48000; line = replicate 97 0; have = 0; number = 1 }
 
 unfoldable pub opened : Left
 opened = partOf starting (Preamble Ordinary (record { 0 = 0 })) noSymbols false false

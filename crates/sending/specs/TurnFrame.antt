@@ -4,7 +4,7 @@ use mathlib.Core.List.{List, [], _∷_}
 use Prim.Native.Nat.{ℕ}
 use lib.Dec.{ltb}
 use lib.Ieee.{Float}
-use Rattle.shaping.specs.Rate.{at48}
+use Rattle.shaping.specs.Rate.{rateOf}
 use Rattle.given_symbols.specs.declared.Traffic.the-variants.{Ordinary}
 use Rattle.modulator.specs.declared.SoftModulator.{SoftModulator}
 use Rattle.modulator.specs.declared.ModulatorFrame.{ModulatorFrame}
@@ -40,4 +40,4 @@ isGiven (given frame symbols) = true
 
 unfoldable pub answerTo : SoftModulator → TurnFrame → Paper
 answerTo m noFrame = done
-answerTo m (given frame symbols) = provided at48 m frame symbols .answer
+answerTo m (given frame symbols) = provided (rateOf (m .rate)) m frame symbols .answer

@@ -96,8 +96,10 @@ impl Sending {
     pub fn open() -> AfterPart
         ensures { λ r. ⌜ open-says r ⌝ }
     {
+        let begun = SoftModulator::new(48000);
+        let modulator = begun.modulator;
         let sending = Sending {
-            modulator: SoftModulator::new(),
+            modulator,
             line: [0; 97],
             have: 0,
             number: 1,

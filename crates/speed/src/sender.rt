@@ -1,4 +1,4 @@
-// The sender over frames of the same symbols, each read to its end. The checksum takes in how many samples each read wrote, and the last frame's samples.
+// The sender over frames of the same symbols, each read to its end, at 48,000 or 24,000 samples a second. The checksum takes in how many samples each read wrote, and the last frame's samples.
 use crate::sums;
 use given_symbols::Traffic;
 use modulator::ModulatorFrame;
@@ -12,8 +12,9 @@ fn count_of(answer: Read) -> u64 {
     }
 }
 
-pub(crate) fn frames(count: u32, symbols: [f32; 192]) -> u64 {
-    let mut sender = SoftModulator::new();
+pub(crate) fn frames(rate: u32, count: u32, symbols: [f32; 192]) -> u64 {
+    let begun = SoftModulator::new(rate);
+    let mut sender = begun.modulator;
     let mut room = [0i16; 1920];
     let mut sum: u64 = 0;
     let mut i: u32 = 0;

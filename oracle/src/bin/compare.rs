@@ -23,12 +23,16 @@ mod modem;
 mod protocol;
 #[path = "../random.rs"]
 mod random;
+#[path = "../rate.rs"]
+#[allow(dead_code)]
+mod rate;
 /// shaping.rs, whole.
 mod shaping {
     include!(concat!(env!("OUT_DIR"), "/shaping.rs"));
 }
 #[path = "../signal/mod.rs"]
 mod signal;
+#[cfg(not(feature = "rate24"))]
 #[path = "../unamended/mod.rs"]
 mod unamended;
 
@@ -71,7 +75,7 @@ fn main() -> ExitCode {
         }
         program.end().expect("the port's program ends");
     }
-    println!("No difference. Compared:");
+    println!("No difference at {} kHz. Compared:", rate::RATE / 1000);
     print!("{tally}");
     ExitCode::SUCCESS
 }

@@ -22,6 +22,9 @@ mod programs;
 mod protocol;
 #[path = "../random.rs"]
 mod random;
+#[path = "../rate.rs"]
+#[allow(dead_code)]
+mod rate;
 /// shaping.rs, whole.
 mod shaping {
     include!(concat!(env!("OUT_DIR"), "/shaping.rs"));
@@ -38,6 +41,7 @@ use modem::{Demodulator, Modulator, ModulatorFrame, SoftDemodulator, SoftModulat
 use port::{Job, Port};
 use programs::{programs, Sides};
 use random::Random;
+use rate::{FRAME, P, RATE};
 use std::env;
 use std::hint::black_box;
 use std::path::PathBuf;
@@ -46,9 +50,9 @@ use std::time::{Duration, Instant};
 /// How often each side runs an input; odd, for the median.
 const RUNS: usize = 11;
 
-/// The samples of an input: a hundred frames.
-const SAMPLES: usize = 192_000;
-const FRAMES: usize = SAMPLES / 1920;
+/// An input is as long as a hundred frames.
+const FRAMES: usize = 100;
+const SAMPLES: usize = FRAMES * FRAME;
 
 fn main() {
     let path = |name| PathBuf::from(env::var_os(name).expect("tools/speed names it"));
@@ -58,6 +62,7 @@ fn main() {
     };
     let mut port = Port::start(&sides.port.join("speed"));
     println!("The port's time over the old modem's, median of {RUNS} runs each.");
+    println!("{} kHz", RATE / 1000);
     println!();
     println!("receiver    samples  offers  by value  in bulk");
     let mut random = Random::new(21);
@@ -75,16 +80,19 @@ fn main() {
     sender(&mut port, &mut random);
     port.end();
     println!();
-    programs(&sides, &path("SPEED_ROOM"));
+    // The programs stay at 48 kHz.
+    if RATE == 48_000 {
+        programs(&sides, &path("SPEED_ROOM"));
+    }
 }
 
 /// A preamble without end.
 fn preamble() -> Vec<i16> {
     let mut sender = SoftModulator::new();
     let mut samples = vec![0; SAMPLES];
-    for frame in samples.chunks_mut(1920) {
+    for frame in samples.chunks_mut(FRAME) {
         sender.provide_next_frame(Some(ModulatorFrame::Preamble { tx_delay: 0 }));
-        assert_eq!(sender.read_output_samples(frame), 1920);
+        assert_eq!(sender.read_output_samples(frame), FRAME);
     }
     samples
 }
@@ -127,7 +135,7 @@ fn receiver(port: &mut Port, name: &str, samples: &[i16]) {
 
 /// The checksum, as crates/speed takes it (its receiver.rt), the time, and how many offers there were.
 fn old_receiver(samples: &[i16]) -> (u64, Duration, usize) {
-    lay_replies(&"a".repeat(samples.len() / 1000 + 1));
+    lay_replies(&"a".repeat(samples.len() / (100 * P) + 1));
     let mut receiver = SoftDemodulator::new();
     let (mut sum, mut offers) = (0, 0);
     let start = Instant::now();

@@ -1,15 +1,18 @@
 //! One call of the sender, to both sides.
 
-use super::flat::{self, samples_differ, say, senders_differ, Sender};
+use super::flat::{self, samples_differ, say, senders_differ, unused_differ, Sender};
 use super::flat::{ACTION, AMOUNT, SENDER_REFUSAL};
 use super::port::{Program, Sending};
 use super::refusals;
+#[cfg(not(feature = "rate24"))]
+use super::unamended;
 use super::values::not_numbers;
-use super::{caught, tally::Tally, unamended};
+use super::{caught, tally::Tally};
 use crate::bits::row;
 use crate::harness::{a_packet, a_stream, an_lsf, lay_symbols};
 use crate::modem::peek::{lay_window, sending};
 use crate::modem::{Modulator, ModulatorAction, ModulatorFrame, SoftModulator};
+use crate::rate::WINDOW;
 
 #[derive(Clone)]
 pub enum Call {
@@ -20,7 +23,7 @@ pub enum Call {
     Update([u64; 3]),
     Run,
     /// A made-up window and its cursor; no call of the modem's own.
-    Window(usize, Box<[f32; 81]>),
+    Window(usize, Box<[f32; WINDOW]>),
 }
 
 #[derive(Clone, Copy, Debug)]
@@ -75,10 +78,15 @@ impl Pair {
             return self.refused(&before, &room, expected.0, tally);
         }
         caught(|| self.ask_old(call, &room))??;
-        let mut what = senders_differ(&flat::sender(&self.old), &self.port);
-        if let Call::Update(counts) = call {
-            what = what.or_else(|| unamended::difference(&before, *counts, &self.port, tally));
-        }
+        let what = senders_differ(&flat::sender(&self.old), &self.port)
+            .or_else(|| unused_differ(&before, &self.port));
+        let ends = matches!(call, Call::Update(_)) && before.owes_end();
+        tally.ends_unread += u64::from(ends && before.is_unread());
+        #[cfg(not(feature = "rate24"))]
+        let what = what.or_else(|| match call {
+            Call::Update(counts) => unamended::difference(&before, *counts, &self.port, tally),
+            _ => None,
+        });
         what.map_or(Ok(true), Err)
     }
 
@@ -109,7 +117,7 @@ impl Pair {
             Call::Run => Sending::Run,
             Call::Window(cursor, values) => {
                 port.numbers[flat::CURSOR] = *cursor as u64;
-                port.window = **values;
+                port.window[..WINDOW].copy_from_slice(&values[..]);
                 return;
             }
         };
@@ -124,7 +132,9 @@ impl Pair {
         number: u64,
         tally: &mut Tally,
     ) -> Result<bool, String> {
-        if let Some(what) = senders_differ(before, &self.port) {
+        if let Some(what) =
+            senders_differ(before, &self.port).or_else(|| unused_differ(before, &self.port))
+        {
             return Err(format!(
                 "after refusal {number}, with what was there as the old: {what}"
             ));

@@ -7,8 +7,9 @@ use crate::decode::KINDS;
 use crate::modem::found::Found;
 use crate::modem::kept::{Control, Held, Sending};
 use crate::modem::{lay, peek, SoftDemodulator, SoftModulator};
+use crate::rate::{RATE, RING, STORE, WINDOW};
 
-/// The places of the receiver's numbers. Up to `OWED` they are the record, after it an answer.
+/// The places of the receiver's numbers. Up to `RECEIVER_RATE` they are the record, after it an answer.
 pub const FILTER_CURSOR: usize = 0;
 pub const RX_CURSOR: usize = 1;
 pub const COUNT: usize = 2;
@@ -22,34 +23,40 @@ pub const WAIT_MARK: usize = 9;
 pub const TIMER_HELD: usize = 10;
 pub const TIMER_END: usize = 11;
 pub const OWED: usize = 12;
-pub const REFUSAL: usize = 13;
-pub const ANSWER: usize = 14;
-pub const OFFERED_AT: usize = 15;
-pub const OFFER_TAKEN: usize = 16;
-pub const OFFER_AGE: usize = 17;
-pub const OFFER_MARK: usize = 18;
-pub const CARRIER: usize = 19;
-pub const GIVEN: usize = 20;
-pub const NUMBERS: usize = 21;
+pub const RECEIVER_RATE: usize = 13;
+pub const REFUSAL: usize = 14;
+pub const ANSWER: usize = 15;
+pub const OFFERED_AT: usize = 16;
+pub const OFFER_TAKEN: usize = 17;
+pub const OFFER_AGE: usize = 18;
+pub const OFFER_MARK: usize = 19;
+pub const CARRIER: usize = 20;
+pub const GIVEN: usize = 21;
+pub const NUMBERS: usize = 22;
 
 /// What stands for no kind.
 pub const NO_KIND: u64 = 4;
 
 /// Where the candidate's floats are, after the ring.
-pub const DIFF: usize = 1920;
-pub const GAIN: usize = 1921;
-pub const SHIFT: usize = 1922;
+pub const DIFF: usize = VALUES;
+pub const GAIN: usize = VALUES + 1;
+pub const SHIFT: usize = VALUES + 2;
+pub const FLOATS: usize = VALUES + 3;
 
 /// Where the candidate's floats, the ring and the window begin among a receiver's bytes, and where they end.
 const THREE_AT: usize = 8 * NUMBERS;
 const RING_AT: usize = THREE_AT + 16;
-const WINDOW_AT: usize = RING_AT + 4 * 1920;
+const WINDOW_AT: usize = RING_AT + 4 * VALUES;
 const RECEIVER_BYTES: usize = WINDOW_AT + 2 * PLACES;
 
-/// The places of the port's window, which keeps each sample twice.
+/// The places of the port's window, and those that the rate uses: each sample is kept twice.
 pub const PLACES: usize = 162;
+pub const USED: usize = 2 * WINDOW;
 
-const RECEIVER_NAMES: [&str; OWED + 1] = [
+/// The places of the port's ring, of which the rate uses the first `RING`.
+pub const VALUES: usize = 1920;
+
+const RECEIVER_NAMES: [&str; RECEIVER_RATE + 1] = [
     "window cursor",
     "ring cursor",
     "count",
@@ -63,12 +70,13 @@ const RECEIVER_NAMES: [&str; OWED + 1] = [
     "a timer held",
     "timer end",
     "a reply owed",
+    "rate",
 ];
 
 #[derive(Clone)]
 pub struct Receiver {
     pub window: [i16; PLACES],
-    pub floats: [f32; 1923],
+    pub floats: [f32; FLOATS],
     pub numbers: [u64; NUMBERS],
 }
 
@@ -76,7 +84,7 @@ impl Receiver {
     pub fn empty() -> Self {
         Receiver {
             window: [0; PLACES],
-            floats: [0.0; 1923],
+            floats: [0.0; FLOATS],
             numbers: [0; NUMBERS],
         }
     }
@@ -86,7 +94,7 @@ impl Receiver {
         let mut bytes = [0; RECEIVER_BYTES];
         wire::put_numbers(&mut bytes[..THREE_AT], &self.numbers);
         wire::put_floats(&mut bytes[THREE_AT..RING_AT], &self.floats[DIFF..]);
-        wire::put_floats(&mut bytes[RING_AT..WINDOW_AT], self.ring());
+        wire::put_floats(&mut bytes[RING_AT..WINDOW_AT], &self.floats[..VALUES]);
         wire::put_samples(&mut bytes[WINDOW_AT..], &self.window);
         bytes
     }
@@ -94,24 +102,32 @@ impl Receiver {
     pub fn lay(&mut self, bytes: &[u8; RECEIVER_BYTES]) {
         wire::numbers(bytes, &mut self.numbers);
         wire::floats(&bytes[THREE_AT..], &mut self.floats[DIFF..]);
-        wire::floats(&bytes[RING_AT..], &mut self.floats[..1920]);
+        wire::floats(&bytes[RING_AT..], &mut self.floats[..VALUES]);
         wire::samples(&bytes[WINDOW_AT..], &mut self.window);
     }
 
-    /// The old modem's window: the first half.
-    pub fn half(&self) -> &[i16; 81] {
-        self.window[..81].try_into().expect("81 places")
+    /// The old modem's window: the first half of the places in use.
+    pub fn half(&self) -> &[i16; WINDOW] {
+        self.window[..WINDOW].try_into().expect("the rate's places")
     }
 
-    /// Each sample twice, 81 places apart.
-    pub fn lay_twice(&mut self, window: &[i16; 81]) {
-        for half in self.window.chunks_mut(81) {
+    /// Each sample twice, a window apart.
+    pub fn lay_twice(&mut self, window: &[i16; WINDOW]) {
+        for half in self.window[..USED].chunks_mut(WINDOW) {
             half.copy_from_slice(window);
         }
     }
 
-    pub fn ring(&self) -> &[f32; 1920] {
-        self.floats[..1920].try_into().expect("1,920 places")
+    /// The old modem's ring: the places in use.
+    pub fn ring(&self) -> &[f32; RING] {
+        self.floats[..RING].try_into().expect("the rate's places")
+    }
+
+    /// This record with what another one has in the places that the rate does not use.
+    pub fn with_unused_of(mut self, other: &Receiver) -> Self {
+        self.window[USED..].copy_from_slice(&other.window[USED..]);
+        self.floats[RING..VALUES].copy_from_slice(&other.floats[RING..VALUES]);
+        self
     }
 
     pub fn cursors(&self) -> (usize, usize) {
@@ -149,12 +165,17 @@ impl Receiver {
 
     pub fn set_control(&mut self, control: Control, found: Found, owed: bool) {
         let laid = numbers(self.cursors(), control, found, owed);
-        self.numbers[..=OWED].copy_from_slice(&laid);
+        self.numbers[..=RECEIVER_RATE].copy_from_slice(&laid);
         self.floats[DIFF..].copy_from_slice(&three(control));
     }
 }
 
-fn numbers(cursors: (usize, usize), control: Control, found: Found, owed: bool) -> [u64; OWED + 1] {
+fn numbers(
+    cursors: (usize, usize),
+    control: Control,
+    found: Found,
+    owed: bool,
+) -> [u64; RECEIVER_RATE + 1] {
     let kind = |held: Held| KINDS.iter().position(|&kind| kind == held.burst);
     [
         cursors.0 as u64,
@@ -173,6 +194,7 @@ fn numbers(cursors: (usize, usize), control: Control, found: Found, owed: bool) 
         u64::from(control.timer.is_some()),
         control.timer.unwrap_or(0),
         u64::from(owed),
+        RATE as u64,
     ]
 }
 
@@ -191,12 +213,12 @@ pub fn room_after(numbers: &[u64], mut before: Vec<f32>, symbols: &[f32]) -> Vec
     before
 }
 
-/// The record of the old modem, with what it does not keep itself.
+/// The record of the old modem, with what it does not keep itself. What it has no places for is 0.
 pub fn receiver(old: &SoftDemodulator, found: Found) -> Receiver {
     let (window, ring) = lay::rings(old);
     let mut flat = Receiver::empty();
     flat.lay_twice(window);
-    flat.floats[..1920].copy_from_slice(ring);
+    flat.floats[..RING].copy_from_slice(ring);
     let (filter, rx) = peek::cursors(old);
     flat.numbers[FILTER_CURSOR] = filter as u64;
     flat.numbers[RX_CURSOR] = rx as u64;
@@ -219,7 +241,7 @@ pub fn scalars_differ(
 ) -> Option<String> {
     let control = peek::control(old);
     let ours = numbers(peek::cursors(old), control, found, false);
-    if let Some(i) = (0..=OWED).find(|&i| ours[i] != port[i]) {
+    if let Some(i) = (0..=RECEIVER_RATE).find(|&i| ours[i] != port[i]) {
         return Some(say(RECEIVER_NAMES[i], ours[i], port[i]));
     }
     let [diff, gain, shift] = three(control);
@@ -248,7 +270,7 @@ pub fn reports_differ(found: Found, port: &[u64]) -> Option<String> {
 }
 
 pub fn receivers_differ(old: &Receiver, port: &Receiver) -> Option<String> {
-    if let Some(i) = (0..=OWED).find(|&i| old.numbers[i] != port.numbers[i]) {
+    if let Some(i) = (0..=RECEIVER_RATE).find(|&i| old.numbers[i] != port.numbers[i]) {
         return Some(say(RECEIVER_NAMES[i], old.numbers[i], port.numbers[i]));
     }
     if let Some(i) = (0..PLACES).find(|&i| old.window[i] != port.window[i]) {
@@ -302,17 +324,18 @@ pub const WISH: usize = 8;
 pub const LATENCY: usize = 9;
 pub const FILL: usize = 10;
 pub const CAPACITY: usize = 11;
-pub const SENDER_REFUSAL: usize = 12;
-pub const ACTION: usize = 13;
-pub const AMOUNT: usize = 14;
-pub const SENDER_NUMBERS: usize = 15;
+pub const SENDER_RATE: usize = 12;
+pub const SENDER_REFUSAL: usize = 13;
+pub const ACTION: usize = 14;
+pub const AMOUNT: usize = 15;
+pub const SENDER_NUMBERS: usize = 16;
 
 /// Where the values and the store begin among a sender's bytes, and where they end.
 const VALUES_AT: usize = 8 * SENDER_NUMBERS;
 const STORE_AT: usize = VALUES_AT + 4 * 81;
 const SENDER_BYTES: usize = STORE_AT + 2 * 4000;
 
-const SENDER_NAMES: [&str; CAPACITY + 1] = [
+const SENDER_NAMES: [&str; SENDER_RATE + 1] = [
     "window cursor",
     "length",
     "read place",
@@ -325,6 +348,7 @@ const SENDER_NAMES: [&str; CAPACITY + 1] = [
     "latency",
     "fill",
     "capacity",
+    "rate",
 ];
 
 #[derive(Clone)]
@@ -359,11 +383,15 @@ impl Sender {
     }
 
     /// A record of the old modem by its parts: the window and its cursor, the store, and what it keeps besides.
-    pub fn of((cursor, window): (usize, [f32; 81]), store: &[i16; 4000], kept: Sending) -> Self {
+    pub fn of(
+        (cursor, window): (usize, [f32; WINDOW]),
+        store: &[i16; STORE],
+        kept: Sending,
+    ) -> Self {
         let mut flat = Sender::empty();
-        flat.store = *store;
-        flat.window = window;
-        flat.numbers[..=CAPACITY].copy_from_slice(&[
+        flat.store[..STORE].copy_from_slice(store);
+        flat.window[..WINDOW].copy_from_slice(&window);
+        flat.numbers[..=SENDER_RATE].copy_from_slice(&[
             cursor as u64,
             kept.length as u64,
             kept.read as u64,
@@ -376,12 +404,22 @@ impl Sender {
             kept.latency as u64,
             kept.fill as u64,
             kept.capacity as u64,
+            RATE as u64,
         ]);
         flat
     }
 
     pub fn cursor(&self) -> usize {
         self.numbers[CURSOR] as usize
+    }
+
+    pub fn owes_end(&self) -> bool {
+        self.numbers[END_OWED] == 1
+    }
+
+    /// Whether padding or samples of a frame are left to be read.
+    pub fn is_unread(&self) -> bool {
+        self.numbers[PADDING] > 0 || self.numbers[READ] < self.numbers[LENGTH]
     }
 
     /// What a fit record keeps besides, as the old modem has it.
@@ -408,15 +446,35 @@ pub fn sender(old: &SoftModulator) -> Sender {
 
 /// The old modem with a fit record's values in its private fields.
 pub fn old_sender(flat: &Sender) -> SoftModulator {
-    lay::sender(&flat.store, flat.cursor(), &flat.window, flat.kept())
+    let store = flat.store[..STORE].try_into().expect("the rate's places");
+    let window = flat.window[..WINDOW].try_into().expect("the rate's places");
+    lay::sender(store, flat.cursor(), window, flat.kept())
 }
 
 pub fn senders_differ(old: &Sender, port: &Sender) -> Option<String> {
-    if let Some(i) = (0..=CAPACITY).find(|&i| old.numbers[i] != port.numbers[i]) {
+    if let Some(i) = (0..=SENDER_RATE).find(|&i| old.numbers[i] != port.numbers[i]) {
         return Some(say(SENDER_NAMES[i], old.numbers[i], port.numbers[i]));
     }
-    samples_differ("store, place", &old.store, &port.store)
-        .or_else(|| floats_differ("window, place", &old.window, &port.window))
+    samples_differ("store, place", &old.store[..STORE], &port.store).or_else(|| {
+        let [old, port] = [old, port].map(|side| &side.window[..WINDOW]);
+        floats_differ("window, place", old, port)
+    })
+}
+
+/// The places that the rate does not use: no call changes them.
+pub fn unused_differ(before: &Sender, port: &Sender) -> Option<String> {
+    samples_differ(
+        "unused store, place",
+        &before.store[STORE..],
+        &port.store[STORE..],
+    )
+    .or_else(|| {
+        floats_differ(
+            "unused window, place",
+            &before.window[WINDOW..],
+            &port.window[WINDOW..],
+        )
+    })
 }
 
 pub fn samples_differ(name: &str, old: &[i16], port: &[i16]) -> Option<String> {

@@ -15,6 +15,7 @@ use crate::modem::kept::Control;
 use crate::modem::peek::control;
 use crate::modem::{Demodulator, SoftDemodulator};
 use crate::random::Random;
+use crate::rate::RATE;
 
 /// The longest stretch between two comparisons of the whole rings.
 const STRETCH: usize = 4096;
@@ -104,6 +105,7 @@ struct Sides<'a> {
 impl<'a> Sides<'a> {
     fn new(program: &'a mut Program) -> Self {
         let mut port = Receiver::empty();
+        port.numbers[flat::RECEIVER_RATE] = RATE as u64;
         program.hear(Hearing::Fresh, &mut port, &mut []);
         Sides {
             program,

@@ -13,6 +13,7 @@ pub mod smallest;
 pub mod steps;
 pub mod stretches;
 pub mod tally;
+#[cfg(not(feature = "rate24"))]
 pub mod unamended;
 pub mod values;
 pub mod wire;

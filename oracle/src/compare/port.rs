@@ -3,6 +3,7 @@
 
 use super::flat::{Receiver, Sender, ANSWER, NO_KIND, NUMBERS, REFUSAL};
 use super::wire;
+use crate::rate::RATE;
 use std::io::{BufReader, BufWriter, Error, Read, Result, Write};
 use std::path::Path;
 use std::process::{Child, ChildStdin, ChildStdout, Command, Stdio};
@@ -155,7 +156,7 @@ impl Program {
     /// The record is as the call left it, and so is the room, which is read into.
     pub fn send(&mut self, call: Sending, record: &mut Sender, room: &mut [i16]) {
         let (head, symbols) = match call {
-            Sending::Fresh => ([0; 4], &[][..]),
+            Sending::Fresh => ([0, RATE as u64, 0, 0], &[][..]),
             Sending::Provide(frame, steps, symbols) => {
                 ([1, frame, u64::from(steps), symbols.len() as u64], symbols)
             }

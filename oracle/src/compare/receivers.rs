@@ -1,14 +1,15 @@
-//! Made-up receiver records: fit ones that no run reaches, and ones that one of document 01's phrases spoils.
+//! Made-up receiver records of the build's rate: fit ones that no run reaches, ones that a phrase of the unfit list
+//! spoils, and ones of a rate that is none.
 
 use super::flat::*;
 use super::refusals::tested;
 use super::steps::{Case, Step};
-use super::values::{in_range, nan, numbered, out_of_range};
+use super::values::{bad_rate, in_range, nan, numbered, out_of_range};
 use crate::decode::{signs, sync_burst_correlation, SyncBurst, KINDS};
 use crate::modem::found::Found;
 use crate::modem::kept::{Control, Held};
 use crate::random::Random;
-use crate::shaping::RRC_48K;
+use crate::rate::{tap, BURST_CARRIER, FRAME_CARRIER, P, REST, RING, WINDOW};
 
 const LAST: u64 = 1 << 63;
 
@@ -43,6 +44,9 @@ pub fn made_up(random: &mut Random) -> Case {
     if random.below(8) == 0 {
         spoil(random, &mut record, &step);
     }
+    if random.below(24) == 0 {
+        record.numbers[RECEIVER_RATE] = bad_rate(random);
+    }
     let size = match random.below(40) {
         0 => random.below(192),
         1 => 0,
@@ -59,28 +63,34 @@ fn any_sample(random: &mut Random) -> i16 {
     }
 }
 
-/// Both rings with their cursors, and nothing else.
+/// Both rings with their cursors, and nothing else. The places that the rate does not use hold anything.
 fn rings(random: &mut Random) -> Receiver {
     let mut record = Receiver::empty();
     let level = *random.pick(&[0, 20, 500, 32_767]);
-    record.lay_twice(&[(); 81].map(|()| random.around(level) as i16));
+    record.lay_twice(&[(); WINDOW].map(|()| random.around(level) as i16));
     let scale = *random.pick(&[0.0, 1.0, 40.0, 1000.0, 1_000_000.0]);
-    for value in &mut record.floats[..1920] {
+    for value in &mut record.floats[..RING] {
         *value = in_range(random, scale);
     }
-    record.numbers[FILTER_CURSOR] = random.below(81) as u64;
+    for sample in &mut record.window[USED..] {
+        *sample = random.sample();
+    }
+    for value in &mut record.floats[RING..VALUES] {
+        *value = out_of_range(random);
+    }
+    record.numbers[FILTER_CURSOR] = random.below(WINDOW) as u64;
     record.numbers[RX_CURSOR] = match random.below(4) {
-        0 => random.below(80) as u64,
-        _ => random.below(1920) as u64,
+        0 => random.below(8 * P) as u64,
+        _ => random.below(RING) as u64,
     };
     record
 }
 
 /// The filtered value of the window from a cursor on: one rounding an operation, in the Rust's order.
-fn filtered(window: &[i16; 81], cursor: usize) -> f32 {
+fn filtered(window: &[i16; WINDOW], cursor: usize) -> f32 {
     let mut out = 0.0;
-    for (i, tap) in RRC_48K.iter().enumerate() {
-        out += tap * f32::from(window[(cursor + i) % 81]);
+    for i in 0..WINDOW {
+        out += tap(i) * f32::from(window[(cursor + i) % WINDOW]);
     }
     out
 }
@@ -93,12 +103,12 @@ fn burst(random: &mut Random, record: &mut Receiver, step: &Step) -> [f32; 8] {
         Step::Sample { sample, .. } => {
             let mut window = *record.half();
             window[cursor] = sample;
-            filtered(&window, (cursor + 1) % 81)
+            filtered(&window, (cursor + 1) % WINDOW)
         }
         _ => {
             let newest = filtered(record.half(), cursor);
             // What a reply searches: the newest value is the last sample's.
-            record.floats[(rx + 1919) % 1920] = newest;
+            record.floats[(rx + RING - 1) % RING] = newest;
             newest
         }
     };
@@ -107,7 +117,7 @@ fn burst(random: &mut Random, record: &mut Receiver, step: &Step) -> [f32; 8] {
     } else {
         rx
     };
-    let place = |j: usize| (after + 1919 + 1920 - 10 * (7 - j)) % 1920;
+    let place = |j: usize| (after + 2 * RING - 1 - P * (7 - j)) % RING;
     if random.below(4) > 0 {
         let signs = signs(*random.pick(if newest > 0.0 { &UP } else { &DOWN }));
         let offset = newest.abs() * random.unit() * *random.pick(&[0.0, 0.05, 0.35]);
@@ -142,23 +152,23 @@ fn control(random: &mut Random, owed: bool, eight: [f32; 8]) -> Control {
     }
     let wait = (candidate.is_some() && random.below(2) == 0).then(|| match random.below(4) {
         0 => 2,
-        1 => 1 + random.below(1839) as u16,
+        1 => 1 + random.below(REST - 1) as u16,
         _ => 1,
     });
     let timer = (random.below(3) > 0).then(|| match random.below(7) {
         0 => 0,
-        1 => LAST + 3840,
+        1 => LAST + FRAME_CARRIER,
         2 => count.saturating_sub(1),
         3 => count,
         4 => count + 1,
-        5 => count + 239,
-        _ => count + random.below(3900) as u64,
+        5 => count + BURST_CARRIER - 1,
+        _ => count + random.below(390 * P) as u64,
     });
     Control {
         count,
         candidate,
         wait,
-        timer: timer.map(|end| end.min(LAST + 3840)),
+        timer: timer.map(|end| end.min(LAST + FRAME_CARRIER)),
     }
 }
 
@@ -216,7 +226,7 @@ fn held(random: &mut Random, eight: [f32; 8]) -> Held {
 
 /// Not-a-numbers and what is out of range, in places that the call does not test.
 fn lay_not_numbers(random: &mut Random, record: &mut Receiver, step: &Step) {
-    let mut free = [true; 1920];
+    let mut free = [true; RING];
     for place in tested(record, step) {
         free[place] = false;
     }
@@ -234,14 +244,17 @@ fn spoil(random: &mut Random, record: &mut Receiver, step: &Step) {
         let places: Vec<usize> = tested(record, step).collect();
         let (n, f) = (&mut record.numbers, &mut record.floats);
         match random.below(16) {
-            0 => n[FILTER_CURSOR] = *random.pick(&[81, 82, u64::MAX]),
+            0 => n[FILTER_CURSOR] = *random.pick(&[WINDOW as u64, WINDOW as u64 + 1, u64::MAX]),
             // A cursor this large is tested no further.
             1 => {
-                n[RX_CURSOR] = *random.pick(&[1920, 1921, u64::MAX]);
+                n[RX_CURSOR] = *random.pick(&[RING as u64, RING as u64 + 1, u64::MAX]);
                 return;
             }
             2 => n[COUNT] = *random.pick(&[LAST + 1, u64::MAX]),
-            3 => (n[TIMER_HELD], n[TIMER_END]) = (1, *random.pick(&[LAST + 3841, u64::MAX])),
+            3 => {
+                let end = *random.pick(&[LAST + FRAME_CARRIER + 1, u64::MAX]);
+                (n[TIMER_HELD], n[TIMER_END]) = (1, end);
+            }
             4 => hold(n, f, *random.pick(&[0, 255]), 1.0, 20.0, 0.0),
             5 => {
                 let nan = nan(random);
@@ -256,11 +269,11 @@ fn spoil(random: &mut Random, record: &mut Receiver, step: &Step) {
             7 => hold(n, f, 1, 1.0, 20.0, out_of_range(random)),
             8 => {
                 hold(n, f, 1, 1.0, 20.0, 0.0);
-                wait(n, *random.pick(&[0, 1840, 65_535]));
+                wait(n, *random.pick(&[0, REST as u64, 65_535]));
             }
             9 => {
                 let_go(n, f);
-                wait(n, 1 + random.below(1839) as u64);
+                wait(n, 1 + random.below(REST - 1) as u64);
             }
             10 => {
                 hold(n, f, 1, 1.0, 20.0, 0.0);
@@ -272,10 +285,11 @@ fn spoil(random: &mut Random, record: &mut Receiver, step: &Step) {
             }
             12 => {
                 hold(n, f, 1, 1.0, 20.0, 0.0);
-                (n[WAIT_HELD], n[WAIT_LEFT], n[WAIT_AGE]) = (1, 1 + random.below(1839) as u64, 0);
+                wait(n, 1 + random.below(REST - 1) as u64);
+                n[WAIT_AGE] = 0;
             }
             13 => {
-                let sample = &mut record.window[random.below(PLACES)];
+                let sample = &mut record.window[random.below(USED)];
                 *sample = sample.wrapping_add(1 + random.below(65_535) as i16);
             }
             _ if places.is_empty() => {}
@@ -284,7 +298,7 @@ fn spoil(random: &mut Random, record: &mut Receiver, step: &Step) {
     }
 }
 
-fn hold(n: &mut [u64; NUMBERS], f: &mut [f32; 1923], age: u64, diff: f32, gain: f32, shift: f32) {
+fn hold(n: &mut [u64; NUMBERS], f: &mut [f32; FLOATS], age: u64, diff: f32, gain: f32, shift: f32) {
     (n[KIND], n[AGE], n[TAKEN_AT]) = (2, age, n[COUNT]);
     f[DIFF..].copy_from_slice(&[diff, gain, shift]);
 }
@@ -293,7 +307,7 @@ fn wait(n: &mut [u64; NUMBERS], left: u64) {
     (n[WAIT_HELD], n[WAIT_LEFT], n[WAIT_AGE]) = (1, left, 1);
 }
 
-fn let_go(n: &mut [u64; NUMBERS], f: &mut [f32; 1923]) {
+fn let_go(n: &mut [u64; NUMBERS], f: &mut [f32; FLOATS]) {
     (n[KIND], n[AGE], n[TAKEN_AT]) = (NO_KIND, 0, 0);
     f[DIFF..].copy_from_slice(&[0.0; 3]);
 }

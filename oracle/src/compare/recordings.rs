@@ -3,8 +3,8 @@
 use crate::decode::{signs, BURSTS, KINDS};
 use crate::modem::{Modulator, ModulatorFrame, SoftModulator};
 use crate::random::Random;
-use crate::shaping::RRC_48K;
-use crate::signal::shaped::{matching, samples};
+use crate::rate::{tap, FRAME, P, WINDOW};
+use crate::signal::shaped::{matching, samples, FIRST};
 use crate::signal::{frame, frame_with_tail, transmission};
 
 pub struct Recording {
@@ -45,10 +45,10 @@ pub fn recording(random: &mut Random, number: usize) -> Recording {
     }
 }
 
-/// More replies than there can be offers: one comes at least 1,500 samples after another.
+/// More replies than there can be offers: one comes at least 150 symbols after another.
 fn replies(random: &mut Random, samples: usize) -> String {
     let accepted = *random.pick(&[0, 1, 4, 8]);
-    (0..samples / 1500 + 2)
+    (0..samples / (150 * P) + 2)
         .map(|_| if random.below(8) < accepted { 'a' } else { 'r' })
         .collect()
 }
@@ -58,9 +58,9 @@ fn sent(random: &mut Random) -> Vec<i16> {
     let count = 1 + random.below(8);
     let frames: Vec<_> = (0..count).map(|_| any_frame(random)).collect();
     let mut samples = transmission(&frames);
-    let late = random.below(2000);
+    let late = random.below(200 * P);
     samples.drain(..late);
-    let pause = random.below(6000);
+    let pause = random.below(600 * P);
     samples.extend(std::iter::repeat_n(0, pause));
     samples
 }
@@ -121,7 +121,7 @@ fn fading(random: &mut Random) -> Vec<i16> {
     let mut samples = sent(random);
     let mut at = 0;
     while at < samples.len() {
-        let end = (at + 20 + random.below(1500)).min(samples.len());
+        let end = (at + 2 * P + random.below(150 * P)).min(samples.len());
         let by = *random.pick(&[1.0, 0.9, 0.5, 0.1, 0.01, 0.001, 0.0, 1.9, -1.0]);
         scaled(&mut samples[at..end], by, 0.0);
         at = end;
@@ -154,7 +154,7 @@ fn clipped(random: &mut Random) -> Vec<i16> {
 /// Near the smallest gain, 16, at which a burst is heard.
 fn faint(random: &mut Random) -> Vec<i16> {
     let mut samples = sent(random);
-    let by = 1.0 / (1200.0 + random.below(1500) as f64);
+    let by = 1.0 / (120 * P + random.below(150 * P)) as f64;
     scaled(&mut samples, by, f64::from(random.around(4)));
     let level = random.below(3);
     with_noise(random, &mut samples, level);
@@ -167,7 +167,7 @@ fn spliced(random: &mut Random) -> Vec<i16> {
     let mut out = vec![];
     for _ in 0..60 {
         let from = random.pick(&sources);
-        let length = (40 + random.below(900)).min(from.len());
+        let length = (4 * P + random.below(90 * P)).min(from.len());
         let at = random.below(from.len() - length + 1);
         out.extend_from_slice(&from[at..at + length]);
     }
@@ -176,19 +176,21 @@ fn spliced(random: &mut Random) -> Vec<i16> {
 
 fn noise(random: &mut Random) -> Vec<i16> {
     let level = *random.pick(&[1, 30, 100, 1000, 10_000, 32_767]);
-    (0..20_000).map(|_| random.around(level) as i16).collect()
+    (0..2_000 * P)
+        .map(|_| random.around(level) as i16)
+        .collect()
 }
 
 /// A steady value: zeros more often than not.
 fn silence(random: &mut Random) -> Vec<i16> {
     let value = *random.pick(&[0, 0, 0, 1, -1, 1000, i16::MAX, i16::MIN]);
-    vec![value; 6_000]
+    vec![value; 600 * P]
 }
 
 fn preamble(random: &mut Random) -> Vec<i16> {
     let mut sender = SoftModulator::new();
-    let mut samples = vec![0; 1920 * 6];
-    for frame in samples.chunks_mut(1920) {
+    let mut samples = vec![0; 6 * FRAME];
+    for frame in samples.chunks_mut(FRAME) {
         sender.provide_next_frame(Some(ModulatorFrame::Preamble { tx_delay: 0 }));
         sender.read_output_samples(frame);
     }
@@ -201,23 +203,23 @@ fn preamble(random: &mut Random) -> Vec<i16> {
 fn extremes(random: &mut Random) -> Vec<i16> {
     let ends = [i16::MIN, i16::MAX];
     let mut out = vec![];
-    while out.len() < 15_000 {
+    while out.len() < 1_500 * P {
         match random.below(4) {
-            0 => out.extend((0..200).map(|_| *random.pick(&ends))),
+            0 => out.extend((0..20 * P).map(|_| *random.pick(&ends))),
             1 => {
-                let run = 1 + random.below(200);
+                let run = 1 + random.below(20 * P);
                 let end = *random.pick(&ends);
                 out.extend(std::iter::repeat_n(end, run));
             }
             2 => {
                 let up = random.below(2) == 0;
-                out.extend(RRC_48K.map(|tap| ends[usize::from((tap > 0.0) == up)]));
+                out.extend((0..WINDOW).map(|i| ends[usize::from((tap(i) > 0.0) == up)]));
             }
             _ => {
                 let by = *random.pick(&ends);
                 for sign in signs(*random.pick(&BURSTS)) {
                     let level = if sign > 0.0 { by } else { by.saturating_neg() };
-                    out.extend([level; 10]);
+                    out.extend([level; P]);
                 }
             }
         }
@@ -240,12 +242,12 @@ fn corners(random: &mut Random) -> Vec<i16> {
                 &BURSTS
             };
             let burst = *random.pick(bursts);
-            wishes.extend(matching(burst, 160 + i * apart, gain, slack));
+            wishes.extend(matching(burst, FIRST + i * apart, gain, slack));
         }
         // Several wishes can ask for samples that i16 does not hold: then this corner is left out.
         if let Some(samples) = samples(&wishes) {
             out.extend(samples);
-            out.extend([0; 1900]);
+            out.extend([0; 190 * P]);
         }
     }
     out

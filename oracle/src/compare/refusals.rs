@@ -1,10 +1,11 @@
 //! Which refusal documents 01 and 02 give for a call: 'Refusal numbers', the two unfit lists with request a's limit of
-//! a reported end, request j's of a candidate and a wait and request f's halves, and request c, the smallest number first;
-//! 0 for none. The old modem has none of them.
+//! a reported end, request j's of a candidate and a wait, request f's halves and request k's limits of 24 kHz, and
+//! requests c, b and k, in the order that they state; 0 for none. The old modem has none of them.
 
 use super::calls::{Call, Frame};
 use super::flat::*;
 use super::steps::Step;
+use crate::rate::{FRAME_CARRIER, LAST_END, MOST_PADDING, P, REST, RING, STORE, WINDOW};
 
 const LAST: u64 = 1 << 63;
 const LIMIT: f32 = 1_000_000.0;
@@ -19,11 +20,16 @@ pub fn tested(record: &Receiver, step: &Step) -> impl Iterator<Item = usize> {
     let cursor = record.numbers[RX_CURSOR] as usize;
     let due = record.numbers[WAIT_HELD] == 1 && record.numbers[WAIT_LEFT] == 1;
     let (back, count) = match step {
-        Step::Sample { .. } => (10, if due { 191 } else { 7 }),
+        Step::Sample { .. } => (P, if due { 191 } else { 7 }),
         Step::Reply { .. } => (1, 8),
         Step::Query => (0, 0),
     };
-    (0..count).map(move |j| (cursor + 3840 - back - 10 * j) % 1920)
+    (0..count).map(move |j| (cursor + 2 * RING - back - P * j) % RING)
+}
+
+/// Request k: 15, "any rate but the two, checked first". Of the two, records here say this build's alone.
+fn has_rate(rate: u64) -> bool {
+    [48_000, 24_000].contains(&rate)
 }
 
 fn candidate_fit(record: &Receiver) -> bool {
@@ -40,7 +46,7 @@ fn candidate_fit(record: &Receiver) -> bool {
 fn wait_fit(record: &Receiver) -> bool {
     let n = &record.numbers;
     n[WAIT_HELD] == 0
-        || (1..=1839).contains(&n[WAIT_LEFT])
+        || (1..REST as u64).contains(&n[WAIT_LEFT])
             && n[KIND] != NO_KIND
             && n[OWED] == 0
             && n[WAIT_AGE] != 0
@@ -48,11 +54,11 @@ fn wait_fit(record: &Receiver) -> bool {
 
 fn receiver_fit(record: &Receiver, step: &Step) -> bool {
     let n = &record.numbers;
-    record.window[..81] == record.window[81..]
-        && n[FILTER_CURSOR] < 81
-        && n[RX_CURSOR] < 1920
+    record.window[..WINDOW] == record.window[WINDOW..USED]
+        && (n[FILTER_CURSOR] as usize) < WINDOW
+        && (n[RX_CURSOR] as usize) < RING
         && n[COUNT] <= LAST
-        && (n[TIMER_HELD] == 0 || n[TIMER_END] <= LAST + 3840)
+        && (n[TIMER_HELD] == 0 || n[TIMER_END] <= LAST + FRAME_CARRIER)
         && candidate_fit(record)
         && wait_fit(record)
         && !(n[OWED] == 1 && n[KIND] != NO_KIND)
@@ -61,6 +67,9 @@ fn receiver_fit(record: &Receiver, step: &Step) -> bool {
 
 pub fn of_receiver(record: &Receiver, step: &Step, room: usize) -> u64 {
     let n = &record.numbers;
+    if !has_rate(n[RECEIVER_RATE]) {
+        return 15;
+    }
     if !receiver_fit(record, step) {
         return 1;
     }
@@ -75,16 +84,18 @@ pub fn of_receiver(record: &Receiver, step: &Step, room: usize) -> u64 {
 
 fn sender_fit(record: &Sender) -> bool {
     let n = &record.numbers;
-    n[CURSOR] <= 80
-        && record.window.iter().all(|&value| within(value, 35_461.0))
-        && n[LENGTH] <= 4000
+    (n[CURSOR] as usize) < WINDOW
+        && record.window[..WINDOW]
+            .iter()
+            .all(|&value| within(value, 35_461.0))
+        && n[LENGTH] as usize <= STORE
         && n[READ] <= n[LENGTH]
-        && n[PADDING] <= 122_400
+        && n[PADDING] as usize <= MOST_PADDING
         && [n[FILL], n[CAPACITY], n[LATENCY]]
             .iter()
             .all(|&count| count <= LARGEST_COUNT)
         && n[FILL] <= n[CAPACITY]
-        && (n[END_HELD] == 0 || n[END] <= 2 * LARGEST_COUNT + 4_000 + 122_400)
+        && (n[END_HELD] == 0 || n[END] as usize <= LAST_END)
 }
 
 /// Request c: "not a number, infinite, above 1, below -1"; "an infinity is always 72".
@@ -121,6 +132,9 @@ fn unheaded(symbols: &[f32]) -> u64 {
 
 /// The number, and the place beside it or 0.
 pub fn of_sender(record: &Sender, call: &Call) -> (u64, u64) {
+    if !has_rate(record.numbers[SENDER_RATE]) {
+        return (15, 0);
+    }
     if !sender_fit(record) {
         return (1, 0);
     }

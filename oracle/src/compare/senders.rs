@@ -6,10 +6,11 @@ use super::port::Program;
 use super::sessions::{any_call, any_window};
 use super::smallest::plainer;
 use super::tally::Tally;
-use super::values::out_of_range;
+use super::values::{bad_rate, out_of_range};
 use super::Difference;
 use crate::bits::row;
 use crate::random::Random;
+use crate::rate::{END as END_FRAME, FRAME, LAST_END, MOST_PADDING, RATE, STEP, STORE, WINDOW};
 
 /// So many records, or up to the first that shows a difference.
 pub fn compare(
@@ -57,7 +58,7 @@ fn smallest(program: &mut Program, mut record: Sender, call: &Call, what: String
         input: format!(
             "{}; numbers {:?}; window {}; store {:?}",
             written(call),
-            &record.numbers[..=CAPACITY],
+            &record.numbers[..=SENDER_RATE],
             row(&record.window),
             record.store
         ),
@@ -94,17 +95,20 @@ fn made_up(random: &mut Random) -> Sender {
     let mut record = Sender::empty();
     let level = *random.pick(&[1, 1000, 32_766]);
     record.store = [(); 4000].map(|()| random.around(level) as i16);
-    record.window = any_window(random);
-    let length: u64 = *random.pick(&[0, 1, 1920, 2720, 3999, 4000]);
+    record.window[..WINDOW].copy_from_slice(&any_window(random));
+    for unused in &mut record.window[WINDOW..] {
+        *unused = out_of_range(random);
+    }
+    let length: u64 = *random.pick(&[0, 1, FRAME, END_FRAME, STORE - 1, STORE].map(|n| n as u64));
     let read = *random.pick(&[0, length / 2, length.saturating_sub(1), length]);
-    let padding = *random.pick(&[0, 0, 1, 80, 480, 122_400]);
+    let padding = *random.pick(&[0, 0, 1, 80, STEP, MOST_PADDING].map(|n| n as u64));
     let mut count = |most: usize| random.below(most + 1) as u64;
     let (a, b) = (count(16_777_216), count(16_777_216));
     let latency = count(16_777_216);
-    let end = count(33_680_832);
+    let end = count(LAST_END);
     let flags = count(31);
-    record.numbers[..=CAPACITY].copy_from_slice(&[
-        random.below(81) as u64,
+    record.numbers[..=SENDER_RATE].copy_from_slice(&[
+        random.below(WINDOW) as u64,
         length,
         read,
         padding,
@@ -120,6 +124,7 @@ fn made_up(random: &mut Random) -> Sender {
         },
         a.min(b),
         a.max(b),
+        RATE as u64,
     ]);
     record
 }
@@ -128,17 +133,18 @@ fn made_up(random: &mut Random) -> Sender {
 fn spoil(random: &mut Random, record: &mut Sender) {
     for _ in 0..1 + random.below(2) {
         let n = &mut record.numbers;
-        match random.below(10) {
-            0 => n[CURSOR] = *random.pick(&[81, 82, u64::MAX]),
-            1 => record.window[random.below(81)] = out_of_range(random),
-            2 => record.window[random.below(81)] = *random.pick(&[35_461.004, -35_461.004]),
-            3 => n[LENGTH] = *random.pick(&[4001, u64::MAX]),
+        match random.below(11) {
+            0 => n[CURSOR] = *random.pick(&[WINDOW as u64, WINDOW as u64 + 1, u64::MAX]),
+            1 => record.window[random.below(WINDOW)] = out_of_range(random),
+            2 => record.window[random.below(WINDOW)] = *random.pick(&[35_461.004, -35_461.004]),
+            3 => n[LENGTH] = *random.pick(&[STORE as u64 + 1, u64::MAX]),
             4 => n[READ] = n[LENGTH].wrapping_add(1),
-            5 => n[PADDING] = *random.pick(&[122_401, u64::MAX]),
+            5 => n[PADDING] = *random.pick(&[MOST_PADDING as u64 + 1, u64::MAX]),
             6 => n[FILL + random.below(2)] = *random.pick(&[16_777_217, u64::MAX]),
             7 => n[LATENCY] = *random.pick(&[16_777_217, u64::MAX]),
             8 => (n[FILL], n[CAPACITY]) = (1 + n[CAPACITY].min(16_777_215), n[CAPACITY]),
-            _ => (n[END_HELD], n[END]) = (1, *random.pick(&[33_680_833, u64::MAX])),
+            9 => n[SENDER_RATE] = bad_rate(random),
+            _ => (n[END_HELD], n[END]) = (1, *random.pick(&[LAST_END as u64 + 1, u64::MAX])),
         }
     }
 }

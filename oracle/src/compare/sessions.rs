@@ -9,7 +9,7 @@ use super::values::nan;
 use super::Difference;
 use crate::modem::SoftModulator;
 use crate::random::Random;
-use crate::shaping::RRC_48K;
+use crate::rate::{tap, WINDOW, WISH};
 use crate::signal::DIBITS;
 
 /// Calls until so many are compared, or one shows a difference.
@@ -90,7 +90,10 @@ fn count(call: &Call, unread: bool, action: u64, tally: &mut Tally) {
 pub fn any_call(random: &mut Random) -> Call {
     match random.below(60) {
         0 | 1 => refused_call(random),
-        2 => Call::Window(random.below(81), Box::new(any_window(random))),
+        2 => {
+            let window = any_window(random);
+            Call::Window(random.below(WINDOW), Box::new(window))
+        }
         3..=5 => Call::Provide(Frame::None, unread_symbols(random)),
         6..=8 => {
             let steps = *random.pick(&[0, 1, 2, 3, 50, 255]);
@@ -121,7 +124,8 @@ fn any_counts(random: &mut Random) -> [u64; 3] {
     let mut count = || random.below(largest + 1) as u64;
     let (a, b, latency) = (count(), count(), count());
     let (fill, capacity) = (a.min(b), a.max(b));
-    let room = *random.pick(&[1999, 2000, 2001, 0, 16_777_216]);
+    let wish = WISH as u64;
+    let room = *random.pick(&[wish - 1, wish, wish + 1, 0, 16_777_216]);
     match random.below(3) {
         0 => [fill, (fill + room).min(16_777_216), latency],
         1 => [0, capacity, latency],
@@ -202,19 +206,19 @@ fn unread_symbols(random: &mut Random) -> Vec<f32> {
 }
 
 /// A window as no frame leaves it: its sums can pass i16.
-pub fn any_window(random: &mut Random) -> [f32; 81] {
+pub fn any_window(random: &mut Random) -> [f32; WINDOW] {
     let sort = random.below(4);
     let side = if random.below(2) == 0 {
         35_461.0
     } else {
         -35_461.0
     };
-    let turn = random.below(81);
-    let mut window = [0.0; 81];
+    let turn = random.below(WINDOW);
+    let mut window = [0.0; WINDOW];
     for (i, value) in window.iter_mut().enumerate() {
         *value = match sort {
             0 => random.unit() * 35_461.0,
-            1 => side * RRC_48K[(i + turn) % 81].signum(),
+            1 => side * tap((i + turn) % WINDOW).signum(),
             2 => *random.pick(&[0.0, -0.0, 35_461.0, -35_461.0, 1e-45, 1.0]),
             _ => side,
         };

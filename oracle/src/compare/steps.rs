@@ -17,6 +17,7 @@ use crate::modem::kept::{Control, Held};
 use crate::modem::peek::control;
 use crate::modem::{lay, Demodulator, SoftDemodulator};
 use crate::random::Random;
+use crate::rate::{P, RING, WINDOW};
 
 #[derive(Clone, Copy, Debug)]
 pub enum Step {
@@ -57,8 +58,8 @@ pub fn compare(
 fn smallest(program: &mut Program, mut case: Case, what: String) -> Difference {
     let mut found = |case: &Case| compared(program, case, &mut Tally::default());
     let mut floats = case.record.floats;
-    plainer(&mut floats[..1920], 0.0, &mut |part| {
-        case.record.floats[..1920].copy_from_slice(part);
+    plainer(&mut floats[..VALUES], 0.0, &mut |part| {
+        case.record.floats[..VALUES].copy_from_slice(part);
         found(&case).is_err()
     });
     case.record.floats = floats;
@@ -70,7 +71,7 @@ fn smallest(program: &mut Program, mut case: Case, what: String) -> Difference {
     case.record.window = window;
     let what = found(&case).err().unwrap_or(what);
     let laid = |(place, value): (usize, &f32)| format!("{place}: {}", pattern(*value));
-    let ring: Vec<String> = (case.record.floats[..1920].iter().enumerate())
+    let ring: Vec<String> = (case.record.floats[..VALUES].iter().enumerate())
         .filter(|(_, value)| value.to_bits() != 0)
         .map(laid)
         .collect();
@@ -80,7 +81,7 @@ fn smallest(program: &mut Program, mut case: Case, what: String) -> Difference {
             "{:?}; room {}; numbers {:?}; diff, gain, shift {}; window {:?}; ring, where it is not 0.0: {}",
             case.step,
             case.room.len(),
-            &case.record.numbers[..=OWED],
+            &case.record.numbers[..=RECEIVER_RATE],
             row(&case.record.floats[DIFF..]),
             case.record.window,
             ring.join(", ")
@@ -108,7 +109,7 @@ fn compared(program: &mut Program, case: &Case, tally: &mut Tally) -> Result<(),
     }
     if port.numbers[REFUSAL] != expected {
         return Err(say(
-            "refusal by document 01",
+            "refusal by documents 01 and 02",
             expected,
             port.numbers[REFUSAL],
         ));
@@ -207,7 +208,7 @@ fn sampled(
         }
         tally.record_offers += 1;
     }
-    let expected = receiver(&old, found);
+    let expected = receiver(&old, found).with_unused_of(&case.record);
     same(receivers_differ(&expected, &port))?;
     same(floats_differ("room, place", &expected_room, room))?;
     tally.record_samples += 1;
@@ -248,7 +249,7 @@ fn refused_at_255(
 /// record of one sample before, with an LSF frame due, and the same sample again.
 fn replied(case: &Case, accepted: bool, port: &Receiver, tally: &mut Tally) -> Result<(), String> {
     let (filter, rx) = case.record.cursors();
-    let cursors = ((filter + 80) % 81, (rx + 1919) % 1920);
+    let cursors = ((filter + WINDOW - 1) % WINDOW, (rx + RING - 1) % RING);
     let sample = case.record.window[cursors.0];
     let now = case.record.control();
     // A timer that has run out would be cleared by the sample, which lies before the reply.
@@ -271,7 +272,7 @@ fn replied(case: &Case, accepted: bool, port: &Receiver, tally: &mut Tally) -> R
         return Err("the old modem does not ask for the frame".to_string());
     }
     let found = Found::default().next(before, control(&old), accepted);
-    let mut expected = receiver(&old, found);
+    let mut expected = receiver(&old, found).with_unused_of(&case.record);
     if stale && expected.numbers[TIMER_HELD] == 0 {
         expected.numbers[TIMER_HELD] = 1;
         expected.numbers[TIMER_END] = case.record.numbers[TIMER_END];
@@ -316,7 +317,7 @@ fn old_demod(
 /// Whether one of the eight values that a search read is -0.0; `spared` where none was made.
 fn count_minus_zeros(port: &Receiver, spared: bool, tally: &mut Tally) {
     let rx = port.numbers[RX_CURSOR] as usize;
-    let mut eight = (0..8).map(|j| port.floats[(rx + 1919 + 1920 - 10 * j) % 1920]);
+    let mut eight = (0..8).map(|j| port.floats[(rx + 2 * RING - 1 - P * j) % RING]);
     let minus_zero = eight.any(|value| value.to_bits() == (-0.0f32).to_bits());
     tally.minus_zeros += u64::from(minus_zero && !spared);
 }

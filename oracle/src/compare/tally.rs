@@ -20,7 +20,7 @@ macro_rules! tally {
 
 tally! {
     recordings: "recordings, each from a fresh receiver",
-    samples: "samples: the filtered value, the candidate's floats and thirteen numbers after each",
+    samples: "samples: the filtered value, the candidate's floats and fourteen numbers after each",
     bulk: "of them fed in bulk too (`feed`), the record compared with that of `demod`",
     whole: "times the whole window and ring were compared",
     offers: "offers: kind, sample number, taken-at, age, mark and 192 symbols",
@@ -43,7 +43,7 @@ tally! {
     timers_cleared: "carrier timers cleared",
     carrier_yes: "carrier queries answered yes after a sample, where the Rust says no (listed)",
     sessions: "sender sessions, each from a fresh sender",
-    calls: "sender calls: the answer, the room, the store, the window and twelve numbers after each",
+    calls: "sender calls: the answer, the room, the store, the window and thirteen numbers after each",
     frames: "  frames provided",
     bert_preambles: "  of them BERT preambles",
     bert_frames: "  of them BERT frames",
@@ -89,6 +89,7 @@ tally! {
     refused_8: "calls refused with 8",
     refused_9: "calls refused with 9",
     refused_11: "calls refused with 11",
+    refused_15: "calls refused with 15",
     nan_kept: "not-a-numbers of a record that were not-a-numbers again after an accepted call",
     nan_refused: "not-a-numbers of a record that were not-a-numbers again after a refused call",
 }
@@ -109,6 +110,7 @@ impl Tally {
             8 => &mut self.refused_8,
             9 => &mut self.refused_9,
             11 => &mut self.refused_11,
+            15 => &mut self.refused_15,
             _ => unreachable!("no call is refused with {number}"),
         };
         *count += 1;

@@ -11,17 +11,19 @@ pub fn difference(
     port: &Sender,
     tally: &mut Tally,
 ) -> Option<String> {
-    let kept = before.kept();
-    let owed = u64::from(kept.end_owed);
-    if kept.padding > 0 || kept.read < kept.length {
-        tally.ends_unread += owed;
+    if before.is_unread() {
         return None;
     }
-    let mut old = lay::sender(&before.store, before.cursor(), &before.window, kept);
+    let mut old = lay::sender(
+        &before.store,
+        before.cursor(),
+        &before.window,
+        before.kept(),
+    );
     let [fill, capacity, latency] = counts.map(|count| count as usize);
     old.update_output_buffer(fill, capacity, latency);
     tally.updates_as_before += 1;
-    tally.ends_as_before += owed;
+    tally.ends_as_before += u64::from(before.owes_end());
     let left = Sender::of(peek::window(&old), lay::store(&old), peek::sending(&old));
     senders_differ(&left, port).map(|what| format!("with nothing amended: {what}"))
 }

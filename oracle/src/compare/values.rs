@@ -38,6 +38,27 @@ pub fn out_of_range(random: &mut Random) -> f32 {
     }
 }
 
+/// Request k: "any rate but the two", most often near to one of them.
+pub fn bad_rate(random: &mut Random) -> u64 {
+    const NEAR: [u64; 8] = [
+        0,
+        1,
+        23_999,
+        24_001,
+        44_100,
+        47_999,
+        48_001,
+        u32::MAX as u64,
+    ];
+    match random.below(NEAR.len() + 2) {
+        place if place < NEAR.len() => NEAR[place],
+        _ => match u64::from(random.word()) {
+            24_000 | 48_000 => 4800,
+            rate => rate,
+        },
+    }
+}
+
 /// No two places hold the same number. Not-a-numbers cannot be told apart when they come back from the port.
 pub fn numbered(places: usize) -> Vec<f32> {
     (0..places).map(|place| 0.5 + place as f32).collect()

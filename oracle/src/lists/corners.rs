@@ -6,13 +6,11 @@ use crate::decode::{name, sync_burst_correlation, SyncBurst, KINDS, SYNC_THRESHO
 use crate::lists::judge::{holds, is_tie, last_step, timers, waits};
 use crate::lists::streams::{script, Script};
 use crate::random::Random;
-use crate::signal::moved::{ends_moved, FAINTEST, OLDEST};
+use crate::rate::{BURST_CARRIER, FRAME_CARRIER, P, REST};
+use crate::signal::moved::{ends_moved, faintest, OLDEST};
 use crate::signal::shaped::{self, matching, Values, Wish, FIRST};
 use crate::signal::{heard, joined};
 use SyncBurst::{Bert, EndOfTransmission, Lsf, Packet, Preamble, Stream};
-
-/// From the sample where a candidate is taken to its frame.
-const FRAME: usize = 1840;
 
 pub fn corners() -> Vec<Script> {
     let mut corners = Vec::new();
@@ -63,9 +61,13 @@ fn pair(held: SyncBurst, second: SyncBurst, larger: bool) -> Script {
 /// are tried until the diffs agree.
 fn tie() -> Script {
     let mut random = Random::new(10);
-    let gain = 2_000.0;
     let places = [(FIRST - 1, 0.06), (FIRST, 0.05), (FIRST + 1, 0.05)];
-    let plain = shaped(&places.map(|(at, slack)| matching(Stream, at, gain, gain * slack)));
+    let at_gain = |gain: f64| {
+        let wishes = places.map(|(at, slack)| matching(Stream, at, gain, gain * slack));
+        shaped::samples(&wishes.concat())
+    };
+    let plain = [2_000.0, 500.0].into_iter().find_map(at_gain);
+    let plain = plain.expect("i16 has room for one of the gains");
     let samples = (0..100_000)
         .map(|_| heard(&mut random, &plain, 1, 0, 1))
         .find(|samples| is_tie(last_step(samples), |held, taken| held.gain != taken.gain))
@@ -119,18 +121,16 @@ fn chain() -> Script {
     script("chain", "a", with_pause(samples))
 }
 
-/// Ten bursts, whose candidates grow 1 to 10 samples old before the wait is set. Each but the first begins
-/// to match on the very sample on which the frame before it is due. Every frame is rejected.
+/// As many bursts as a symbol has samples, whose candidates grow so old, from 1 on, before the wait is set. Each
+/// but the first begins to match on the very sample on which the frame before it is due. Every frame is rejected.
 fn ages() -> Script {
     let kinds = [Lsf, Bert, Stream, Packet];
-    let bursts: Vec<Vec<i16>> = (1..=10)
-        .map(|age| aged(kinds[(age - 1) % 4], age))
-        .collect();
-    let samples = joined(&bursts, FRAME);
-    let replies = "rrrrrrrrrr";
-    let set = |age: usize| (FIRST + (age - 1) * FRAME + age, (FRAME - age) as u16);
-    assert!(waits(&samples, replies).into_iter().eq((1..=10).map(set)));
-    script("ages", replies, with_pause(samples))
+    let bursts: Vec<Vec<i16>> = (1..=P).map(|age| aged(kinds[(age - 1) % 4], age)).collect();
+    let samples = joined(&bursts, REST);
+    let replies = "r".repeat(P);
+    let set = |age: usize| (FIRST + (age - 1) * REST + age, (REST - age) as u16);
+    assert!(waits(&samples, &replies).into_iter().eq((1..=P).map(set)));
+    script("ages", &replies, with_pause(samples))
 }
 
 /// A burst that matches on so many samples, each time with a larger diff, and then no more.
@@ -153,11 +153,12 @@ fn sooner() -> Script {
     let gain = 40.0;
     let one = |burst: SyncBurst| shaped(&[matching(burst, FIRST, gain, 0.0)]);
     let [first, second, third] = [Lsf, Preamble, EndOfTransmission].map(one);
-    let samples = [joined(&[first, second], FRAME), third, vec![0; 300]].concat();
+    let samples = [joined(&[first, second], REST), third, vec![0; 30 * P]].concat();
     let ends = timers(&samples, "r");
-    let due = (FIRST + FRAME) as u64;
-    assert!(ends.contains(&(due, Some(due + 240))));
-    assert!(ends.contains(&(FIRST as u64 + 1, Some(FIRST as u64 + 1 + 3840))));
+    let due = (FIRST + REST) as u64;
+    assert!(ends.contains(&(due, Some(due + BURST_CARRIER))));
+    let set = FIRST as u64 + 1;
+    assert!(ends.contains(&(set, Some(set + FRAME_CARRIER))));
     assert!(ends.last().is_some_and(|&(_, end)| end.is_none()));
     script("sooner", "r", samples)
 }
@@ -177,7 +178,7 @@ fn least_gain(met: bool, name: &str) -> Script {
     wishes[7].value = -16.0;
     let samples = ends_moved(
         &shaped(&[wishes]),
-        FAINTEST,
+        faintest(),
         |first, last| {
             let values = both(first, last);
             let (_, gain, _) = sync_burst_correlation(Packet.target(), &values);
@@ -205,7 +206,7 @@ fn distance(met: bool, name: &str) -> Script {
     wishes[7].value = -gain;
     let samples = ends_moved(
         &shaped(&[wishes]),
-        FAINTEST,
+        faintest(),
         |first, last| {
             let values = both(first, last);
             let (_, gain, shift) = sync_burst_correlation(Lsf.target(), &values);
@@ -239,7 +240,7 @@ fn shaped(wishes: &[[Wish; 8]]) -> Vec<i16> {
 
 /// The signal, and zeros until its frame is due.
 fn with_pause(mut samples: Vec<i16>) -> Vec<i16> {
-    samples.extend([0; 1900]);
+    samples.extend([0; 190 * P]);
     samples
 }
 

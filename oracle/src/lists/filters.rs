@@ -1,10 +1,10 @@
-//! The receiver's filter: `run NAME`, then for each sample `SAMPLE = VALUE`.
+//! The receiver's filter: `run NAME RATE`, then for each sample `SAMPLE = VALUE`.
 
 use crate::bits::hex;
 use crate::harness::{lay_replies, take_offer};
 use crate::modem::{peek, Demodulator, SoftDemodulator};
 use crate::random::Random;
-use crate::shaping::RRC_48K;
+use crate::rate::{tap, P, RATE, WINDOW};
 
 pub fn write() -> String {
     let mut random = Random::new(2);
@@ -12,28 +12,26 @@ pub fn write() -> String {
     let mut list = String::new();
     run(&mut list, "one", &impulse(1));
     run(&mut list, "lowest", &impulse(i16::MIN));
-    run(
-        &mut list,
-        "largest",
-        &RRC_48K.map(|tap| if tap > 0.0 { i16::MAX } else { i16::MIN }),
-    );
-    run(
-        &mut list,
-        "smallest",
-        &RRC_48K.map(|tap| if tap > 0.0 { i16::MIN } else { i16::MAX }),
-    );
+    run(&mut list, "largest", &signed(i16::MAX, i16::MIN));
+    run(&mut list, "smallest", &signed(i16::MIN, i16::MAX));
     run(
         &mut list,
         "step",
-        &[[0; 10].as_slice(), &[10_000; 110]].concat(),
+        &[[0; P].as_slice(), &[10_000; 11 * P]].concat(),
     );
     run(&mut list, "noise", &noise);
     list
 }
 
+/// A window's samples, one value where the tap is positive and another where it is not.
+fn signed(positive: i16, other: i16) -> Vec<i16> {
+    let sample = |i| if tap(i) > 0.0 { positive } else { other };
+    (0..WINDOW).map(sample).collect()
+}
+
 /// One sample other than 0, and zeros until it has left the window again.
 fn impulse(sample: i16) -> Vec<i16> {
-    let mut samples = vec![0; 82];
+    let mut samples = vec![0; WINDOW + 1];
     samples[0] = sample;
     samples
 }
@@ -41,7 +39,7 @@ fn impulse(sample: i16) -> Vec<i16> {
 fn run(list: &mut String, name: &str, samples: &[i16]) {
     lay_replies("");
     let mut receiver = SoftDemodulator::new();
-    list.push_str(&format!("run {name}\n"));
+    list.push_str(&format!("run {name} {RATE}\n"));
     for &sample in samples {
         receiver.demod(sample);
         list.push_str(&format!("{sample} = {}\n", hex(peek::newest(&receiver))));

@@ -17,12 +17,23 @@ mod slices;
 mod streams;
 mod taps;
 
+use crate::rate::RATE;
+
 pub struct List {
     pub name: &'static str,
     pub write: fn() -> String,
 }
 
-pub const ALL: [List; 14] = [
+/// The lists that follow the rate; the others are those of 48 kHz.
+const OF_EACH_RATE: [&str; 4] = ["taps", "filters", "offers", "sender"];
+
+/// The lists of the rate that this build is for.
+pub fn lists() -> impl Iterator<Item = List> {
+    ALL.into_iter()
+        .filter(|list| RATE == 48_000 || OF_EACH_RATE.contains(&list.name))
+}
+
+const ALL: [List; 14] = [
     List {
         name: "bit-errors",
         write: bit_errors::write,

@@ -9,6 +9,7 @@ use crate::modem::found::{is_taken, Found};
 use crate::modem::kept::{Control, Held};
 use crate::modem::peek::{control, cursors};
 use crate::modem::{Demodulator, SoftDemodulator};
+use crate::rate::RATE;
 
 pub fn write() -> String {
     let mut list = String::new();
@@ -18,7 +19,7 @@ pub fn write() -> String {
         } else {
             &stream.replies
         };
-        list.push_str(&format!("stream {} {replies}\n", stream.name));
+        list.push_str(&format!("stream {} {RATE} {replies}\n", stream.name));
         run(&mut list, &stream);
     }
     list

@@ -6,7 +6,7 @@ use crate::harness::{a_packet, a_stream, an_lsf, lay_symbols};
 use crate::modem::peek::{lay_window, sending, window};
 use crate::modem::{Modulator, ModulatorAction, ModulatorFrame, SoftModulator};
 use crate::random::Random;
-use crate::shaping::RRC_48K;
+use crate::rate::{tap, END, FRAME, P, RATE, STEP, WINDOW, WISH};
 use crate::signal::{house_frame, DIBITS};
 
 pub fn write() -> String {
@@ -37,22 +37,22 @@ pub fn write() -> String {
 fn flags(session: &mut Session) {
     session.run();
     session.run();
-    session.update(0, 1999, 0);
+    session.update(0, WISH - 1, 0);
     session.run();
-    session.update(0, 2000, 0);
+    session.update(0, WISH, 0);
     session.run();
     session.run();
-    session.update(1, 2000, 0); // less room does not lower the wish
+    session.update(1, WISH, 0); // less room does not lower the wish
     session.run();
     session.none();
     session.run();
-    session.update(3000, 5000, 7);
+    session.update(3000, 3000 + WISH, 7);
     session.end(); // the wish stays, unread samples go first
     session.run();
-    session.update(100, 2000, 20);
+    session.update(100, WISH, 20);
     session.run();
     session.run();
-    session.update(200, 2000, 20); // the end was owed once
+    session.update(200, WISH, 20); // the end was owed once
     session.run();
     session.end();
     session.update(5, 10, 6);
@@ -66,10 +66,10 @@ fn flags(session: &mut Session) {
 /// TxDelay against latency, and padding that outlives its frame.
 fn delays(session: &mut Session) {
     for (latency, steps) in [
-        (500, 1),
-        (480, 1),
-        (479, 1),
-        (400, 1),
+        (STEP + 20, 1),
+        (STEP, 1),
+        (STEP - 1, 1),
+        (STEP - 80, 1),
         (0, 0),
         (0, 255),
         (16_777_216, 255),
@@ -77,7 +77,7 @@ fn delays(session: &mut Session) {
         session.update(0, 16_777_216, latency);
         session.preamble(steps);
     }
-    session.update(0, 4000, 440);
+    session.update(0, 4000, STEP - 40);
     session.preamble(1);
     session.read(0);
     session.read(15);
@@ -93,36 +93,36 @@ fn bert(session: &mut Session) {
     let mut random = Random::new(17);
     session.bert_preamble(0);
     session.read(40);
-    for (latency, steps) in [(500, 1), (480, 1), (400, 1), (0, 255)] {
+    for (latency, steps) in [(STEP + 20, 1), (STEP, 1), (STEP - 80, 1), (0, 255)] {
         session.update(0, 16_777_216, latency);
         session.bert_preamble(steps);
     }
-    session.update(0, 4000, 440);
+    session.update(0, 4000, STEP - 40);
     session.bert_preamble(1);
     session.read(60);
-    session.read(1900);
+    session.read(FRAME - 20);
     let mut symbols = [(); 192].map(|()| *random.pick(&DIBITS));
     symbols[..8].copy_from_slice(&[-1.0, 1.0, -1.0, -1.0, 1.0, 1.0, 1.0, 1.0]);
     session.bert(symbols);
-    session.read(1920);
+    session.read(FRAME);
     session.end();
-    session.read(2720);
+    session.read(END);
 }
 
 /// A transmission from start to end, as a card reads it.
 fn whole(session: &mut Session) {
     let mut random = Random::new(11);
-    session.update(0, 4000, 300);
+    session.update(0, 4000, 30 * P);
     session.preamble(1);
-    session.read(960);
+    session.read(96 * P);
     session.read(4000);
     session.symbols([(); 192].map(|()| *random.pick(&DIBITS)));
-    session.read(1920);
+    session.read(FRAME);
     session.end();
     session.look();
-    session.read(2720);
+    session.read(END);
     session.read(1);
-    session.update(0, 4000, 300);
+    session.update(0, 4000, 30 * P);
     session.run();
     session.preamble(0); // the window is empty again
     session.read(40);
@@ -157,11 +157,11 @@ fn made_up(session: &mut Session) {
 
 /// Sums that go past i16 on both sides.
 fn past_i16(session: &mut Session) {
-    for (cursor, side) in [(0, 1.0), (80, -1.0)] {
-        let mut values = [0.0; 81];
-        for (i, tap) in RRC_48K.iter().enumerate() {
+    for (cursor, side) in [(0, 1.0), (WINDOW - 1, -1.0)] {
+        let mut values = [0.0; WINDOW];
+        for i in 0..WINDOW {
             // One place further, since the first sample of the frame takes the oldest one's place.
-            values[(cursor + 1 + i) % 81] = side * 35_461.0 * tap.signum();
+            values[(cursor + 1 + i) % WINDOW] = side * 35_461.0 * tap(i).signum();
         }
         session.window(cursor, values);
         session.symbols([side; 192]);
@@ -175,15 +175,15 @@ fn by_place(session: &mut Session) {
     let mut random = Random::new(17);
     for cursor in [0, 33] {
         for kind in 0..5 {
-            let mut values = [0.0; 81];
-            for i in 0..81 {
-                // A pulse lies in the second oldest place, and then in every tenth.
-                let pulse = i % 10 == 1;
+            let mut values = [0.0; WINDOW];
+            for i in 0..WINDOW {
+                // A pulse lies in the second oldest place, and then in every P-th.
+                let pulse = i % P == 1;
                 let number = 35_461.0 * random.unit();
-                values[(cursor + i) % 81] = match kind {
+                values[(cursor + i) % WINDOW] = match kind {
                     0 => number,
                     1 if !pulse => number,
-                    2 if i == 80 => number,
+                    2 if i == WINDOW - 1 => number,
                     3 if pulse => number,
                     3 | 4 => -0.0,
                     _ => 0.0,
@@ -200,7 +200,8 @@ fn by_place(session: &mut Session) {
     }
 }
 
-/// Document 01's whole case, as its send program reads it: 6,560 samples, of which the last 729 are zero.
+/// Document 01's whole case, as its send program reads it: 6,560 samples, of which the last 729 are zero; at
+/// 24 kHz 3,280 and 364.
 fn case(session: &mut Session) {
     session.preamble(0);
     let mut sent = session.read(4000);
@@ -209,20 +210,22 @@ fn case(session: &mut Session) {
     session.end();
     session.look();
     sent.extend(session.read(4000));
-    assert_eq!(sent[..5], [-113, -103, -68, -12, 54]);
-    assert_eq!(sent.len(), 6560);
-    assert_eq!(zeros_at_end(&sent), 729);
+    if P == 10 {
+        assert_eq!(sent[..5], [-113, -103, -68, -12, 54]);
+    }
+    assert_eq!(sent.len(), 2 * FRAME + END);
+    assert_eq!(zeros_at_end(&sent), 73 * P - 1);
 }
 
-/// The same without a line: 4,640 samples.
+/// The same without a line: 4,640 samples, or 2,320.
 fn no_lines(session: &mut Session) {
     session.preamble(0);
     let mut sent = session.read(4000);
     session.end();
     let end = session.read(4000);
-    assert_eq!((end.len(), zeros_at_end(&end)), (2720, 729));
+    assert_eq!((end.len(), zeros_at_end(&end)), (END, 73 * P - 1));
     sent.extend(end);
-    assert_eq!(sent.len(), 4640);
+    assert_eq!(sent.len(), FRAME + END);
 }
 
 fn zeros_at_end(samples: &[i16]) -> usize {
@@ -233,22 +236,22 @@ fn zeros_at_end(samples: &[i16]) -> usize {
         .count()
 }
 
-/// For each of a symbol's ten samples the nine symbols that make it as large as can be, and as small. The
-/// first of the ten is the largest of all: document 01 has all within 16,383.
+/// For each of a symbol's samples the nine symbols that make it as large as can be, and as small. The
+/// first of them is the largest of all: document 01 has all within 16,383.
 fn extremes(session: &mut Session) {
     let sign = |place: usize, back: usize| {
-        let tap = 80usize.checked_sub(place + 10 * back);
-        tap.map_or(0.0, |i| RRC_48K[i].signum())
+        let at = (WINDOW - 1).checked_sub(place + P * back);
+        at.map_or(0.0, |i| tap(i).signum())
     };
     let mut symbols = Vec::new();
-    for place in 0..10 {
+    for place in 0..P {
         for side in [1.0, -1.0] {
             symbols.extend((0..9).rev().map(|back| side * sign(place, back)));
         }
     }
     symbols.resize(192, 0.0);
     session.symbols(symbols.try_into().expect("a frame has 192 symbols"));
-    let sent = session.read(1920);
+    let sent = session.read(FRAME);
     let ends = (sent.iter().min(), sent.iter().max());
     assert_eq!(ends, (Some(&-16_371), Some(&16_371)));
 }
@@ -260,7 +263,7 @@ fn replaced(session: &mut Session) {
     session.symbols([(); 192].map(|()| *random.pick(&DIBITS)));
     session.end();
     session.preamble(1);
-    session.read(530);
+    session.read(STEP + 50);
     session.symbols([(); 192].map(|()| *random.pick(&DIBITS)));
     session.read(100);
     session.end();
@@ -275,7 +278,7 @@ fn shrinking(session: &mut Session) {
     session.run();
     session.update(0, 4000, 0);
     session.run();
-    session.update(0, 1999, 0);
+    session.update(0, WISH - 1, 0);
     session.run();
     session.update(10, 10, 0);
     session.run();
@@ -283,12 +286,12 @@ fn shrinking(session: &mut Session) {
     session.run();
     session.none();
     session.run();
-    session.update(3000, 4999, 0);
+    session.update(3000, 3000 + WISH - 1, 0);
     session.run();
     session.update(3000, 3500, 0);
     session.run();
-    session.update(2000, 4000, 0);
-    session.update(2000, 2000, 0);
+    session.update(WISH, 2 * WISH, 0);
+    session.update(WISH, WISH, 0);
     session.run();
     session.end();
     session.update(16_777_216, 16_777_216, 16_777_216);
@@ -308,10 +311,10 @@ fn ends(session: &mut Session) {
     session.run();
     session.preamble(1);
     session.read(30);
-    session.end(); // 443 of the padding are left
+    session.end(); // STEP - 37 of the padding are left
     session.update(100, 3000, 50);
     session.run();
-    session.read(450);
+    session.read(STEP - 30);
     session.end();
     session.symbols(house_frame()); // in the place of the end
     session.read(20);
@@ -353,7 +356,7 @@ struct Session<'a> {
 
 impl<'a> Session<'a> {
     fn new(list: &'a mut String, name: &str) -> Self {
-        list.push_str(&format!("session {name}\n"));
+        list.push_str(&format!("session {name} {RATE}\n"));
         Session {
             list,
             sender: SoftModulator::new(),
@@ -446,7 +449,7 @@ impl<'a> Session<'a> {
     }
 
     /// Lays a made-up window; no call of the modem's own.
-    fn window(&mut self, cursor: usize, values: [f32; 81]) {
+    fn window(&mut self, cursor: usize, values: [f32; WINDOW]) {
         lay_window(&mut self.sender, cursor, values);
         self.say(&format!("window {cursor} {}", row(&values)), "");
     }

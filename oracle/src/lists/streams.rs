@@ -6,6 +6,7 @@ use crate::lists::corners::corners;
 use crate::lists::judge::timers;
 use crate::modem::{Demodulator, SoftDemodulator};
 use crate::random::Random;
+use crate::rate::{END, FRAME, P};
 use crate::signal::{frame, frame_with_tail, heard, house_frame, transmission};
 use SyncBurst::{Bert, Lsf, Packet, Stream};
 
@@ -36,7 +37,7 @@ fn voice() -> Script {
     let mut random = Random::new(6);
     let frames = [Lsf, Stream, Stream].map(|kind| frame(&mut random, kind));
     let mut samples = transmission(&frames);
-    samples.extend([0; 4000]);
+    samples.extend([0; 400 * P]);
     script("voice", "aaa", samples)
 }
 
@@ -50,8 +51,8 @@ fn kinds() -> Script {
 }
 
 /// Frames that end with a burst. The rejected BERT and Stream frames leave the very sample to the search, which
-/// finds it; the accepted LSF frame does not, and it is found one later. The frame that such a burst seems to
-/// head hides the next one.
+/// finds it; the accepted LSF frame does not, and at 48 kHz it is found one later, where it still matches. The
+/// frame that such a burst seems to head hides the next one.
 fn tails() -> Script {
     let mut random = Random::new(8);
     let frames = [
@@ -71,20 +72,20 @@ fn faint() -> Script {
     let mut random = Random::new(9);
     let frames = [Lsf, Packet].map(|kind| frame(&mut random, kind));
     let sent = transmission(&frames);
-    let samples = heard(&mut random, joined_late(&sent), 2000, 0, 1);
+    let samples = heard(&mut random, joined_late(&sent), 200 * P as i32, 0, 1);
     script("faint", "ra", samples)
 }
 
 /// A transmission from late in its preamble to shortly before its last zeros: the rest says little and
 /// makes a long list.
 fn joined_late(sent: &[i16]) -> &[i16] {
-    &sent[1600..sent.len() - 700]
+    &sent[160 * P..sent.len() - 70 * P]
 }
 
 /// Document 01's whole case: the samples that its send program writes for one line, and the line is heard.
 fn whole() -> Script {
     let samples = transmission(&[house_frame()]);
-    assert_eq!(samples.len(), 6560);
+    assert_eq!(samples.len(), 2 * FRAME + END);
     assert_eq!(line(&samples), format!("55F7{}", "0".repeat(92)));
     script("whole", "a", samples)
 }
@@ -112,17 +113,19 @@ fn zeros() -> Script {
 
 /// A Packet burst as loud as i16 goes.
 fn loud() -> Script {
-    let held = |sign: f32| [if sign > 0.0 { i16::MAX } else { i16::MIN }; 10];
+    let held = |sign: f32| [if sign > 0.0 { i16::MAX } else { i16::MIN }; P];
     let mut samples: Vec<i16> = signs(Packet).into_iter().flat_map(held).collect();
-    samples.extend([0; 50]);
+    samples.extend([0; 5 * P]);
     script("loud", "", samples)
 }
 
-/// The smallest offset whose end passes for an end burst (request d), and one less, whose end does not.
+/// The smallest offset whose end passes for an end burst (request d). At 24 kHz there is none, and the largest
+/// offset is listed.
 fn falling() -> Script {
-    let from = |offset: i16| [[offset; 180].to_vec(), vec![0; 400]].concat();
-    assert!(timers(&from(2_804), "").is_empty());
-    let samples = from(2_805);
-    assert_eq!(timers(&samples, "").len(), 2);
-    script("falling", "", samples)
+    let from = |offset: i16| [[offset; 18 * P].to_vec(), vec![0; 40 * P]].concat();
+    let samples = (1..=i16::MAX)
+        .map(from)
+        .find(|samples| !timers(samples, "").is_empty());
+    assert_eq!(samples.is_some(), P == 10);
+    script("falling", "", samples.unwrap_or_else(|| from(i16::MAX)))
 }

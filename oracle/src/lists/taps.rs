@@ -1,12 +1,10 @@
-//! The filter table: `INDEX TAP`.
+//! The filter table of the rate: `INDEX TAP`.
 
 use crate::bits::hex;
-use crate::shaping::RRC_48K;
+use crate::rate::{tap, WINDOW};
 
 pub fn write() -> String {
-    RRC_48K
-        .iter()
-        .enumerate()
-        .map(|(i, &tap)| format!("{i} {}\n", hex(tap)))
+    (0..WINDOW)
+        .map(|i| format!("{i} {}\n", hex(tap(i))))
         .collect()
 }

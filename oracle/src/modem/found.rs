@@ -2,6 +2,7 @@
 //! and the mark. The Rust keeps none of these; they follow from its candidate and wait before and after each sample.
 
 use super::kept::Control;
+use crate::rate::REST;
 
 /// 0 and no for what is not held.
 #[derive(Clone, Copy, Default, PartialEq)]
@@ -24,8 +25,8 @@ impl Found {
         let taken = is_taken(before, after);
         Found {
             taken_at: if taken { after.count } else { kept.taken_at },
-            // "the wait becomes 1,840 - age"
-            age: after.wait.map_or(0, |left| (1840 - left) as u8),
+            // "the wait becomes 1,840 - age", at 24 kHz "920 - age"
+            age: after.wait.map_or(0, |left| (REST - left as usize) as u8),
             // A match on the sample that set the wait took the candidate's place.
             replaced: taken && after.wait.is_some(),
         }

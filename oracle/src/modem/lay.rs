@@ -2,16 +2,17 @@
 
 use super::{DecodeCandidate, SoftDemodulator, SoftModulator};
 use crate::modem::kept::{Control, Held, Sending};
+use crate::rate::{RING, STORE, WINDOW};
 
 /// The ring of samples and the ring of filtered values, place by place.
-pub fn rings(receiver: &SoftDemodulator) -> (&[i16; 81], &[f32; 1920]) {
+pub fn rings(receiver: &SoftDemodulator) -> (&[i16; WINDOW], &[f32; RING]) {
     (&receiver.filter_win, &receiver.rx_win)
 }
 
 pub fn receiver(
     cursors: (usize, usize),
-    window: &[i16; 81],
-    ring: &[f32; 1920],
+    window: &[i16; WINDOW],
+    ring: &[f32; RING],
     control: Control,
 ) -> SoftDemodulator {
     SoftDemodulator {
@@ -37,14 +38,14 @@ fn candidate(held: Held) -> DecodeCandidate {
 }
 
 /// The samples of the frame at hand, with what earlier ones left behind its length.
-pub fn store(sender: &SoftModulator) -> &[i16; 4000] {
+pub fn store(sender: &SoftModulator) -> &[i16; STORE] {
     &sender.next_transmission
 }
 
 pub fn sender(
-    store: &[i16; 4000],
+    store: &[i16; STORE],
     cursor: usize,
-    window: &[f32; 81],
+    window: &[f32; WINDOW],
     kept: Sending,
 ) -> SoftModulator {
     SoftModulator {

@@ -2,6 +2,7 @@
 
 use super::{SoftDemodulator, SoftModulator};
 use crate::modem::kept::{Control, Held, Sending};
+use crate::rate::{RING, WINDOW};
 
 pub fn control(receiver: &SoftDemodulator) -> Control {
     Control {
@@ -25,7 +26,7 @@ pub fn cursors(receiver: &SoftDemodulator) -> (usize, usize) {
 
 /// The filtered value that the last sample gave.
 pub fn newest(receiver: &SoftDemodulator) -> f32 {
-    receiver.rx_win[(receiver.rx_cursor + 1920 - 1) % 1920]
+    receiver.rx_win[(receiver.rx_cursor + RING - 1) % RING]
 }
 
 pub fn sending(sender: &SoftModulator) -> Sending {
@@ -44,12 +45,12 @@ pub fn sending(sender: &SoftModulator) -> Sending {
 }
 
 /// The sender's window, place by place, and its cursor.
-pub fn window(sender: &SoftModulator) -> (usize, [f32; 81]) {
+pub fn window(sender: &SoftModulator) -> (usize, [f32; WINDOW]) {
     (sender.filter_cursor, sender.filter_win)
 }
 
 /// Puts a made-up window into the sender, as no frame from a fresh start leaves it.
-pub fn lay_window(sender: &mut SoftModulator, cursor: usize, values: [f32; 81]) {
+pub fn lay_window(sender: &mut SoftModulator, cursor: usize, values: [f32; WINDOW]) {
     sender.filter_cursor = cursor;
     sender.filter_win = values;
 }

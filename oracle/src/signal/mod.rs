@@ -7,6 +7,7 @@ use crate::decode::{signs, SyncBurst};
 use crate::harness::{a_stream, lay_symbols};
 use crate::modem::{Modulator, ModulatorFrame, SoftModulator};
 use crate::random::Random;
+use crate::rate::STORE;
 
 /// The symbols that two bits stand for, as encode.rs has them.
 pub const DIBITS: [f32; 4] = [1.0, 1.0 / 3.0, -1.0 / 3.0, -1.0];
@@ -54,7 +55,7 @@ pub fn transmission(frames: &[[f32; 192]]) -> Vec<i16> {
 }
 
 fn provide(sender: &mut SoftModulator, sent: &mut Vec<i16>, frame: ModulatorFrame) {
-    let mut room = [0; 4000];
+    let mut room = [0; STORE];
     sender.provide_next_frame(Some(frame));
     let written = sender.read_output_samples(&mut room);
     sent.extend_from_slice(&room[..written]);

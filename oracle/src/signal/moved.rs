@@ -1,16 +1,21 @@
 //! Signals that are searched for: a shaped one, changed by steps that are smaller than shaping can wish for.
 
 use super::shaped::{eight, Values, FIRST};
+use crate::rate::{tap, P};
 
 /// How far the ends of a signal are moved.
 const REACH: i16 = 1000;
 
 /// The oldest sample that is heard at FIRST, as an index: in the oldest of the eight values alone.
-pub const OLDEST: usize = FIRST - 151;
+pub const OLDEST: usize = FIRST - (15 * P + 1);
 
-/// The one of the ten heard in that value alone that is heard most faintly; for signals that end at FIRST,
-/// since a later search hears it too.
-pub const FAINTEST: usize = OLDEST + 3;
+/// The one of a symbol's samples heard in that value alone that is heard most faintly; for signals that end at
+/// FIRST, since a later search hears it too.
+pub fn faintest() -> usize {
+    let loudness = |i: &usize| tap(*i).abs();
+    let faintest = (0..P).min_by(|a, b| loudness(a).total_cmp(&loudness(b)));
+    OLDEST + faintest.expect("a symbol has samples")
+}
 
 /// A signal with two samples moved until its values are as wished and the receiver agrees. One is the last,
 /// which is heard in the newest value of the last search alone, the other is `place`; both are heard faintly,

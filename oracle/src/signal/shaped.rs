@@ -2,10 +2,10 @@
 //! kinds on neighbouring samples, which no sent frame gives.
 
 use crate::decode::{signs, SyncBurst};
-use crate::shaping::RRC_48K;
+use crate::rate::{tap, P, WINDOW};
 
 /// Where a shaped signal has its first match: far enough in for all samples that the values lean on.
-pub const FIRST: usize = 160;
+pub const FIRST: usize = 16 * P;
 
 /// The eight values that a search reads.
 pub type Values = [f32; 8];
@@ -28,7 +28,7 @@ pub(crate) fn matching(burst: SyncBurst, at: usize, gain: f64, slack: f64) -> [W
         *same += 1;
         let size = if *same == 2 { gain } else { gain - slack };
         Wish {
-            at: at + 10 * place - 80,
+            at: at + P * place - 8 * P,
             value: f64::from(sign) * size,
         }
     })
@@ -62,14 +62,13 @@ pub fn samples(wishes: &[Wish]) -> Option<Vec<i16>> {
 /// The values that a search at sample `at` reads, for looking through many signals quickly; what is found is
 /// judged by the receiver.
 pub fn eight(samples: &[i16], at: usize) -> Values {
-    let mut place = at - 80;
+    let mut place = at - 8 * P;
     [(); 8].map(|()| {
-        place += 10;
-        let window = &samples[place - 81..place];
-        RRC_48K
-            .iter()
+        place += P;
+        let window = &samples[place - WINDOW..place];
+        (0..)
             .zip(window)
-            .fold(0.0, |sum, (tap, &sample)| sum + tap * f32::from(sample))
+            .fold(0.0, |sum, (i, &sample)| sum + tap(i) * f32::from(sample))
     })
 }
 
@@ -77,8 +76,8 @@ pub fn eight(samples: &[i16], at: usize) -> Values {
 fn heard(at: usize, length: usize) -> Vec<f64> {
     (1..=length)
         .map(|number| {
-            let tap = (number + 80).checked_sub(at).and_then(|i| RRC_48K.get(i));
-            tap.map_or(0.0, |&tap| f64::from(tap))
+            let place = (number + 8 * P).checked_sub(at).filter(|&i| i < WINDOW);
+            place.map_or(0.0, |i| f64::from(tap(i)))
         })
         .collect()
 }

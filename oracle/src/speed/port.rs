@@ -1,6 +1,7 @@
 //! The port's program `speed`, started once and asked job after job. A job's time is taken from the byte that
 //! begins it to its checksum: neither the start nor the reading of the data is in it.
 
+use crate::rate::RATE;
 use std::io::{Read, Write};
 use std::path::Path;
 use std::process::{Child, ChildStdin, ChildStdout, Command, Stdio};
@@ -12,6 +13,18 @@ pub enum Job {
     Demod = b'd' as isize,
     Feed = b'f' as isize,
     Send = b's' as isize,
+}
+
+impl Job {
+    /// At 24 kHz a capital.
+    fn letter(self) -> u8 {
+        let letter = self as u8;
+        if RATE == 24_000 {
+            letter.to_ascii_uppercase()
+        } else {
+            letter
+        }
+    }
 }
 
 pub struct Port {
@@ -39,7 +52,7 @@ impl Port {
     /// The checksum of a job, and the time that it took.
     pub fn run(&mut self, job: Job, count: usize, data: &[u8]) -> (u64, Duration) {
         let count = u32::try_from(count).expect("a request's number has four bytes");
-        self.put(&[job as u8]);
+        self.put(&[job.letter()]);
         self.put(&count.to_le_bytes());
         self.put(data);
         self.take::<1>();

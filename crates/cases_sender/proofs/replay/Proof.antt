@@ -11,8 +11,8 @@ Inv-loop text m₀ at₀ m at = Unit {0}
 abbrev μ-loop : tie.MeasureT-loop
 μ-loop text m₀ at₀ m at = length text + 1 - at
 
-new-requires : tie.Need-new-requires Inv-loop μ-loop
-new-requires c κs = search needs
+begun-requires : tie.Need-begun-requires Inv-loop μ-loop
+begun-requires c κs = search needs
 
 loop-holds : tie.Need-loop-holds Inv-loop μ-loop
 loop-holds c = search needs
@@ -50,7 +50,7 @@ replay-spec =
     (tie.spec
     Inv-loop
     μ-loop
-    new-requires
+    begun-requires
     loop-holds
     find-requires
     sub-answer-line

@@ -1,6 +1,7 @@
 -- `put_taps` is safe and ends: the measure is the number of taps that are left. Assumes nothing.
 use borrow.Author.Needs.{needs}
 use Prim.Native.Nat.{_-_}
+use lib.ListN.{length}
 use Rattle.cases_tables.proofs.put_taps.Statement.{statement}
 use Rattle.cases_tables.proofs.put_taps.Tie as tie
 
@@ -8,10 +9,7 @@ abbrev Inv-loop : tie.InvT-loop
 Inv-loop taps i₀ i = Unit {0}
 
 abbrev μ-loop : tie.MeasureT-loop
-μ-loop taps i₀ i = 81 - i
-
-rrc-48k-requires : tie.Need-rrc-48k-requires Inv-loop μ-loop
-rrc-48k-requires c κs = search needs
+μ-loop taps i₀ i = length taps - i
 
 loop-holds : tie.Need-loop-holds Inv-loop μ-loop
 loop-holds c = search needs
@@ -19,8 +17,8 @@ loop-holds c = search needs
 mul-put-tap : tie.Need-mul-put-tap Inv-loop μ-loop
 mul-put-tap c = search needs
 
-array-read-put-tap : tie.Need-array-read-put-tap Inv-loop μ-loop
-array-read-put-tap c = search needs
+shared-slice-read-put-tap : tie.Need-shared-slice-read-put-tap Inv-loop μ-loop
+shared-slice-read-put-tap c = search needs
 
 put-tap-requires : tie.Need-put-tap-requires Inv-loop μ-loop
 put-tap-requires c κs = search needs
@@ -43,10 +41,9 @@ put-taps-spec =
     (tie.spec
     Inv-loop
     μ-loop
-    rrc-48k-requires
     loop-holds
     mul-put-tap
-    array-read-put-tap
+    shared-slice-read-put-tap
     put-tap-requires
     add-i
     loop-less

@@ -5,10 +5,16 @@ use Rattle.cases_receiver_refusals.proofs.places.alike.Statement.{state
 use Rattle.cases_receiver_refusals.proofs.places.alike.Tie as tie
 
 abbrev Inv-loop : tie.InvT-loop
-Inv-loop answer words call from places place₀ alike₀ j₀ place alike j = Unit {0}
+Inv-loop answer words call from places p place₀ alike₀ j₀ place alike j = Unit {0}
 
 abbrev μ-loop : tie.MeasureT-loop
-μ-loop answer words call from places place₀ alike₀ j₀ place alike j = places - j
+μ-loop answer words call from places p place₀ alike₀ j₀ place alike j = places - j
+
+rate-requires : tie.Need-rate-requires Inv-loop μ-loop
+rate-requires c κs = search needs
+
+samples-in-requires : tie.Need-samples-in-requires Inv-loop μ-loop
+samples-in-requires c κs = search needs
 
 loop-holds : tie.Need-loop-holds Inv-loop μ-loop
 loop-holds c = search needs
@@ -25,8 +31,8 @@ cast-wrapping-add-u64 c = search needs
 wrapping-add-u64-requires : tie.Need-wrapping-add-u64-requires Inv-loop μ-loop
 wrapping-add-u64-requires c κs = search needs
 
-add-place : tie.Need-add-place Inv-loop μ-loop
-add-place c = search needs
+symbol-before-requires : tie.Need-symbol-before-requires Inv-loop μ-loop
+symbol-before-requires c κs = search needs
 
 add-j : tie.Need-add-j Inv-loop μ-loop
 add-j c = search needs
@@ -46,12 +52,14 @@ alike-spec =
     (tie.spec
     Inv-loop
     μ-loop
+    rate-requires
+    samples-in-requires
     loop-holds
     called-requires
     same-answer-requires
     cast-wrapping-add-u64
     wrapping-add-u64-requires
-    add-place
+    symbol-before-requires
     add-j
     loop-less
     loop-again

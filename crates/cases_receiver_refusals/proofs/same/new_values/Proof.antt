@@ -5,10 +5,10 @@ use Rattle.cases_receiver_refusals.proofs.same.new_values.Statement.{st
 use Rattle.cases_receiver_refusals.proofs.same.new_values.Tie as tie
 
 abbrev Inv-loop : tie.InvT-loop
-Inv-loop a b count₀ i₀ count i = Unit {0}
+Inv-loop from a b count₀ i₀ count i = Unit {0}
 
 abbrev μ-loop : tie.MeasureT-loop
-μ-loop a b count₀ i₀ count i = 1920 - i
+μ-loop from a b count₀ i₀ count i = 1920 - i
 
 loop-holds : tie.Need-loop-holds Inv-loop μ-loop
 loop-holds c = search needs

@@ -5,10 +5,10 @@ use Rattle.cases_receiver_refusals.proofs.same.same_window.Statement.{s
 use Rattle.cases_receiver_refusals.proofs.same.same_window.Tie as tie
 
 abbrev Inv-loop : tie.InvT-loop
-Inv-loop a b all₀ i₀ all i = Unit {0}
+Inv-loop from a b all₀ i₀ all i = Unit {0}
 
 abbrev μ-loop : tie.MeasureT-loop
-μ-loop a b all₀ i₀ all i = 162 - i
+μ-loop from a b all₀ i₀ all i = 162 - i
 
 loop-holds : tie.Need-loop-holds Inv-loop μ-loop
 loop-holds c = search needs

@@ -5,13 +5,16 @@ use Rattle.cases_sender.proofs.answers.put_window.Statement.{statement}
 use Rattle.cases_sender.proofs.answers.put_window.Tie as tie
 
 abbrev Inv-loop : tie.InvT-loop
-Inv-loop window i₀ i = Unit {0}
+Inv-loop window places i₀ i = Unit {0}
 
 abbrev μ-loop : tie.MeasureT-loop
-μ-loop window i₀ i = 81 - i
+μ-loop window places i₀ i = places - i
 
 put-count-requires : tie.Need-put-count-requires Inv-loop μ-loop
 put-count-requires c κs = search needs
+
+window-places-requires : tie.Need-window-places-requires Inv-loop μ-loop
+window-places-requires c κs = search needs
 
 loop-holds : tie.Need-loop-holds Inv-loop μ-loop
 loop-holds c = search needs
@@ -44,6 +47,7 @@ put-window-spec =
     Inv-loop
     μ-loop
     put-count-requires
+    window-places-requires
     loop-holds
     mul-put-float
     array-read-put-float

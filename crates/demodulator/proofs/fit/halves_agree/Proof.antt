@@ -8,16 +8,23 @@ use mir.Syntax.{w16}
 use lib.IntN.{pos}
 use lib.ListN.{getD}
 use Rattle.numbers.specs.Below.{allBelow}
+use Rattle.shaping.specs.Rate.{tapCount}
 use Rattle.demodulator.specs.Fit.{sameSample, halvesAgree}
 use Rattle.demodulator.proofs.Halves.{same-pattern}
 use Rattle.demodulator.proofs.fit.halves_agree.Statement.{statement}
 use Rattle.demodulator.proofs.fit.halves_agree.Tie as tie
 
 abbrev Inv-loop : tie.InvT-loop
-Inv-loop window all₀ i₀ all i = (i ≤ 81) × (all ≡ allBelow i (λ (j : ℕ). sameSample (getD window j (pos 0)) (getD window (j + 81) (pos 0))))
+Inv-loop p window count all₀ i₀ all i = (i ≤ tapCount p) × (all ≡ allBelow i (λ (j : ℕ). sameSample (getD window j (pos 0)) (getD window (j + tapCount p) (pos 0))))
 
 abbrev μ-loop : tie.MeasureT-loop
-μ-loop window all₀ i₀ all i = 81 - i
+μ-loop p window count all₀ i₀ all i = tapCount p - i
+
+mul-count : tie.Need-mul-count Inv-loop μ-loop
+mul-count c = search needs
+
+add-count : tie.Need-add-count Inv-loop μ-loop
+add-count c = search needs
 
 loop-holds : tie.Need-loop-holds Inv-loop μ-loop
 unfolding allBelow
@@ -48,16 +55,17 @@ loop-again : tie.Need-loop-again Inv-loop μ-loop
 unfolding allBelow
 loop-again c =
     let l = c .before .before .before .loop in
-    let window = c .before .before .before .before .args .filter-win .now in
+    let a = c .before .before .before .before .args in
+    let window = a .filter-win .now in
     let first = sfits-of {w = w16} {z = getD window (l .i) (pos 0)} (c .before .all .given) in
-    let second = sfits-of {w = w16} {z = getD window (l .i + 81) (pos 0)} (c .all2 .given) in
+    let second = sfits-of {w = w16} {z = getD window (l .i + tapCount (a .p)) (pos 0)} (c .all2 .given) in
     (search needs, rw (add-one (l .i), l .inv .1, same-pattern _ _ first second))
 
 returns : tie.Need-returns Inv-loop μ-loop
 unfolding halvesAgree
 returns c =
     let l = c .before .loop in
-    let done : l .i ≡ 81 = omega arith in
+    let done : l .i ≡ tapCount (c .before .before .args .p) = omega arith in
     l .inv .1 ∙ rw done
 
 pub halves-agree-spec : {M : Type 1} → statement M
@@ -66,6 +74,8 @@ halves-agree-spec =
     (tie.spec
     Inv-loop
     μ-loop
+    mul-count
+    add-count
     loop-holds
     add-again
     mul-all

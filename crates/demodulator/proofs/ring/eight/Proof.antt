@@ -15,23 +15,20 @@ use Rattle.demodulator.proofs.ring.eight.Statement.{statement}
 use Rattle.demodulator.proofs.ring.eight.Tie as tie
 
 abbrev Inv-loop : tie.InvT-loop
-Inv-loop ring cursor values₀ i₀ values i = (i ≤ 8) × (values ≡ written (eight 10 (ringBack 10 ring cursor)) i values₀)
+Inv-loop p ring cursor values₀ i₀ values i = (i ≤ 8) × (values ≡ written (eight p (ringBack p ring cursor)) i values₀)
 
 abbrev μ-loop : tie.MeasureT-loop
-μ-loop ring cursor values₀ i₀ values i = 8 - i
+μ-loop p ring cursor values₀ i₀ values i = 8 - i
 
 loop-holds : tie.Need-loop-holds Inv-loop μ-loop
 unfolding firsts
 loop-holds c = (search needs, refl)
 
-sub-ago : tie.Need-sub-ago Inv-loop μ-loop
-sub-ago c = search needs
+sub-symbols : tie.Need-sub-symbols Inv-loop μ-loop
+sub-symbols c = search needs
 
-mul-ago : tie.Need-mul-ago Inv-loop μ-loop
-mul-ago c = search needs
-
-value-back-requires : tie.Need-value-back-requires Inv-loop μ-loop
-value-back-requires c κs = search needs
+symbol-back-requires : tie.Need-symbol-back-requires Inv-loop μ-loop
+symbol-back-requires c κs = search needs
 
 mul-values : tie.Need-mul-values Inv-loop μ-loop
 mul-values c = search needs
@@ -49,9 +46,9 @@ loop-again : tie.Need-loop-again Inv-loop μ-loop
 loop-again c =
     let l = c .before .before .loop in
     let a = c .before .before .before .args in
-    let v : ℕ → Float = eight 10 (ringBack 10 (a .ring .now) (a .cursor)) in
+    let v : ℕ → Float = eight (a .p) (ringBack (a .p) (a .ring .now) (a .cursor)) in
     let below : l .i < 8 = omega arith in
-    (search needs, rw (l .inv .1, c .value-back .ensures, add-one (l .i)) (written-step v (l .i) (replicate 8 (ofBits binary32 0)) nan below))
+    (search needs, rw (l .inv .1, c .symbol-back .ensures, add-one (l .i)) (written-step v (l .i) (replicate 8 (ofBits binary32 0)) nan below))
 
 returns : tie.Need-returns Inv-loop μ-loop
 returns c =
@@ -66,9 +63,8 @@ eight-spec =
     Inv-loop
     μ-loop
     loop-holds
-    sub-ago
-    mul-ago
-    value-back-requires
+    sub-symbols
+    symbol-back-requires
     mul-values
     array-write-values
     add-i

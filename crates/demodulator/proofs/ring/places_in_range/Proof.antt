@@ -1,6 +1,7 @@
 -- `places_in_range` meets its contract: after j values, the answer is that of the first j. Assumes nothing.
 use mathlib.Core.Path.{_≡_, refl, _∙_}
-use Prim.Native.Nat.{ℕ, _+_, _*_, _-_, _≤_}
+use Prim.Native.Nat.{ℕ, _+_, _*_, _-_, _≤_, _<_}
+use native.Mathlib.Nat.{mul-le-mul-left}
 use native.Mathlib.Numerals.{add-one}
 use native.Mathlib.Omega.{arith}
 use borrow.Author.Needs.{needs}
@@ -11,23 +12,29 @@ use Rattle.demodulator.proofs.ring.places_in_range.Statement.{statement
 use Rattle.demodulator.proofs.ring.places_in_range.Tie as tie
 
 abbrev Inv-loop : tie.InvT-loop
-Inv-loop ring cursor newest count all₀ j₀ all j = (j ≤ count) × (all ≡ allBelow j (λ (k : ℕ). inRange (ringBack 10 ring cursor (10 * k + newest))))
+Inv-loop p ring cursor newest count all₀ j₀ all j = (j ≤ count) × (all ≡ allBelow j (λ (k : ℕ). inRange (ringBack p ring cursor (p * k + newest))))
 
 abbrev μ-loop : tie.MeasureT-loop
-μ-loop ring cursor newest count all₀ j₀ all j = count - j
+μ-loop p ring cursor newest count all₀ j₀ all j = count - j
 
 loop-holds : tie.Need-loop-holds Inv-loop μ-loop
 unfolding allBelow
 loop-holds c = (search needs, refl)
 
 mul-ago : tie.Need-mul-ago Inv-loop μ-loop
-mul-ago c = search needs
+mul-ago c =
+    let below : c .before .loop .j < 191 = omega arith in
+    omega (arith, mul-le-mul-left (c .before .before .args .p) below)
 
 add-ago : tie.Need-add-ago Inv-loop μ-loop
-add-ago c = search needs
+add-ago c =
+    let below : c .before .loop .j < 191 = omega arith in
+    omega (arith, mul-le-mul-left (c .before .before .args .p) below)
 
 value-back-requires : tie.Need-value-back-requires Inv-loop μ-loop
-value-back-requires c κs = search needs
+value-back-requires c κs =
+    let below : c .before .loop .j < 191 = omega arith in
+    omega (arith, mul-le-mul-left (c .before .before .args .p) below)
 
 in-range-requires : tie.Need-in-range-requires Inv-loop μ-loop
 in-range-requires c κs = search needs

@@ -15,23 +15,20 @@ use Rattle.demodulator.proofs.ring.write_window.Statement.{statement}
 use Rattle.demodulator.proofs.ring.write_window.Tie as tie
 
 abbrev Inv-loop : tie.InvT-loop
-Inv-loop ring cursor shown room₀ i₀ room i = (i ≤ 192) × (length room ≡ length room₀) × (room ≡ written (symbolAt 10 shown (ringBack 10 ring cursor)) i room₀)
+Inv-loop p ring cursor shown room₀ i₀ room i = (i ≤ 192) × (length room ≡ length room₀) × (room ≡ written (symbolAt p shown (ringBack p ring cursor)) i room₀)
 
 abbrev μ-loop : tie.MeasureT-loop
-μ-loop ring cursor shown room₀ i₀ room i = 192 - i
+μ-loop p ring cursor shown room₀ i₀ room i = 192 - i
 
 loop-holds : tie.Need-loop-holds Inv-loop μ-loop
 unfolding firsts
 loop-holds c = (search needs, refl, refl)
 
-sub-ago : tie.Need-sub-ago Inv-loop μ-loop
-sub-ago c = search needs
+sub-symbols : tie.Need-sub-symbols Inv-loop μ-loop
+sub-symbols c = search needs
 
-mul-ago : tie.Need-mul-ago Inv-loop μ-loop
-mul-ago c = search needs
-
-value-back-requires : tie.Need-value-back-requires Inv-loop μ-loop
-value-back-requires c κs = search needs
+symbol-back-requires : tie.Need-symbol-back-requires Inv-loop μ-loop
+symbol-back-requires c κs = search needs
 
 mul-room : tie.Need-mul-room Inv-loop μ-loop
 mul-room c = search needs
@@ -51,11 +48,11 @@ loop-again c =
     let v = c .before .before in
     let l = v .before .before .loop in
     let a = v .before .before .before .before .args in
-    let f : ℕ → Float = symbolAt 10 (a .shown) (ringBack 10 (a .ring .now) (a .cursor)) in
+    let f : ℕ → Float = symbolAt (a .p) (a .shown) (ringBack (a .p) (a .ring .now) (a .cursor)) in
     let below : l .i < length (a .room .now) = omega arith in (
       search needs,
       simp length-set (l .inv .1),
-      rw (l .inv .2, v .value-back .ensures, add-one (l .i)) (written-step f (l .i) (a .room .now) nan below),
+      rw (l .inv .2, v .symbol-back .ensures, add-one (l .i)) (written-step f (l .i) (a .room .now) nan below),
     )
 
 same-length : tie.Need-same-length Inv-loop μ-loop
@@ -74,9 +71,8 @@ write-window-spec =
     Inv-loop
     μ-loop
     loop-holds
-    sub-ago
-    mul-ago
-    value-back-requires
+    sub-symbols
+    symbol-back-requires
     mul-room
     slice-write-room
     add-i

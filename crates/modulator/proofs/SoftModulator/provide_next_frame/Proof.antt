@@ -4,7 +4,7 @@ use mathlib.Core.Bool.{true}
 use Prim.Native.Nat.{_<_}
 use borrow.Author.Needs.{needs}
 use borrow.Author.Tests.{not-true, not-false}
-use Rattle.shaping.specs.Rate.{at48}
+use Rattle.shaping.specs.Rate.{rateFit, samplesIn, rateOf, tapCount}
 use Rattle.given_symbols.proofs.Judged.{fine-count}
 use Rattle.modulator.specs.Fit.{recordFit}
 use Rattle.modulator.proofs.Fitness.{record-facts}
@@ -12,21 +12,28 @@ use Rattle.modulator.proofs.FrameCases.{frame-unfit, frame-none, frame-
 use Rattle.modulator.proofs.SoftModulator.provide_next_frame.Statement.{statement}
 use Rattle.modulator.proofs.SoftModulator.provide_next_frame.Tie as tie
 
--- where a frame is looked at, the record is fit, and so is its cursor
-fit : (c : tie.Else1) → recordFit 10 (c .before .before .before .args .self) ≡ true
+-- where a frame is looked at, the record is fit, and so are its rate and its cursor
+fit : (c : tie.Else1) → recordFit (samplesIn (c .before .before .before .args .self .rate)) (c .before .before .before .args .self) ≡ true
 fit c = sym (c .before .record-fit .ensures) ∙ not-false _ (c .if1 .left)
 
-cursor : (c : tie.Else1) → c .before .before .before .args .self .«filter_cursor» < 81
-cursor c = record-facts 10 (c .before .before .before .args .self) (fit c) .cursor
+rate : (c : tie.Else1) → rateFit (c .before .before .before .args .self .rate) ≡ true
+rate c = record-facts (samplesIn (c .before .before .before .args .self .rate)) (c .before .before .before .args .self) (fit c) .rate
+
+cursor : (c : tie.Else1) → c .before .before .before .args .self .«filter_cursor» < tapCount (samplesIn (c .before .before .before .args .self .rate))
+cursor c = record-facts (samplesIn (c .before .before .before .args .self .rate)) (c .before .before .before .args .self) (fit c) .cursor
 
 record-fit-requires : tie.Need-record-fit-requires
 record-fit-requires c κs = search needs
 
+unfit-for-requires : tie.Need-unfit-for-requires
+unfit-for-requires c κs = search needs
+
 returns : tie.Need-returns
 returns c =
-    let a = c .before .before .before .args in
-    let e = frame-unfit at48 (a .self) (a .frame) (a .symbols .now) (sym (c .before .record-fit .ensures) ∙ not-true _ (c .if1 .taken)) in
-    record { answers = rw e; leaves = rw e }
+    let r = c .before .before in
+    let a = r .before .before .args in
+    let e = frame-unfit (rateOf (a .self .rate)) (a .self) (a .frame) (a .symbols .now) (sym (r .record-fit .ensures) ∙ not-true _ (c .before .if1 .taken)) in
+    record { answers = rw (e, c .unfit-for .ensures); leaves = rw e }
 
 enum-told : tie.Need-enum-told
 enum-told c = search needs
@@ -38,7 +45,7 @@ enum-known-frame : tie.Need-enum-known-frame
 enum-known-frame c = search needs
 
 preamble-requires : tie.Need-preamble-requires
-preamble-requires c κs = cursor (c .before .before .before)
+preamble-requires c κs = (rate (c .before .before .before), cursor (c .before .before .before))
 
 enum-known-frame-2 : tie.Need-enum-known-frame-2
 enum-known-frame-2 c = search needs
@@ -57,7 +64,7 @@ returns-2 c =
     let f = t .before .before in
     let a = f .before .before .before .args in
     let wrong = sym (j .judge-frame .ensures) ∙ v .verdict .given .1 in
-    let e = frame-refused at48 (a .self) (a .frame) (a .symbols .now) (fit f) (t .frame2 .given .0 .0) (t .frame2 .given .1) (v .verdict .given .0 .0) wrong in
+    let e = frame-refused (rateOf (a .self .rate)) (a .self) (a .frame) (a .symbols .now) (fit f) (t .frame2 .given .0 .0) (t .frame2 .given .1) (v .verdict .given .0 .0) wrong in
     record { answers = rw e; leaves = rw e }
 
 enum-told-2 : tie.Need-enum-told-2
@@ -69,20 +76,20 @@ given-requires c κs =
     let t = j .before .before in
     let f = t .before .before in
     let a = f .before .before .before .args in
-    (cursor f, fine-count (t .frame2 .given .0 .0) (a .symbols .now) (sym (j .judge-frame .ensures) ∙ c .enum-told2 .given .1))
+    (rate f, cursor f, fine-count (t .frame2 .given .0 .0) (a .symbols .now) (sym (j .judge-frame .ensures) ∙ c .enum-told2 .given .1))
 
 enum-told-3 : tie.Need-enum-told-3
 enum-told-3 c = search needs
 
 end-of-transmission-requires : tie.Need-end-of-transmission-requires
-end-of-transmission-requires c κs = cursor (c .before .before)
+end-of-transmission-requires c κs = (rate (c .before .before), cursor (c .before .before))
 
 returns-3 : tie.Need-returns-3
 returns-3 c =
     let t = c .before in
     let f = t .before .before in
     let a = f .before .before .before .args in
-    let e = frame-none at48 (a .self) (a .frame) (a .symbols .now) (fit f) (t .enum-told .given .1) in
+    let e = frame-none (rateOf (a .self .rate)) (a .self) (a .frame) (a .symbols .now) (fit f) (t .enum-told .given .1) in
     record { answers = rw e; leaves = rw (e, c .without-wish .ensures) }
 
 returns-4 : tie.Need-returns-4
@@ -90,7 +97,7 @@ returns-4 c =
     let t = c .before .before in
     let f = t .before .before in
     let a = f .before .before .before .args in
-    let e = frame-preamble at48 (a .self) (a .frame) (a .symbols .now) (fit f) (t .frame .given .0 .0) (t .frame .given .0 .1 .0) (t .frame .given .1) in
+    let e = frame-preamble (rateOf (a .self .rate)) (a .self) (a .frame) (a .symbols .now) (fit f) (t .frame .given .0 .0) (t .frame .given .0 .1 .0) (t .frame .given .1) in
     record { answers = rw e; leaves = rw (e, c .preamble .ensures) }
 
 returns-5 : tie.Need-returns-5
@@ -101,7 +108,7 @@ returns-5 c =
     let f = t .before .before in
     let a = f .before .before .before .args in
     let right = sym (j .judge-frame .ensures) ∙ v .enum-told2 .given .1 in
-    let e = frame-given at48 (a .self) (a .frame) (a .symbols .now) (fit f) (t .frame2 .given .0 .0) (t .frame2 .given .1) right in
+    let e = frame-given (rateOf (a .self .rate)) (a .self) (a .frame) (a .symbols .now) (fit f) (t .frame2 .given .0 .0) (t .frame2 .given .1) right in
     record { answers = rw e; leaves = rw (e, c .given .ensures) }
 
 returns-6 : tie.Need-returns-6
@@ -109,7 +116,7 @@ returns-6 c =
     let t = c .before in
     let f = t .before .before in
     let a = f .before .before .before .args in
-    let e = frame-ending at48 (a .self) (a .frame) (a .symbols .now) (fit f) (t .enum-told3 .given .1) in
+    let e = frame-ending (rateOf (a .self .rate)) (a .self) (a .frame) (a .symbols .now) (fit f) (t .enum-told3 .given .1) in
     record { answers = rw e; leaves = rw (e, c .end-of-transmission .ensures) }
 
 pub provide-next-frame-spec : {M : Type 1} → statement M
@@ -117,6 +124,7 @@ provide-next-frame-spec =
     tie.close
     (tie.spec
     record-fit-requires
+    unfit-for-requires
     returns
     enum-told
     without-wish-requires

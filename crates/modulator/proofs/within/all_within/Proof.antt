@@ -19,10 +19,10 @@ abbrev test : Float → List Float → ℕ → Bool
 test size values i = within size (getD values i nan)
 
 abbrev Inv-loop : tie.InvT-loop
-Inv-loop size values i₀ i = (i ≤ length values) × (allBelow i (test size values) ≡ true)
+Inv-loop size values count i₀ i = (i ≤ count) × (allBelow i (test size values) ≡ true)
 
 abbrev μ-loop : tie.MeasureT-loop
-μ-loop size values i₀ i = length values - i
+μ-loop size values count i₀ i = count - i
 
 loop-holds : tie.Need-loop-holds Inv-loop μ-loop
 unfolding allBelow
@@ -41,7 +41,7 @@ returns : tie.Need-returns Inv-loop μ-loop
 returns c =
     let l = c .before .before .before .before in
     let a = l .before .before .args in
-    sym (all-failed (length (a .values .now)) (test (a .size) (a .values .now)) (l .loop .i) (omega arith) (sym (c .before .within .ensures) ∙ not-true _ (c .if1 .taken)))
+    sym (all-failed (a .count) (test (a .size) (a .values .now)) (l .loop .i) (omega arith) (sym (c .before .within .ensures) ∙ not-true _ (c .if1 .taken)))
 
 add-i : tie.Need-add-i Inv-loop μ-loop
 add-i c = search needs
@@ -57,7 +57,7 @@ loop-again c =
 
 returns-2 : tie.Need-returns-2 Inv-loop μ-loop
 returns-2 c =
-    let done : c .before .loop .i ≡ length (c .before .before .before .args .values .now) = omega arith in
+    let done : c .before .loop .i ≡ c .before .before .before .args .count = omega arith in
     sym (rw done at (c .before .loop .inv .1))
 
 pub all-within-spec : {M : Type 1} → statement M

@@ -6,7 +6,7 @@ use borrow.Author.Needs.{needs}
 use denote.Enum.Declared.{tagOf}
 use types.Run.{OneOf, miss}
 use Rattle.protocol.specs.declared.Refusal.{Refusal}
-use Rattle.protocol.specs.declared.Refusal.the-variants.{RecordUnfit, ReplyOwed, NoReplyOwed, RoomTooSmall, CountAtItsEnd, WrongCount, SymbolNotANumber, SymbolInfinite, SymbolAboveOne, SymbolBelowMinusOne, BufferTooLarge, CapacityBelowFill, ValueOutside, WrongBurst}
+use Rattle.protocol.specs.declared.Refusal.the-variants.{RecordUnfit, ReplyOwed, NoReplyOwed, RoomTooSmall, CountAtItsEnd, WrongCount, SymbolNotANumber, SymbolInfinite, SymbolAboveOne, SymbolBelowMinusOne, BufferTooLarge, CapacityBelowFill, ValueOutside, WrongBurst, WrongRate}
 use Rattle.protocol.specs.declared.Place.the-variants.{Nothing}
 use Rattle.protocol.specs.Refusals.{onPaper, placeOf}
 use Rattle.protocol.proofs.Refusal.{the-type}
@@ -15,7 +15,7 @@ use Rattle.protocol.proofs.Refusal.place.Tie as tie
 
 -- the refusals that the last arm is for, by their places in the enum
 abbrev others : List ℕ
-others = 0 ∷ 1 ∷ 2 ∷ 3 ∷ 4 ∷ 5 ∷ 10 ∷ 11 ∷ 12 ∷ 13 ∷ []
+others = 0 ∷ 1 ∷ 2 ∷ 3 ∷ 4 ∷ 5 ∷ 10 ∷ 11 ∷ 12 ∷ 13 ∷ 14 ∷ []
 
 placeless : (why : Refusal) → OneOf others (tagOf the-type why) → Nothing ≡ placeOf (onPaper why)
 placeless RecordUnfit h = refl
@@ -32,6 +32,7 @@ placeless BufferTooLarge h = refl
 placeless CapacityBelowFill h = refl
 placeless ValueOutside h = refl
 placeless WrongBurst h = refl
+placeless WrongRate h = refl
 
 enum-known-self : tie.Need-enum-known-self
 enum-known-self c = search needs

@@ -14,14 +14,14 @@ use Rattle.pulse.specs.Phases.{pulseNo}
 use Rattle.pulse.proofs.row.pulse_row.Statement.{statement}
 use Rattle.pulse.proofs.row.pulse_row.Tie as tie
 
-abbrev rowFrom : List Float → ℕ → List Float → ℕ → ℕ → Float
-rowFrom window cursor symbols first i = pulseNo (lineAt window cursor) symbols (first + i)
+abbrev rowFrom : ℕ → List Float → ℕ → List Float → ℕ → ℕ → Float
+rowFrom p window cursor symbols first i = pulseNo p (lineAt window cursor) symbols (first + i)
 
 abbrev Inv-loop : tie.InvT-loop
-Inv-loop window cursor symbols first row₀ i₀ row i = (i ≤ 56) × (row ≡ written (rowFrom window cursor symbols first) i row₀)
+Inv-loop p window cursor symbols first row₀ i₀ row i = (i ≤ 56) × (row ≡ written (rowFrom p window cursor symbols first) i row₀)
 
 abbrev μ-loop : tie.MeasureT-loop
-μ-loop window cursor symbols first row₀ i₀ row i = 56 - i
+μ-loop p window cursor symbols first row₀ i₀ row i = 56 - i
 
 loop-holds : tie.Need-loop-holds Inv-loop μ-loop
 unfolding firsts
@@ -49,7 +49,7 @@ loop-again : tie.Need-loop-again Inv-loop μ-loop
 loop-again c =
     let l = c .before .before .loop in
     let a = c .before .before .before .before .args in
-    let f = rowFrom (a .window .now) (a .cursor) (a .symbols .now) (a .first) in
+    let f = rowFrom (a .p) (a .window .now) (a .cursor) (a .symbols .now) (a .first) in
     let below : l .i < 56 = omega arith in
     (search needs, rw (l .inv .1, c .nth-pulse .ensures, add-one (l .i)) (written-step f (l .i) (replicate 56 (ofBits binary32 0)) nan below))
 

@@ -2,6 +2,7 @@
 use mathlib.Core.Path.{_≡_, ap, _∙_}
 use mathlib.Core.List.{List, _++_}
 use Prim.Native.Nat.{ℕ, _+_, _*_, _/_, _%_, _≤_, _<_}
+use native.Mathlib.Nat.{mod-lt, mul-le-mul-left}
 use native.Mathlib.Omega.{arith}
 use borrow.Author.Needs.{needs}
 use lib.IntN.{ℤ, pos}
@@ -9,22 +10,26 @@ use lib.ListN.{drop, replicate}
 use lib.Ieee.{Float}
 use Rattle.numbers.specs.Firsts.{written}
 use Rattle.numbers.proofs.Firsts.{firsts-same, written-at}
+use Rattle.shaping.specs.Rate.{Known, rateAt}
 use Rattle.pulse.specs.Phases.{phaseCut, inTurn, rowSample}
+use Rattle.pulse.proofs.Pulses.{symbol-inside}
 use Rattle.pulse.proofs.samples.put_block.Statement.{statement}
 use Rattle.pulse.proofs.samples.put_block.Tie as tie
 
--- what is read in turn of the phases' samples is the row's
-in-turn : (row : List Float) (begun cuts : List ℤ) → cuts ≡ written (phaseCut row) 480 begun → (i : ℕ) → i < 480 → inTurn cuts i ≡ rowSample row i
-in-turn row begun cuts e i h =
-    let at : ℕ = 48 * (i % 10) + i / 10 in
-    let phase : at / 48 ≡ i % 10 = omega arith in
-    let lane : at % 48 ≡ i / 10 = omega arith in
-    rw e (written-at (phaseCut row) 480 begun at (pos 0) (omega arith) ∙ rw (phase, lane))
+module _ (p : ℕ) (known : Known p) (row : List Float) (begun cuts : List ℤ) (cut : cuts ≡ written (phaseCut (rateAt p) row) (48 * p) begun) where
+  -- what is read in turn of the phases' samples is the row's
+  in-turn : (i : ℕ) → i < p * 48 → inTurn p cuts i ≡ rowSample (rateAt p) row i
+  in-turn i h =
+      let at : ℕ = 48 * (i % p) + i / p in
+      let below : i % p < p = mod-lt i (omega arith) in
+      let lanes : i / p < 48 = symbol-inside p 48 i h in
+      let phase : at / 48 ≡ i % p = omega arith in
+      let lane : at % 48 ≡ i / p = omega arith in
+      rw cut (written-at (phaseCut (rateAt p) row) (48 * p) begun at (pos 0) (omega arith) ∙ rw (phase, lane))
 
-block-written : (row : List Float) (begun cuts : List ℤ) (count : ℕ) (room room′ : List ℤ) → count ≤ 48 → cuts ≡ written (phaseCut row) 480 begun
-    → room′ ≡ written (inTurn cuts) (10 * count) room → room′ ≡ written (rowSample row) (10 * count) room
-block-written row begun cuts count room room′ h e w =
-    w ∙ ap (λ (l : List ℤ). l ++ drop (10 * count) room) (firsts-same (inTurn cuts) (rowSample row) (10 * count) λ i l. in-turn row begun cuts e i (omega arith))
+  block-written : (count : ℕ) (room room′ : List ℤ) → count ≤ 48 → room′ ≡ written (inTurn p cuts) (p * count) room → room′ ≡ written (rowSample (rateAt p) row) (p * count) room
+  block-written count room room′ h w =
+      w ∙ ap (λ (l : List ℤ). l ++ drop (p * count) room) (firsts-same (inTurn p cuts) (rowSample (rateAt p) row) (p * count) λ i l. in-turn i (omega (arith, mul-le-mul-left p h)))
 
 slice-aggregate-put-phases : tie.Need-slice-aggregate-put-phases
 slice-aggregate-put-phases c = search needs
@@ -43,8 +48,9 @@ same-length c = search needs
 
 returns : tie.Need-returns
 returns c =
-    let a = c .before .before .before .before .before .before .before .args in
-    block-written (a .row .now) (replicate 480 (pos 0)) _ (a .count) (a .room .now) _ (omega arith) (c .before .before .before .before .before .put-phases .ensures) (c .before .put-in-turn .ensures)
+    let start = c .before .before .before .before .before .before .before in
+    let a = start .args in
+    block-written (a .p) (start .pre .0) (a .row .now) (replicate 480 (pos 0)) _ (c .before .before .before .before .before .put-phases .ensures) (a .count) (a .room .now) _ (start .pre .1) (c .before .put-in-turn .ensures)
 
 pub put-block-spec : {M : Type 1} → statement M
 put-block-spec =

@@ -4,13 +4,13 @@ use mathlib.Core.Path.{_≡_, sym, ap, _∙_}
 use mathlib.Core.Logic.{inl, inr}
 use mathlib.Core.List.{List}
 use Prim.Native.Nat.{ℕ, _+_, _-_, _*_, _%_, _≤_, _<_}
-use native.Mathlib.Nat.{mod-lt, mod-eq-of-lt}
+use native.Mathlib.Nat.{mod-lt, mod-eq-of-lt, mul-le-mul-left}
 use native.Mathlib.Omega.{arith}
 use borrow.Author.Needs.{needs}
-use lib.Dec.{lit≤}
 use lib.ListN.{length}
 use lib.Ieee.{Float}
 use Rattle.numbers.proofs.Tests.{lt-or-le}
+use Rattle.shaping.specs.Rate.{tapCount}
 use Rattle.pulse.specs.Pulse.{pulses, listed, after, lineAt}
 use Rattle.pulse.proofs.Pulses.{alone}
 use Rattle.pulse.proofs.Stream.{after-same, after-more, after-cursor-stays}
@@ -19,44 +19,69 @@ use Rattle.pulse.proofs.window.fill_window.Statement.{statement}
 use Rattle.pulse.proofs.window.fill_window.Tie as tie
 
 -- the symbols before the last nine leave nothing but their way round the ring
-last-nine : (e : ℕ → Float) (n : ℕ) (window : List Float) (cursor : ℕ) → length window ≡ 81 → cursor < 81
-    → after 10 (λ (j : ℕ). e (10 * (n - 9) + j)) (10 * (n - (n - 9))) (lineAt window ((cursor + 10 * (n - 9)) % 81)) ≡ after 10 e (10 * n) (lineAt window cursor)
-last-nine e n window cursor long inside = elim (lt-or-le n 9) [
+last-nine : (p : ℕ) → 0 < p → (e : ℕ → Float) (n : ℕ) (window : List Float) (cursor : ℕ) → tapCount p ≤ length window → cursor < tapCount p
+    → after p (λ (j : ℕ). e (p * (n - 9) + j)) (p * (n - (n - 9))) (lineAt window ((cursor + p * (n - 9)) % tapCount p)) ≡ after p e (p * n) (lineAt window cursor)
+last-nine p some e n window cursor long inside = elim (lt-or-le n 9) [
   | inl few ↦
       let none : n - 9 ≡ 0 = omega arith in
-      let all : 10 * (n - (n - 9)) ≡ 10 * n = omega arith in
-      let here : (cursor + 10 * (n - 9)) % 81 ≡ cursor = ap (λ (m : ℕ). m % 81) {x = cursor + 10 * (n - 9)} {y = cursor} (omega arith) ∙ mod-eq-of-lt inside in
-      rw (all, here) (after-same 10 _ e (10 * n) (lineAt window cursor) λ j l. ap e {x = 10 * (n - 9) + j} {y = j} (omega arith))
+      let gone : p * (n - 9) ≡ 0 = ap (λ (m : ℕ). p * m) none ∙ omega arith in
+      let all : p * (n - (n - 9)) ≡ p * n = ap (λ (m : ℕ). p * m) {x = n - (n - 9)} {y = n} (omega arith) in
+      let here : (cursor + p * (n - 9)) % tapCount p ≡ cursor = ap (λ (m : ℕ). m % tapCount p) {x = cursor + p * (n - 9)} {y = cursor} (omega arith) ∙ mod-eq-of-lt inside in
+      rw (all, here) (after-same p _ e (p * n) (lineAt window cursor) λ j l. ap e {x = p * (n - 9) + j} {y = j} (omega arith))
   | inr many ↦
-      let nine : 10 * (n - (n - 9)) ≡ 90 = omega arith in
-      let all : 10 * n ≡ 10 * (n - 9) + 90 = omega arith in
-      rw (nine, all) (sym (last-enough 10 e (10 * (n - 9)) 90 window cursor long inside (lit≤ tt)))
+      let nine : p * (n - (n - 9)) ≡ p * 9 = ap (λ (m : ℕ). p * m) {x = n - (n - 9)} {y = 9} (omega arith) in
+      let all : p * n ≡ p * (n - 9) + p * 9 = omega (arith, ap (λ (m : ℕ). p * m) {x = n} {y = n - 9 + 9} (omega arith)) in
+      rw (nine, all) (sym (last-enough p e (p * (n - 9)) (p * 9) window cursor long inside (omega arith)))
 ]
 
-abbrev rest : List Float → ℕ → ℕ → Float
-rest symbols passed j = pulses 10 (listed symbols) (10 * passed + j)
+abbrev rest : ℕ → List Float → ℕ → ℕ → Float
+rest p symbols passed j = pulses p (listed symbols) (p * passed + j)
 
 abbrev Inv-loop : tie.InvT-loop
-Inv-loop window₀ cursor symbols n passed next₀ i₀ window next i =
-    (passed ≤ i) × (i ≤ length symbols) × (next < 81) × (lineAt window next ≡ after 10 (rest symbols passed) (10 * (i - passed)) (lineAt window₀ ((cursor + 10 * passed) % 81)))
+Inv-loop p window₀ cursor symbols n passed places next₀ i₀ window next i =
+    (passed ≤ i) × (i ≤ length symbols) × (next < tapCount p) × (lineAt window next ≡ after p (rest p symbols passed) (p * (i - passed)) (lineAt window₀ ((cursor + p * passed) % tapCount p)))
 
 abbrev μ-loop : tie.MeasureT-loop
-μ-loop window₀ cursor symbols n passed next₀ i₀ window next i = length symbols - i
+μ-loop p window₀ cursor symbols n passed places next₀ i₀ window next i = length symbols - i
+
+-- the samples of the symbols before the last nine
+front : (c : tie.After-saturating-sub Inv-loop μ-loop) → c .before .before .args .p * c .saturating-sub .result + 9 * c .before .before .args .p < 18446744073709551616
+front c = elim (lt-or-le n 9) [
+  | inl few ↦
+      let none : c .saturating-sub .result ≡ 0 = omega (arith, c .saturating-sub .ensures) in
+      rw none (omega arith)
+  | inr many ↦
+      let all : c .saturating-sub .result + 9 ≡ n = omega (arith, c .saturating-sub .ensures) in
+      omega (arith, ap (λ (m : ℕ). c .before .before .args .p * m) all)
+]
+  where
+    n : ℕ
+    n = length (c .before .before .args .symbols .now)
 
 saturating-sub-requires : tie.Need-saturating-sub-requires Inv-loop μ-loop
 saturating-sub-requires c κs = search needs
 
+mul-places : tie.Need-mul-places Inv-loop μ-loop
+mul-places c = search needs
+
+add-places : tie.Need-add-places Inv-loop μ-loop
+add-places c = search needs
+
 mul-next : tie.Need-mul-next Inv-loop μ-loop
-mul-next c = omega (arith, c .saturating-sub .ensures)
+mul-next c = let f = front c in omega arith
 
 add-next : tie.Need-add-next Inv-loop μ-loop
-add-next c = omega (arith, c .saturating-sub .ensures)
+add-next c = let f = front c in omega arith
+
+rem-next : tie.Need-rem-next Inv-loop μ-loop
+rem-next c = search needs
 
 loop-holds : tie.Need-loop-holds Inv-loop μ-loop
 unfolding after
 loop-holds c =
     let passed = c .saturating-sub .result in
-    let none : 10 * (passed - passed) ≡ 0 = omega arith in
+    let a = c .before .before .args in
+    let none : a .p * (passed - passed) ≡ 0 = ap (λ (n : ℕ). a .p * n) {x = passed - passed} {y = 0} (omega arith) ∙ omega arith in
     (search needs, omega (arith, c .saturating-sub .ensures), mod-lt _ (omega arith), rw none)
 
 mul-enter-symbol : tie.Need-mul-enter-symbol Inv-loop μ-loop
@@ -78,16 +103,19 @@ loop-again : tie.Need-loop-again Inv-loop μ-loop
 loop-again c =
     let l = c .before .before .before .before in
     let a = l .before .before .before .args in
+    let p = a .p in
     let passed = l .before .saturating-sub .result in
     let i = l .loop .i in
-    let next : 10 * (i + 1 - passed) ≡ 10 * (i - passed) + 10 = omega arith in
-    let same : (j : ℕ) → j < 10 → pulses 10 (λ (_ : ℕ). listed (a .symbols .now) i) j ≡ rest (a .symbols .now) passed (10 * (i - passed) + j) =
-    λ j h. sym (ap (pulses 10 (listed (a .symbols .now))) {x = 10 * passed + (10 * (i - passed) + j)} {y = 10 * i + j} (omega arith) ∙ alone 10 (listed (a .symbols .now)) i j h)
+    let more : i + 1 - passed ≡ i - passed + 1 = omega arith in
+    let next : p * (i + 1 - passed) ≡ p * (i - passed) + p = ap (λ (n : ℕ). p * n) more ∙ omega arith in
+    let whole : p * passed + p * (i - passed) ≡ p * i = omega (arith, ap (λ (n : ℕ). p * n) {x = passed + (i - passed)} {y = i} (omega arith)) in
+    let same : (j : ℕ) → j < p → pulses p (λ (_ : ℕ). listed (a .symbols .now) i) j ≡ rest p (a .symbols .now) passed (p * (i - passed) + j) =
+    λ j h. sym (ap (pulses p (listed (a .symbols .now))) {x = p * passed + (p * (i - passed) + j)} {y = p * i + j} (omega arith) ∙ alone p (listed (a .symbols .now)) i j h)
     in (
       search needs,
       search needs,
-      after-cursor-stays 10 _ 10 _ _ (l .loop .inv .2) (c .enter-symbol .ensures),
-      rw next (after-more 10 (rest (a .symbols .now) passed) _ (10 * (i - passed)) 10 _ _ _ same (l .loop .inv .3) (c .enter-symbol .ensures)),
+      after-cursor-stays p _ p _ _ (l .loop .inv .2) (c .enter-symbol .ensures),
+      rw next (after-more p (rest p (a .symbols .now) passed) _ (p * (i - passed)) p _ _ _ same (l .loop .inv .3) (c .enter-symbol .ensures)),
     )
 
 returns : tie.Need-returns Inv-loop μ-loop
@@ -95,9 +123,10 @@ returns c =
     let l = c .before .loop in
     let s = c .before .before in
     let a = s .before .before .args in
+    let pre = s .before .before .pre in
     let n = length (a .symbols .now) in
     let done : l .i ≡ n = omega arith in
-    l .inv .3 ∙ rw (done, s .saturating-sub .ensures) (last-nine (pulses 10 (listed (a .symbols .now))) n (a .window .now) (a .cursor) (s .before .before .pre .1) (s .before .before .pre .0))
+    l .inv .3 ∙ rw (done, s .saturating-sub .ensures) (last-nine (a .p) (omega arith) (pulses (a .p) (listed (a .symbols .now))) n (a .window .now) (a .cursor) (omega arith) (pre .1))
 
 pub fill-window-spec : {M : Type 1} → statement M
 fill-window-spec =
@@ -106,8 +135,11 @@ fill-window-spec =
     Inv-loop
     μ-loop
     saturating-sub-requires
+    mul-places
+    add-places
     mul-next
     add-next
+    rem-next
     loop-holds
     mul-enter-symbol
     shared-slice-read-enter-symbol

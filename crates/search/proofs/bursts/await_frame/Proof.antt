@@ -15,11 +15,11 @@ rank-requires c κs = search needs
 rank-requires-2 : tie.Need-rank-requires-2
 rank-requires-2 c κs = search needs
 
-cast-left : tie.Need-cast-left
-cast-left c = search needs
+rest-after-requires : tie.Need-rest-after-requires
+rest-after-requires c κs = search needs
 
-sub-left : tie.Need-sub-left
-sub-left c = search needs
+mul-span : tie.Need-mul-span
+mul-span c = search needs
 
 end-after-requires : tie.Need-end-after-requires
 end-after-requires c κs = search needs
@@ -27,10 +27,11 @@ end-after-requires c κs = search needs
 returns : tie.Need-returns
 unfolding missed
 returns c =
-    let ranks = c .before .before in
+    let left = c .before in
+    let ranks = left .before .before in
     let known = ranks .before .before .before in
-    let same : rank (known .candidate .given .0 .0) ≡ rank (known .before .before .args .kind) = sym (ranks .before .rank .ensures) ∙ c .before .if1 .taken ∙ ranks .rank2 .ensures in
-    rw (known .candidate .given .1, eq-eqb _ _ same, c .end-after .ensures)
+    let same : rank (known .candidate .given .0 .0) ≡ rank (known .before .before .args .kind) = sym (ranks .before .rank .ensures) ∙ left .before .if1 .taken ∙ ranks .rank2 .ensures in
+    rw (known .candidate .given .1, eq-eqb _ _ same, left .rest-after .ensures, c .end-after .ensures)
 
 enum-told : tie.Need-enum-told
 enum-told c = search needs
@@ -55,8 +56,8 @@ await-frame-spec =
     enum-known-candidate
     rank-requires
     rank-requires-2
-    cast-left
-    sub-left
+    rest-after-requires
+    mul-span
     end-after-requires
     returns
     enum-told

@@ -58,7 +58,7 @@ returns : tie.Need-returns
 returns c =
     let once = c .before .before .before in
     let tests = both (not (c .before .before .is-held .result)) (lt (once .spread-of .result .gain) leastGain) (holds (c .if1 .taken)) in
-    sym (silent-search 10 _ _ (faint (sensed once) (is-true _ (tests .1))) (free (c .before .before) (is-false _ (tests .0))))
+    sym (silent-search _ _ _ (faint (sensed once) (is-true _ (tests .1))) (free (c .before .before) (is-false _ (tests .0))))
 
 compare-requires : tie.Need-compare-requires
 compare-requires c κs = search needs
@@ -111,7 +111,7 @@ returns-2 c =
     let matched = preamble .is-match .result || end .is-match2 .result || lsf .is-match3 .result || bert .is-match4 .result || stream .is-match5 .result || packet .is-match6 .result in
     let tests = both (not (held .is-held .result)) (not matched) (holds (c .if2 .taken)) in
     sym
-    (silent-search 10 v (a .control)
+    (silent-search _ v (a .control)
     (unmatched v _ _ _ _ _ _
     (preamble .is-match .ensures ∙ sym (match-own Preamble v _ (own six .preamble)))
     (end .is-match2 .ensures ∙ sym (match-own EndOfTransmission v _ (own six .end)))

@@ -9,6 +9,9 @@ use Rattle.search.proofs.bursts.set_timer.Tie as tie
 is-match-requires : tie.Need-is-match-requires
 is-match-requires c κs = search needs
 
+mul-span : tie.Need-mul-span
+mul-span c = search needs
+
 end-after-requires : tie.Need-end-after-requires
 end-after-requires c κs = search needs
 
@@ -23,4 +26,4 @@ unfolding carried
 returns-2 c = λ burst v e. rw (match-own burst v _ e ∙ sym (c .before .is-match .ensures) ∙ c .if1 .left)
 
 pub set-timer-spec : {M : Type 1} → statement M
-set-timer-spec = tie.close (tie.spec is-match-requires end-after-requires returns returns-2)
+set-timer-spec = tie.close (tie.spec is-match-requires mul-span end-after-requires returns returns-2)

@@ -13,6 +13,9 @@ enum-known-wait c = search needs
 is-held-requires : tie.Need-is-held-requires
 is-held-requires c κs = search needs
 
+mul-whole : tie.Need-mul-whole
+mul-whole c = search needs
+
 returns : tie.Need-returns
 unfolding waitFit
 returns c = search needs
@@ -22,4 +25,4 @@ unfolding waitFit
 returns-2 c = rw (c .before .before .wait .given .1, c .is-held .ensures)
 
 pub wait-fit-spec : {M : Type 1} → statement M
-wait-fit-spec = tie.close (tie.spec enum-told enum-known-wait is-held-requires returns returns-2)
+wait-fit-spec = tie.close (tie.spec enum-told enum-known-wait is-held-requires mul-whole returns returns-2)

@@ -1,5 +1,6 @@
 -- `Sending::open` meets its contract. Assumes nothing.
 use borrow.Author.Needs.{needs}
+use Rattle.modulator.specs.Calls.{made}
 use Rattle.house.specs.Line.{noSymbols}
 use Rattle.sending.proofs.Parts.{open-said}
 use Rattle.sending.proofs.Sending.open.Statement.{statement}
@@ -12,8 +13,8 @@ part-requires : tie.Need-part-requires
 part-requires c κs = search needs
 
 returns : tie.Need-returns
-unfolding noSymbols
-returns c = open-said (c .before .new .result) (c .before .new .ensures) (c .part .result) (c .part .ensures)
+unfolding noSymbols made
+returns c = open-said (c .before .before .new .result .modulator) (c .before .before .new .ensures .leaves) (c .part .result) (c .part .ensures)
 
 pub open-spec : {M : Type 1} → statement M
 open-spec = tie.close (tie.spec new-requires part-requires returns)

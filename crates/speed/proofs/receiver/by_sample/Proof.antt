@@ -7,10 +7,14 @@ use Rattle.speed.proofs.receiver.by_sample.Statement.{statement}
 use Rattle.speed.proofs.receiver.by_sample.Tie as tie
 
 abbrev Inv-loop : tie.InvT-loop
-Inv-loop samples receiver₀ room₀ sum₀ i₀ receiver room sum i = (i ≤ length samples) × (length room ≡ 192)
+Inv-loop rate samples places receiver₀ room₀ sum₀ i₀ receiver room sum i =
+    (1 ≤ places) × (places ≤ 1920) × (i ≤ length samples) × (length room ≡ 192)
 
 abbrev μ-loop : tie.MeasureT-loop
-μ-loop samples receiver₀ room₀ sum₀ i₀ receiver room sum i = length samples - i
+μ-loop rate samples places receiver₀ room₀ sum₀ i₀ receiver room sum i = length samples - i
+
+ring-places-requires : tie.Need-ring-places-requires Inv-loop μ-loop
+ring-places-requires c κs = search needs
 
 new-requires : tie.Need-new-requires Inv-loop μ-loop
 new-requires c κs = search needs
@@ -69,6 +73,7 @@ by-sample-spec =
     (tie.spec
     Inv-loop
     μ-loop
+    ring-places-requires
     new-requires
     loop-holds
     mul-demod

@@ -1,24 +1,25 @@
 -- `with_newest` is safe and ends: no value lies further back than the ring is long. Assumes nothing.
-use Prim.Native.Nat.{_≤_}
+use Prim.Native.Nat.{_<_, _≤_}
 use lib.ListN.{length}
 use borrow.Author.Needs.{needs}
 use Rattle.speed.proofs.receiver.with_newest.Statement.{statement}
 use Rattle.speed.proofs.receiver.with_newest.Tie as tie
 
 abbrev Inv-loop : tie.InvT-loop
-Inv-loop sum ring cursor count next longer₀ back₀ longer back = (1920 ≤ length ring) × (back ≤ 1920) × (1920 ≤ next)
+Inv-loop sum ring places cursor count at longer₀ back₀ longer back =
+    (places ≤ 1920) × (1920 ≤ length ring) × (at < places) × (back ≤ places)
 
 abbrev μ-loop : tie.MeasureT-loop
-μ-loop sum ring cursor count next longer₀ back₀ longer back = back
+μ-loop sum ring places cursor count at longer₀ back₀ longer back = back
 
-add-next : tie.Need-add-next Inv-loop μ-loop
-add-next c = search needs
+place-of-requires : tie.Need-place-of-requires Inv-loop μ-loop
+place-of-requires c κs = search needs
 
 loop-holds : tie.Need-loop-holds Inv-loop μ-loop
 loop-holds c = search needs
 
-sub-place : tie.Need-sub-place Inv-loop μ-loop
-sub-place c = search needs
+place-back-requires : tie.Need-place-back-requires Inv-loop μ-loop
+place-back-requires c κs = search needs
 
 mul-with-float : tie.Need-mul-with-float Inv-loop μ-loop
 mul-with-float c = search needs
@@ -47,9 +48,9 @@ with-newest-spec =
     (tie.spec
     Inv-loop
     μ-loop
-    add-next
+    place-of-requires
     loop-holds
-    sub-place
+    place-back-requires
     mul-with-float
     shared-slice-read-with-float
     with-float-requires

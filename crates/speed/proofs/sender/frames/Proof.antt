@@ -7,10 +7,10 @@ use Rattle.speed.proofs.sender.frames.Statement.{statement}
 use Rattle.speed.proofs.sender.frames.Tie as tie
 
 abbrev Inv-loop : tie.InvT-loop
-Inv-loop count symbols sender₀ room₀ sum₀ i₀ sender room sum i = (i ≤ count) × (length room ≡ 1920)
+Inv-loop rate count symbols sender₀ room₀ sum₀ i₀ sender room sum i = (i ≤ count) × (length room ≡ 1920)
 
 abbrev μ-loop : tie.MeasureT-loop
-μ-loop count symbols sender₀ room₀ sum₀ i₀ sender room sum i = count - i
+μ-loop rate count symbols sender₀ room₀ sum₀ i₀ sender room sum i = count - i
 
 new-requires : tie.Need-new-requires Inv-loop μ-loop
 new-requires c κs = search needs

@@ -1,23 +1,17 @@
--- `laid` is safe and ends: the measure is the number of places that are left. Assumes nothing.
+-- `own_values` is safe and ends: the measure is the number of places that are left. Assumes nothing.
 use borrow.Author.Needs.{needs}
 use Prim.Native.Nat.{_-_}
-use Rattle.cases_receiver_refusals.proofs.made.laid.Statement.{statement}
-use Rattle.cases_receiver_refusals.proofs.made.laid.Tie as tie
+use Rattle.cases_receiver_refusals.proofs.layout.own_values.Statement.{statement}
+use Rattle.cases_receiver_refusals.proofs.layout.own_values.Tie as tie
 
 abbrev Inv-loop : tie.InvT-loop
-Inv-loop others but from newest ring₀ own₀ place₀ ring own place = Unit {0}
+Inv-loop ring₀ own₀ place₀ ring own place = Unit {0}
 
 abbrev μ-loop : tie.MeasureT-loop
-μ-loop others but from newest ring₀ own₀ place₀ ring own place = 1920 - place
+μ-loop ring₀ own₀ place₀ ring own place = 1920 - place
 
 loop-holds : tie.Need-loop-holds Inv-loop μ-loop
 loop-holds c = search needs
-
-add-back : tie.Need-add-back Inv-loop μ-loop
-add-back c = search needs
-
-sub-back : tie.Need-sub-back Inv-loop μ-loop
-sub-back c = search needs
 
 mul-ring : tie.Need-mul-ring Inv-loop μ-loop
 mul-ring c = search needs
@@ -37,15 +31,13 @@ loop-again c = search needs
 returns : tie.Need-returns Inv-loop μ-loop
 returns c = search needs
 
-pub laid-spec : {M : Type 1} → statement M
-laid-spec =
+pub own-values-spec : {M : Type 1} → statement M
+own-values-spec =
     tie.close
     (tie.spec
     Inv-loop
     μ-loop
     loop-holds
-    add-back
-    sub-back
     mul-ring
     array-write-ring
     add-place

@@ -1,4 +1,4 @@
--- `put_ten` meets its contract: after j turns the first j places are written. Assumes nothing.
+-- `put_symbol` meets its contract: after j turns the first j places are written. Assumes nothing.
 use mathlib.Core.Path.{_≡_, refl}
 use mathlib.Core.List.{List}
 use Prim.Native.Nat.{ℕ, _+_, _-_, _*_, _≤_}
@@ -11,17 +11,17 @@ use lib.IntN.{ℤ, pos}
 use lib.ListN.{length, getD, length-set}
 use Rattle.numbers.specs.Firsts.{firsts, written}
 use Rattle.numbers.proofs.Firsts.{written-step}
-use Rattle.pulse.proofs.samples.put_ten.Statement.{statement}
-use Rattle.pulse.proofs.samples.put_ten.Tie as tie
+use Rattle.pulse.proofs.samples.put_symbol.Statement.{statement}
+use Rattle.pulse.proofs.samples.put_symbol.Tie as tie
 
 abbrev ofPhase : List ℤ → ℕ → ℕ → ℤ
 ofPhase cuts s j = getD cuts (48 * j + s) (pos 0)
 
 abbrev Inv-loop : tie.InvT-loop
-Inv-loop cuts s room₀ j₀ room j = (j ≤ 10) × (length room ≡ length room₀) × (room ≡ written (ofPhase cuts s) j room₀)
+Inv-loop p cuts s room₀ j₀ room j = (j ≤ p) × (length room ≡ length room₀) × (room ≡ written (ofPhase cuts s) j room₀)
 
 abbrev μ-loop : tie.MeasureT-loop
-μ-loop cuts s room₀ j₀ room j = 10 - j
+μ-loop p cuts s room₀ j₀ room j = p - j
 
 loop-holds : tie.Need-loop-holds Inv-loop μ-loop
 unfolding firsts
@@ -67,11 +67,11 @@ same-length c = search needs
 
 returns : tie.Need-returns Inv-loop μ-loop
 returns c =
-    let done : c .before .loop .j ≡ 10 = omega arith in
+    let done : c .before .loop .j ≡ c .before .before .args .p = omega arith in
     rw done at (c .before .loop .inv .2)
 
-pub put-ten-spec : {M : Type 1} → statement M
-put-ten-spec =
+pub put-symbol-spec : {M : Type 1} → statement M
+put-symbol-spec =
     tie.close
     (tie.spec
     Inv-loop
