@@ -5,9 +5,6 @@ use std::num::wrapping_add_u64;
 ghost use Prim.Native.Nat.{_≤_};
 ghost use lib.ListN.{length};
 
-// Room for a line of each sample that a call looks at.
-const MOST: usize = 24832;
-
 // What the last call consumed, and how many lines there are by now.
 struct Turn {
     receiving: Receiving,
@@ -31,25 +28,25 @@ fn hear_into(turn: Turn, bytes: &[u8], lines: &mut [u8]) -> Turn
     }
 }
 
-fn hear_some(turn: Turn, bytes: &[u8], room: usize) -> Turn
+fn hear_some(turn: Turn, bytes: &[u8], lines: &mut [u8], room: usize) -> Turn
     ensures { λ r. ⌜ r .consumed ≤ length (now (bytes .entry)) ⌝ }
 {
-    let mut lines = io::large_buffer();
-    let places = pieces::least(room, MOST);
+    let places = pieces::least(room, lines.len());
     hear_into(turn, bytes, &mut lines[..places])
 }
 
-// What a call does not consume begins the next read.
+// What a call does not consume begins the next read. There are places for a line of each sample that a call looks at.
 fn hear_all(recording: &[u8], size: usize, room: usize) -> u64 {
     let mut turn = Turn {
         receiving: Receiving::new(),
         consumed: 0,
         found: 0,
     };
+    let mut lines = [0u8; 794624];
     let mut at: usize = 0;
     while at < recording.len() {
         let end = pieces::read_end(at, size, recording.len());
-        turn = hear_some(turn, &recording[at..end], room);
+        turn = hear_some(turn, &recording[at..end], &mut lines, room);
         let consumed = turn.consumed;
         if consumed == 0 {
             return turn.found;

@@ -11,7 +11,7 @@ use demodulator::SoftDemodulator;
 use std::num::wrapping_add_u64;
 ghost use Prim.Native.Nat.{_≤_};
 
-// What stands in each place of the room before a sample: no symbol that is offered here equals it.
+// What is in each place of the room before a sample: no symbol that is offered here equals it.
 pub(crate) const UNWRITTEN: f32 = -7.25;
 
 // How many of the places from `from` on, below `to`, are not as they were laid.

@@ -1,4 +1,4 @@
-// What lies in the window and the ring of a made-up record, at p samples in a symbol. The ring's places past those that the rate uses hold values too.
+// What is in the window and the ring of a made-up record, at p samples in a symbol. The ring's places past those that the rate uses hold values too.
 ghost use Prim.Native.Nat.{_<_, _≤_};
 
 // The samples in a symbol; a record of a rate that is none is laid out as one of 48 kHz.

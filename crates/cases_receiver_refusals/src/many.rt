@@ -12,7 +12,7 @@ use receiving::Receiving;
 use std::num::wrapping_add_u64;
 ghost use Prim.Native.Nat.{_≤_};
 
-// What stands in each place of the room for lines: no byte of a line equals it.
+// What is in each place of the room for lines: no byte of a line equals it.
 const UNLINED: u8 = b'-';
 
 // The number that the words ask for, up to the most.
@@ -159,9 +159,9 @@ fn with_odd(plain: Answer, before: u64, after: u64) -> Answer {
 pub(crate) fn hear(words: &[u8], place: usize) -> Answer {
     let demodulator = made::record(words, place);
     let held = odd(words);
-    let count = asked(words, b"bytes", 2, 600);
+    let count = asked(words, b"bytes", 2, 16500);
     let length = asked(words, b"lines", 97, 200);
-    let bytes = [100u8; 600];
+    let bytes = [100u8; 16500];
     let mut lines = [UNLINED; 200];
     let receiving = Receiving {
         demodulator,

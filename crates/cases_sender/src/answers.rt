@@ -4,7 +4,7 @@ use modulator::ModulatorAction;
 use modulator::SoftModulator;
 ghost use Prim.Native.Nat.{_≤_};
 
-// What stands in each place of the room before a read.
+// What is in each place of the room before a read.
 pub(crate) const UNWRITTEN: i16 = 12345;
 
 // No line of the list has these words.

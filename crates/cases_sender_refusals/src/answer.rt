@@ -41,7 +41,7 @@ pub(crate) const NOT_AS_WITH_NONE: usize = 10;
 
 const AND_CHANGED: usize = 11;
 
-// What stands in each place of the room before a read: no sample of a made-up store equals it.
+// What is in each place of the room before a read: no sample of a made-up store equals it.
 pub(crate) const UNWRITTEN: i16 = -7777;
 
 fn plain(words: usize, number: u64) -> Answer {
@@ -190,7 +190,7 @@ fn put_place(place: Place) {
     }
 }
 
-// What stands in the room is shown where the line says how large it is.
+// What is in the room is shown where the line says how large it is.
 pub(crate) fn put(answer: Answer, parts: &[u8]) {
     let room = answer.room;
     let place = answer.place;

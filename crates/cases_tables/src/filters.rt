@@ -8,10 +8,16 @@ struct Window {
     oldest: usize,
 }
 
+// At 24 kHz no sum reads past the 82 places: what is in the first and the last of the others would show.
 fn fresh(p: usize) -> Window {
+    let mut samples = [0i16; 162];
+    if p != 10 {
+        samples[82] = 12_345;
+        samples[161] = 12_345;
+    }
     Window {
         p,
-        samples: [0i16; 162],
+        samples,
         oldest: 0,
     }
 }

@@ -24,7 +24,8 @@ use Rattle.demodulator.specs.Spans.{eight}
 use Rattle.demodulator.specs.Record.{back, stored}
 use Rattle.demodulator.specs.Fit.{unfitNumber, recordFit, fitForSample}
 use Rattle.demodulator.specs.Calls.{Paper, refusal, nothing, frame, done, carrier, Left, refused, finished, admittedBy, heardPaper, demodulated, demod-at}
-use Rattle.demodulator.specs.Feed.{Stretch, stopsBefore, goesOn, fedFrom, fed, sampleSaid, sampleNext, sampleRoom, fedInto, isQuiet, wentIn, toldAfter, feed-says, FeedsNothing}
+pub use Rattle.demodulator.specs.Feed.{restFrom}
+use Rattle.demodulator.specs.Feed.{Stretch, stopsBefore, goesOn, fedFrom, fed, fedInto, isQuiet, wentIn, toldAfter, feed-says, FeedsNothing}
 use Rattle.demodulator.proofs.CallCases.{sample-other-rate}
 use Rattle.demodulator.proofs.OnlyAnswer.{once, heard, heard-back}
 
@@ -64,9 +65,6 @@ goes-on P done before last rest p q r = p
 goes-on P (carrier there) before last rest p q r = p
 
 -- ---- one step of a stretch
-abbrev pub restFrom : Rate → ℕ → SoftDemodulator → List ℤ → List Float → Stretch SoftDemodulator
-restFrom R = fedFrom SoftDemodulator (sampleSaid R) (sampleNext R) (sampleRoom R)
-
 -- a stretch that ends with this answer
 abbrev pub ends : ℕ → Heard → SoftDemodulator → List Float → Stretch SoftDemodulator
 ends n answer m room = record { answer = heardPaper (toldAfter n answer); fed = n + wentIn answer; state = m; room = room }

@@ -18,7 +18,7 @@ use Rattle.numbers.proofs.Tests.{holds, lt-or-le}
 use Rattle.numbers.proofs.Below.{all-below, below-all}
 use Rattle.shaping.specs.Rate.{Rate, tapCount, windowPlaces}
 use Rattle.demodulator.specs.declared.SoftDemodulator.{SoftDemodulator}
-use Rattle.demodulator.specs.Record.{view, windowAfter, stored}
+use Rattle.demodulator.specs.Record.{view, windowAfter, filteredAfter, stored}
 use Rattle.demodulator.specs.Fit.{sameSample, halvesAgree}
 
 -- ---- the test
@@ -108,6 +108,10 @@ module _ (n : ℕ) (w : List ℤ) (c : ℕ) (x : ℤ) (inside : c < n) where
   ]
 
 -- ---- a record
+pub stored-ring : (R : Rate) (m : SoftDemodulator) (x : ℤ) → length (stored R m x .«rx_win») ≡ length (m .«rx_win»)
+unfolding stored
+stored-ring R m x = length-set (m .«rx_win») (m .«rx_cursor») (filteredAfter R m x)
+
 module _ (R : Rate) (m : SoftDemodulator) (x : ℤ) (inside : m .«filter_cursor» < tapCount (R .p)) where
   abbrev n : ℕ
   n = tapCount (R .p)

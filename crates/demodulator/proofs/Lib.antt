@@ -19,5 +19,15 @@ pub mod ReplySearch
 pub mod OnlyAnswer
 -- a stretch of samples, one by one
 pub mod FeedSteps
+-- many samples stored
+pub mod StoredMany
+-- a walk feeds as single samples do
+pub mod WalkFeeds
+-- the filtered values of a stretch in a row
+pub mod RowLaid
+-- a stretch whole
+pub mod StretchFeeds
 -- small instances of the laws of the step: what they ask can be met
 pub mod StepInstances
+-- and of a stretch
+pub mod StretchInstances

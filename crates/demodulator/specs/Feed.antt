@@ -61,6 +61,10 @@ sampleNext R m x room = demodulated R m x room .demodulator
 abbrev pub sampleRoom : Rate → SoftDemodulator → ℤ → List Float → List Float
 sampleRoom R m x room = demodulated R m x room .room
 
+-- the samples that are left, after `n` that went in
+abbrev pub restFrom : Rate → ℕ → SoftDemodulator → List ℤ → List Float → Stretch SoftDemodulator
+restFrom R = fedFrom SoftDemodulator (sampleSaid R) (sampleNext R) (sampleRoom R)
+
 -- no sample: quiet, or refused where the receiver is unfit even so
 abbrev pub emptySaid : ℕ → SoftDemodulator → Paper
 emptySaid p m = cond (recordFit p m) nothing (refusal (bare (unfitNumber m)))

@@ -7,3 +7,4 @@ pub mod Calls
 pub mod Singles
 pub mod Feed
 pub mod Steps
+pub mod Stretch

@@ -61,7 +61,7 @@ back p m = ringBack p (m .«rx_win») (m .«rx_cursor»)
 abbrev pub view : SoftDemodulator → ℕ → ℤ
 view m i = getD (m .«filter_win») (m .«filter_cursor» + i) (pos 0)
 
--- "store": the sample goes to the window's cursor, "twice, 81 places apart", ..
+-- "store": the sample goes to the window's cursor, "twice, 81 places apart"; document 02 k): "keeps 41 samples, twice as in f)", ..
 abbrev pub windowAfter : ℕ → SoftDemodulator → ℤ → List ℤ
 windowAfter p m x = set (set (m .«filter_win») (m .«filter_cursor») x) (m .«filter_cursor» + tapCount p) x
 

@@ -8,6 +8,6 @@ use Rattle.search.specs.declared.Shown.{Shown}
 abbrev pub eight : ℕ → (ℕ → Float) → ℕ → Float
 eight p back i = back (p * (7 - i))
 
--- "symbol i = (F(d-1910+10i) - shift) / gain for i = 0 to 191"
+-- "symbol i = (F(d-1910+10i) - shift) / gain for i = 0 to 191"; document 02 k): "symbols lie at d-955+5i"
 abbrev pub symbolAt : ℕ → Shown → (ℕ → Float) → ℕ → Float
 symbolAt p shown back i = symbolOf (shown .gain) (shown .shift) (back (p * (191 - i)))

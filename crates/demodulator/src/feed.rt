@@ -2,8 +2,8 @@
 use crate::AfterStretch;
 use crate::Heard;
 use crate::SoftDemodulator;
+use crate::each;
 use crate::fit;
-use crate::step;
 use crate::step::Places;
 use protocol::Refusal;
 use search::Control;
@@ -11,39 +11,7 @@ ghost use mathlib.Core.Path.{_≡_};
 ghost use mathlib.Core.Bool.{true};
 ghost use Rattle.shaping.specs.Rate.{rateFit, samplesIn};
 ghost use Rattle.demodulator.specs.Record.{assembled};
-ghost use Rattle.demodulator.specs.Feed.{isQuiet, wentIn, toldAfter, FeedsNothing, feed-says};
-
-fn is_quiet(answer: Heard) -> bool
-    ensures { λ r. ⌜ r ≡ isQuiet answer ⌝ }
-{
-    match answer {
-        Heard::Refused(_) => false,
-        Heard::Quiet => true,
-        Heard::Offered(_) => false,
-    }
-}
-
-// How many samples go in with such an answer.
-fn count_in(answer: Heard) -> usize
-    ensures { λ r. ⌜ r ≡ wentIn answer ⌝ }
-{
-    match answer {
-        Heard::Refused(_) => 0,
-        Heard::Quiet => 1,
-        Heard::Offered(_) => 1,
-    }
-}
-
-// Once samples went in, a refusal is left to the call that gives the rest.
-fn tell(answer: Heard, fed: usize) -> Heard
-    ensures { λ r. ⌜ r ≡ toldAfter fed answer ⌝ }
-{
-    match answer {
-        Heard::Refused(_) => if fed == 0 { answer } else { Heard::Quiet },
-        Heard::Quiet => answer,
-        Heard::Offered(_) => answer,
-    }
-}
+ghost use Rattle.demodulator.specs.Feed.{FeedsNothing, feed-says};
 
 // No sample is given, so no filtered value is tested.
 fn feed_nothing(p: usize, demodulator: SoftDemodulator) -> AfterStretch
@@ -109,45 +77,31 @@ impl SoftDemodulator {
         if samples.len() == 0 {
             return feed_nothing(p, self);
         }
-        let halves = fit::halves_agree(p, &self.filter_win);
         let mut filter_win = self.filter_win;
+        let halves = fit::halves_agree(p, &filter_win);
         let mut rx_win = self.rx_win;
-        let mut control = self.control;
-        let mut places = Places {
+        let control = self.control;
+        let places = Places {
             filter_cursor: self.filter_cursor,
             rx_cursor: self.rx_cursor,
         };
-        let mut fed: usize = 0;
-        while fed < samples.len() {
-            let sample = samples[fed];
-            let stepped = step::step(
-                p,
-                &mut filter_win,
-                &mut rx_win,
-                places,
-                control,
-                halves,
-                sample,
-                room,
-            );
-            places = stepped.places;
-            control = stepped.control;
-            let answer = stepped.answer;
-            if !is_quiet(answer) {
-                let last = count_in(answer);
-                let count = fed + last;
-                return AfterStretch {
-                    answer: tell(answer, fed),
-                    fed: count,
-                    demodulator: rebuild(rate, filter_win, rx_win, places, control),
-                };
-            }
-            fed += 1;
-        }
+        let done = each::feed_each(
+            p,
+            &mut filter_win,
+            &mut rx_win,
+            places,
+            control,
+            halves,
+            samples,
+            room,
+        );
+        let next = done.places;
+        let control = done.control;
+        let answer = done.answer;
         AfterStretch {
-            answer: Heard::Quiet,
-            fed,
-            demodulator: rebuild(rate, filter_win, rx_win, places, control),
+            answer,
+            fed: done.fed,
+            demodulator: rebuild(rate, filter_win, rx_win, next, control),
         }
     }
 }

@@ -1,4 +1,4 @@
-// Whether a record is fit: no phrase of 'Unfit receiver' applies to it. Tests are joined by `&`: none hangs on another, but for those of the ring's places, which wait for its cursor.
+// Whether a record is fit: no phrase of 'Unfit receiver' applies to it. Tests are joined by `&`: none depends on another, but for those of the ring's places, which wait for its cursor.
 use crate::ring;
 use search::Control;
 use search::Wait;

@@ -4,10 +4,13 @@ use protocol::Refusal;
 use step::Places;
 ghost use Rattle.demodulator.specs.Calls.{new-says, demod-says, reply-says, data-carrier-detect-says};
 
+mod each;
 mod feed;
 mod fit;
 mod ring;
+mod row;
 mod step;
+mod stretch;
 
 pub use search::Candidate;
 pub use search::Control;

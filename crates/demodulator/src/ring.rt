@@ -34,7 +34,7 @@ fn wrapped(p: usize, place: usize) -> usize
 }
 
 // The filtered value of so many samples ago, 0 for the newest, which lies before the cursor.
-fn value_back(p: usize, ring: &[f32; 1920], cursor: usize, ago: usize) -> f32
+pub(crate) fn value_back(p: usize, ring: &[f32; 1920], cursor: usize, ago: usize) -> f32
     requires { ⌜ (p ≤ 10) × (cursor < ringPlaces p) × (ago < ringPlaces p) ⌝ }
     ensures { λ r. ⌜ r ≡ ringBack p (now (ring .entry)) cursor ago ⌝ }
 {

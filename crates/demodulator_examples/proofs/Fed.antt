@@ -12,10 +12,9 @@ use lib.Ieee.Bits.{is-false}
 use Rattle.machine.specs.Runs.{run, Each}
 use Rattle.shaping.specs.Rate.{Rate}
 use Rattle.search.specs.declared.Reply.the-variants.{Accepted}
-use Rattle.search.specs.Turn.{Outcome, quiet, offer, owing, sampled, replied}
+use Rattle.search.specs.Turn.{Outcome, quiet, offer, controlOf, owing, sampled, replied}
 use Rattle.demodulator.specs.Spans.{eight}
 use Rattle.demodulator.specs.Calls.{done}
-use Rattle.demodulator_laws.proofs.SampleFits.{controlOf}
 use Rattle.demodulator_run.specs.Filter.{ago}
 use Rattle.demodulator_run.specs.Rules.{Single, sample, reply, History, After, refused, settled, admitted, given, answered, single, singleRules}
 use Rattle.demodulator_run.specs.Run.{Callable}

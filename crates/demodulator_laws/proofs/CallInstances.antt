@@ -19,7 +19,7 @@ use Rattle.search.specs.declared.Timer.the-variants.{Off, Until}
 use Rattle.search.specs.declared.Control.{Control}
 use Rattle.search.specs.declared.Reply.the-variants.{Accepted, Rejected}
 use Rattle.search.specs.Search.{searched}
-use Rattle.search.specs.Turn.{quiet, offer, counted, waitingOn, freed, owing, dueTurn, sampled, replied}
+use Rattle.search.specs.Turn.{quiet, offer, controlOf, counted, waitingOn, freed, owing, dueTurn, sampled, replied}
 use Rattle.search.specs.Fit.{candidateFit, waitFit, controlFit}
 use Rattle.search.proofs.TurnFits.{counted-fit, freed-fit}
 use Rattle.demodulator.specs.declared.SoftDemodulator.{SoftDemodulator}
@@ -31,9 +31,9 @@ use Rattle.demodulator.specs.Steps.{unmoved, Steps}
 use Rattle.demodulator.proofs.StepInstances.{fresh-for-sample, room, room-enough}
 use Rattle.demodulator.proofs.CallCases.{sample-unfit, sample-owed, sample-cramped, sample-last, sample-taken, refuses, reply-unfit, reply-unasked, reply-taken, carrier-unfit, carrier-told}
 use Rattle.demodulator_laws.proofs.ExampleBurst.{heldAt, waitOf}
-use Rattle.demodulator_laws.proofs.SampleByWait.{sampled-free, sampled-rest, sampled-due}
+use Rattle.search.proofs.SampleByWait.{sampled-free, sampled-rest, sampled-due}
 use Rattle.demodulator_laws.proofs.RecordInstances.{fresh-for-reply}
-use Rattle.demodulator_laws.proofs.SampleFits.{controlOf, sampled-fits, replied-fits, replied-either}
+use Rattle.demodulator_laws.proofs.SampleFits.{sampled-fits, replied-fits, replied-either}
 use Rattle.demodulator_laws.proofs.WaitFits.{waiting-fit, settled-fit}
 use Rattle.demodulator_laws.proofs.SearchFits.{Outgrown, Unnumbered}
 

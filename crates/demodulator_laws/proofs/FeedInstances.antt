@@ -27,7 +27,7 @@ use Rattle.demodulator.proofs.StepInstances.{room, room-enough}
 use Rattle.demodulator.proofs.CallCases.{sample-last, sample-taken}
 use Rattle.demodulator.proofs.FeedSteps.{fed-some}
 use Rattle.demodulator_laws.proofs.ExampleBurst.{heldAt, waitOf}
-use Rattle.demodulator_laws.proofs.SampleByWait.{sampled-rest}
+use Rattle.search.proofs.SampleByWait.{sampled-rest}
 use Rattle.demodulator_laws.proofs.SampleComes.{fed-silent, fed-stuck}
 use Rattle.demodulator_laws.proofs.RefusedFeed.{refused-feed, rest-refused}
 

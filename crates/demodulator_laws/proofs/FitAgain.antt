@@ -26,7 +26,7 @@ use Rattle.decode.specs.Correlator.{inRange}
 use Rattle.search.specs.declared.Control.{Control}
 use Rattle.search.specs.declared.Reply.{Reply}
 use Rattle.search.specs.Search.{withCandidate, ageOf}
-use Rattle.search.specs.Turn.{Outcome, quiet, offer, sampled}
+use Rattle.search.specs.Turn.{Outcome, quiet, offer, controlOf, sampled}
 use Rattle.search.specs.Fit.{held, controlFit}
 use Rattle.demodulator.specs.declared.SoftDemodulator.{SoftDemodulator}
 use Rattle.demodulator.specs.Spans.{eight}
@@ -38,7 +38,7 @@ use Rattle.demodulator.proofs.Halves.{stored-halves}
 use Rattle.demodulator.proofs.CallCases.{sample-other-rate, sample-unfit, sample-owed, sample-cramped, sample-last, sample-taken, reply-other-rate, reply-unfit, reply-unasked, reply-taken}
 use Rattle.demodulator_laws.proofs.Grown.{withAge}
 use Rattle.demodulator_laws.proofs.SearchFits.{countedFirst}
-use Rattle.demodulator_laws.proofs.SampleFits.{either, controlOf, sampled-fits, replied-either}
+use Rattle.demodulator_laws.proofs.SampleFits.{either, sampled-fits, replied-either}
 use Rattle.demodulator_laws.proofs.StoredFits.{Rings, set-holds, new-in-range, stored-rings, stored-eight}
 
 -- ---- the statement's words, at p samples a symbol

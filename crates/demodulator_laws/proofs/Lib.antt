@@ -1,6 +1,4 @@
 -- What follows from the receiver's calls, taken one by one. Assumes nothing.
--- what a sample comes to, by the wait
-pub mod SampleByWait
 -- a candidate fit but for its age
 pub mod Grown
 -- a search leaves a fit control fit, but for one age

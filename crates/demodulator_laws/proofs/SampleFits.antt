@@ -19,16 +19,12 @@ use Rattle.search.specs.declared.Reply.{Reply}
 use Rattle.search.specs.declared.Reply.the-variants.{Accepted, Rejected}
 use Rattle.search.specs.TakenBurst.{TakenBurst, heldIn}
 use Rattle.search.specs.Search.{ageOf, searched}
-use Rattle.search.specs.Turn.{Outcome, quiet, offer, counted, freed, owing, dueTurn, comesTo, sampled, replied}
+use Rattle.search.specs.Turn.{controlOf, counted, freed, owing, dueTurn, comesTo, sampled, replied}
 use Rattle.search.specs.Fit.{controlFit}
 use Rattle.search.proofs.TurnFits.{counted-fit, freed-fit}
-use Rattle.demodulator_laws.proofs.SampleByWait.{sampled-free, sampled-rest, sampled-due}
+use Rattle.search.proofs.SampleByWait.{sampled-free, sampled-rest, sampled-due}
 use Rattle.demodulator_laws.proofs.WaitFits.{waiting-fit, settled-fit}
 use Rattle.demodulator_laws.proofs.SearchFits.{Outgrown, Unnumbered, search-fits, uncounted-fits}
-
-abbrev pub controlOf : Outcome → Control
-controlOf (quiet c) = c
-controlOf (offer shown c) = c
 
 pub either : (t : Bool) → (t ≡ true) ⊎ (t ≡ false)
 either true = inl refl

@@ -32,7 +32,7 @@ use Rattle.search.proofs.Compared.{match-own, Sensed, compared-own}
 use Rattle.search.proofs.Silent.{silent-search, faint}
 use Rattle.demodulator.specs.Record.{freshControl}
 use Rattle.demodulator_laws.proofs.ExampleBurst.{heldAt}
-use Rattle.demodulator_laws.proofs.SampleByWait.{sampled-same}
+use Rattle.search.proofs.SampleByWait.{sampled-same}
 use Rattle.demodulator_laws.proofs.SearchFits.{Outgrown, search-fits}
 
 high : Float

@@ -12,10 +12,9 @@ use lib.Seq.{take-at}
 use lib.Ieee.{Float}
 use Rattle.machine.specs.Runs.{run}
 use Rattle.search.specs.declared.Reply.{Reply}
-use Rattle.search.specs.Turn.{Outcome, quiet, offer, sampled, replied}
+use Rattle.search.specs.Turn.{Outcome, quiet, offer, controlOf, sampled, replied}
 use Rattle.demodulator.specs.Spans.{eight}
 use Rattle.demodulator.specs.Calls.{done}
-use Rattle.demodulator_laws.proofs.SampleFits.{controlOf}
 use Rattle.demodulator_run.specs.Filter.{filtered, ago}
 use Rattle.demodulator_run.specs.Rules.{Single, sample, reply, query, History, After, refused, settled, admitted, given, answered, single, singleRules}
 use Rattle.demodulator_run.specs.Marks.{Mark, isRefusal, sampledMarks, repliedMarks, stepMarks, calledMarks}

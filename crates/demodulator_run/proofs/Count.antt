@@ -14,9 +14,8 @@ use Rattle.search.specs.declared.Turn.the-variants.{Rest}
 use Rattle.search.specs.declared.Reply.{Reply}
 use Rattle.search.specs.declared.Reply.the-variants.{Accepted, Rejected}
 use Rattle.search.specs.TakenBurst.{TakenBurst, heldIn}
-use Rattle.search.specs.Turn.{counted, freed, owing, dueTurn, waitedTurn, comesTo, sampled, replied}
+use Rattle.search.specs.Turn.{counted, freed, owing, dueTurn, waitedTurn, comesTo, controlOf, sampled, replied}
 use Rattle.search.proofs.AgeInPass.{searched-sample}
-use Rattle.demodulator_laws.proofs.SampleFits.{controlOf}
 
 module _ {n : ℕ} where
   turn-count : (p : ℕ) (v : ℕ → Float) (b : Bool) (x y : Turn) → controlOf (comesTo p v x) .sample ≡ n → controlOf (comesTo p v y) .sample ≡ n → controlOf (comesTo p v (cond b x y)) .sample ≡ n

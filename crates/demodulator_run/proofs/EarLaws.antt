@@ -18,7 +18,7 @@ use Rattle.decode.proofs.Apart.{not-again, never-apart}
 use Rattle.demodulator_run.specs.Filter.{sampleNo, filtered}
 use Rattle.demodulator_run.specs.Demands.{earOf, Matches, Alone, NotAgain, Apart}
 
--- ---- F(k) hangs on no sample after k
+-- ---- F(k) depends on no sample after k
 sample-taken : (k : ℕ) (xs : List ℤ) (j : ℕ) → j ≤ k → sampleNo (take k xs) j ≡ sampleNo xs j
 unfolding sampleNo
 sample-taken k xs zero o = refl

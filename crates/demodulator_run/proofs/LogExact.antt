@@ -1,4 +1,4 @@
--- Each mark stands in the log exactly when the rules say so. Assumes nothing.
+-- Each mark is in the log exactly when the rules say so. Assumes nothing.
 use mathlib.Core.Path.{_≡_, refl, sym, ap, _∙_, subst}
 use mathlib.Core.Logic.{_⊎_, inl, inr, _↔_}
 use mathlib.Core.Bool.{Bool, true, false, not, cond, true≢false}

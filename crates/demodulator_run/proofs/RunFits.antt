@@ -16,7 +16,7 @@ use Rattle.shaping.proofs.Receiver.{size16}
 use Rattle.search.specs.declared.Control.{Control}
 use Rattle.search.specs.declared.Reply.{Reply}
 use Rattle.search.specs.Search.{ageOf}
-use Rattle.search.specs.Turn.{Outcome, quiet, offer, sampled}
+use Rattle.search.specs.Turn.{Outcome, quiet, offer, controlOf, sampled}
 use Rattle.search.specs.Fit.{candidateFit, waitFit, controlFit}
 use Rattle.search.proofs.Clauses.{clauses, joined}
 use Rattle.search.proofs.AgeInPass.{by-test}
@@ -24,7 +24,7 @@ use Rattle.search.proofs.Fitness.{control-facts}
 use Rattle.demodulator.specs.Spans.{eight}
 use Rattle.demodulator.specs.Record.{freshControl}
 use Rattle.demodulator_laws.proofs.SearchFits.{Outgrown}
-use Rattle.demodulator_laws.proofs.SampleFits.{controlOf, sampled-fits, replied-fits}
+use Rattle.demodulator_laws.proofs.SampleFits.{sampled-fits, replied-fits}
 use Rattle.demodulator_run.specs.Filter.{ago}
 use Rattle.demodulator_run.specs.Rules.{Single, sample, reply, query, History, After, start, settled, admitted, given, answered, single, historyAll, singleRules}
 use Rattle.demodulator_run.specs.Run.{Callable}

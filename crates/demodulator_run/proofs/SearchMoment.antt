@@ -23,12 +23,11 @@ use Rattle.search.specs.declared.Control.{Control}
 use Rattle.search.specs.declared.Reply.the-variants.{Accepted, Rejected}
 use Rattle.search.specs.TakenBurst.{TakenBurst, heldAs, taken}
 use Rattle.search.specs.Search.{searched}
-use Rattle.search.specs.Turn.{Outcome, counted, owing, replied}
+use Rattle.search.specs.Turn.{Outcome, controlOf, counted, owing, replied}
 use Rattle.search.proofs.Fitness.{ControlFacts}
 use Rattle.search.proofs.AgeInPass.{searched-sample}
 use Rattle.demodulator.proofs.Fitness.{record-facts}
-use Rattle.demodulator_laws.proofs.SampleFits.{controlOf}
-use Rattle.demodulator_laws.proofs.SampleByWait.{sampled-free}
+use Rattle.search.proofs.SampleByWait.{sampled-free}
 use Rattle.demodulator_run.specs.Rules.{Single, sample, reply, query, History, Said, start, single, historyAll}
 use Rattle.demodulator_run.specs.Marks.{Mark, First, Anew, isRefusal, logAll}
 use Rattle.demodulator_run.specs.Demands.{Ear, Matches, Taken}

@@ -22,10 +22,9 @@ use Rattle.search.specs.declared.Reply.{Reply}
 use Rattle.search.specs.declared.Reply.the-variants.{Accepted, Rejected}
 use Rattle.search.specs.TakenBurst.{TakenBurst, heldAs, heldIn, older}
 use Rattle.search.specs.Search.{rank, searched}
-use Rattle.search.specs.Turn.{Outcome, quiet, offer, counted, waitedTurn, sampled, replied}
+use Rattle.search.specs.Turn.{Outcome, quiet, offer, controlOf, counted, waitedTurn, sampled, replied}
 use Rattle.search.proofs.HeldOrNot.{HeldOrNot, not-held, is-held, held-or-not}
 use Rattle.demodulator.specs.Spans.{eight}
-use Rattle.demodulator_laws.proofs.SampleFits.{controlOf}
 use Rattle.demodulator_run.specs.Filter.{ago}
 use Rattle.demodulator_run.specs.Rules.{Single, sample, reply, query, History, After as Came, start, refused, settled, admitted, given, answered, single, historyAll}
 use Rattle.demodulator_run.specs.Marks.{Anew, Failed, logAll}

@@ -24,14 +24,13 @@ use Rattle.search.specs.declared.Reply.{Reply}
 use Rattle.search.specs.declared.Reply.the-variants.{Accepted, Rejected}
 use Rattle.search.specs.TakenBurst.{TakenBurst, heldIn}
 use Rattle.search.specs.Search.{carried, matched as hits, tried, passed, searched}
-use Rattle.search.specs.Turn.{Outcome, quiet, offer, counted, owing, sampled, replied}
+use Rattle.search.specs.Turn.{Outcome, quiet, offer, controlOf, counted, owing, sampled, replied}
 use Rattle.search.specs.Fit.{held}
 use Rattle.search.proofs.HeldOrNot.{HeldOrNot, not-held, is-held, held-or-not}
 use Rattle.search.proofs.AgeInPass.{by-test, carried-candidate, missed-keeps}
 use Rattle.search.proofs.Silent.{passed-silent}
 use Rattle.demodulator.specs.Spans.{eight}
-use Rattle.demodulator_laws.proofs.SampleFits.{controlOf}
-use Rattle.demodulator_laws.proofs.SampleByWait.{sampled-free}
+use Rattle.search.proofs.SampleByWait.{sampled-free}
 use Rattle.demodulator_run.specs.Filter.{ago}
 use Rattle.demodulator_run.specs.Rules.{Single, sample, reply, query, History, After, settled, admitted, given, answered, single, historyAll}
 use Rattle.demodulator_run.specs.Marks.{First, isRefusal, logAll}

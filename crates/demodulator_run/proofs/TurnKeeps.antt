@@ -18,9 +18,8 @@ use Rattle.search.specs.declared.Turn.the-variants.{Rest}
 use Rattle.search.specs.declared.Reply.{Reply}
 use Rattle.search.specs.declared.Reply.the-variants.{Accepted, Rejected}
 use Rattle.search.specs.TakenBurst.{TakenBurst, heldAs, heldIn, shownOf}
-use Rattle.search.specs.Turn.{cleared, nearer, dueTurn, waitedTurn, comesTo, sampled, replied}
+use Rattle.search.specs.Turn.{cleared, nearer, dueTurn, waitedTurn, comesTo, controlOf, sampled, replied}
 use Rattle.search.proofs.HeldOrNot.{HeldOrNot, not-held, is-held, held-or-not}
-use Rattle.demodulator_laws.proofs.SampleFits.{controlOf}
 use Rattle.demodulator_run.specs.Marks.{Mark, dueMarks, waitedMarks, sampledMarks, repliedMarks}
 use Rattle.demodulator_run.specs.Demands.{SymbolSize, Ear, Alone, NotAgain}
 use Rattle.demodulator_run.proofs.Pass.{Step, controlled}

@@ -1,4 +1,4 @@
--- When a mark stands in the log, by the rules: at which call, and with which control before the search. Assumes nothing.
+-- When a mark is in the log, by the rules: at which call, and with which control before the search. Assumes nothing.
 use mathlib.Core.Path.{_≡_}
 use mathlib.Core.Bool.{Bool, true, false}
 use mathlib.Core.List.{List, [], _∷_, _++_}

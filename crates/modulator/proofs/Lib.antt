@@ -6,6 +6,6 @@ pub mod Cases
 pub mod FrameCases
 -- what a frame makes of the record
 pub mod Frames
--- a read as the code does it: one piece behind the other, into the caller's room
+-- a read as the code does it: one piece after the other, into the caller's room
 pub mod Room
 pub mod Drain

@@ -1,4 +1,4 @@
--- What stands in the caller's room once one piece is written to its front, and the tail from there is lent on for a second. Assumes nothing.
+-- What is in the caller's room once one piece is written to its front, and the tail from there is lent on for a second. Assumes nothing.
 use mathlib.Core.Path.{_≡_, sym, _∙_}
 use mathlib.Core.List.{List, [], _++_, append-assoc, append-nil}
 use Prim.Native.Nat.{ℕ, _+_, _-_, _≤_, _<_}

@@ -78,7 +78,7 @@ abbrev pub endAfter : ℕ → ℕ → Progress → ℕ
 endAfter fill latency s = endReport fill latency (s .«tx_delay_padding» .0) (unread s)
 
 -- "If a transmit end is owed, it is reported". "If capacity - fill is at least 2,000 the wish for a frame is raised. Less
--- room does not lower it."
+-- room does not lower it."; document 02 k): "a wish needs room of 1,000"
 abbrev pub updatedPending : ℕ → ℕ → ℕ → ℕ → Pending → Pending
 updatedPending p fill capacity end s = record {
   «update_idle» = s .«update_idle»;

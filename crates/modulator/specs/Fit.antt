@@ -23,7 +23,7 @@ pulseFit value = le (ofBits binary32 0xc70a_8500) value && le value (ofBits bina
 unfoldable pub windowFit : ℕ → SoftModulator → Bool
 windowFit p m = allBelow (tapCount p) (λ (i : ℕ). pulseFit (getD (m .«filter_win») i nan))
 
--- "length above 4,000; read place above length; padding above 122,400"
+-- "length above 4,000; read place above length; padding above 122,400"; document 02 k): "length 2,000, padding 61,200"
 abbrev pub progressFit : ℕ → Progress → Bool
 progressFit p s = leb (s .«next_len») (storePlaces p) && leb (s .«next_read») (s .«next_len») && leb (s .«tx_delay_padding» .0) (paddingLimit p)
 

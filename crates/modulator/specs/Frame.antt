@@ -37,6 +37,6 @@ ending = record { symbol = endingSymbol; count = 272 }
 abbrev pub within : Float → Float → Bool
 within size value = le (neg size) value && le value size
 
--- "Padding is TxDelay in samples less the latency, never below 0." "One step is 480 samples."
+-- "Padding is TxDelay in samples less the latency, never below 0." "One step is 480 samples."; document 02 k): "one TxDelay step is 240 samples"
 abbrev pub paddingOf : ℕ → ℕ → ℕ → ℕ
 paddingOf p steps latency = delayStep p * steps - latency

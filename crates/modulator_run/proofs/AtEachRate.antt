@@ -1,5 +1,5 @@
 -- The sender's theorems at each of the two rates: one statement over the rate, opened twice. Assumes nothing.
-use mathlib.Core.Path.{_≡_, sym, subst}
+use mathlib.Core.Path.{_≡_, refl, sym, subst}
 use mathlib.Core.Logic.{_↔_}
 use mathlib.Core.Bool.{true}
 use mathlib.Core.List.{List, List·Memᴰ}
@@ -25,7 +25,7 @@ use Rattle.modulator_run.specs.Kinds.{asks, none}
 use Rattle.modulator_run.specs.Wish.{Wished}
 use Rattle.modulator_run.specs.Padding.{PaddingLeft}
 use Rattle.modulator_run.specs.Reports.{Reporting, upTo, Untold}
-use Rattle.modulator_run.specs.EndFrame.{EndFrame}
+use Rattle.modulator_run.specs.EndFrame.{endSamples, silentSamples, EndFrame}
 use Rattle.modulator_run.specs.EndCovers.{Covers}
 use Rattle.modulator_run.proofs.SenderRun.{sender-run}
 use Rattle.modulator_run.proofs.NeverUnfit.{never-unfit}
@@ -87,13 +87,17 @@ module _ (cs : List Call) (g : Each Given cs) where
   padding-24 = padding-by-record at24 facts24 cs g
 
 -- ---- the end of transmission: 2,720 samples, the last 729 zero; "the end frame is 1,360 samples", the last 364 zero
+pub end-numbers : (endSamples 10 ≡ 2720) × (silentSamples 10 ≡ 729) × (endSamples 5 ≡ 1360) × (silentSamples 5 ≡ 364)
+end-numbers = (refl, refl, refl, refl)
+
 module _ (m : SoftModulator) (symbols : List Float) where
-  pub end-frame-48 : m .rate ≡ 48000 → recordFit 10 m ≡ true → EndFrame at48 m (provided at48 m EndOfTransmission symbols)
-  end-frame-48 e fit =
+  end-at : (rate : ℕ) → m .rate ≡ rate → recordFit (samplesIn rate) m ≡ true → EndFrame (rateOf rate) m (provided (rateOf rate) m EndOfTransmission symbols)
+  end-at rate e fit =
       subst (λ (rate : ℕ). EndFrame (rateOf rate) m (provided (rateOf rate) m EndOfTransmission symbols)) e
       (end-frame m (subst (λ (rate : ℕ). recordFit (samplesIn rate) m ≡ true) (sym e) fit) symbols)
 
+  pub end-frame-48 : m .rate ≡ 48000 → recordFit 10 m ≡ true → EndFrame at48 m (provided at48 m EndOfTransmission symbols)
+  end-frame-48 = end-at 48000
+
   pub end-frame-24 : m .rate ≡ 24000 → recordFit 5 m ≡ true → EndFrame at24 m (provided at24 m EndOfTransmission symbols)
-  end-frame-24 e fit =
-      subst (λ (rate : ℕ). EndFrame (rateOf rate) m (provided (rateOf rate) m EndOfTransmission symbols)) e
-      (end-frame m (subst (λ (rate : ℕ). recordFit (samplesIn rate) m ≡ true) (sym e) fit) symbols)
+  end-frame-24 = end-at 24000

@@ -51,7 +51,7 @@ made-up-fit = refl
 made-up-ends : EndFrame at48 made-up (provided at48 made-up EndOfTransmission [])
 made-up-ends = end-frame made-up made-up-fit []
 
--- by the rules, at ten samples a symbol: behind one symbol the 2,720th sample of the end is zero
+-- by the rules, at ten samples a symbol: after one symbol the 2,720th sample of the end is zero
 last-flushed : pulses 10 (ending .symbol) 1911 ≡ ofBits binary32 0
 last-flushed = flush-pulse 10 (lit< tt) 1911 (lit< tt)
 

@@ -18,7 +18,7 @@ use Rattle.modulator_run.specs.Reports.{Owed, Reporting, ReportedEnd, Un
 use Rattle.modulator_run.proofs.SenderRun.{next-call}
 use Rattle.modulator_run.proofs.Told.{left-there, told-exactly}
 
--- ---- the update stands behind the last action request
+-- ---- the update comes after the last action request
 no-ask-in : (ys : List Call) (zs : List Call) → T (none asks (ys ++ ask ∷ zs)) → ⊥
 unfolding none asks
 no-ask-in [] zs t = t
@@ -29,7 +29,7 @@ record Behind (cs ds before : List Call) (c : Call) (since : List Call) : Type 0
   first : before ≡ cs ++ ask ∷ between
   second : ds ≡ between ++ c ∷ since
 
--- of two ways to part a list, at a request and at another call with no request behind it
+-- of two ways to part a list, at a request and at another call with no request after it
 behind : (cs ds before : List Call) (c : Call) (since : List Call) → asks c ≡ false → T (none asks since) → cs ++ ask ∷ ds ≡ before ++ c ∷ since → Behind cs ds before c since
 unfolding asks
 behind [] ds [] c since q t e = let same : ask ≡ c = cc in let z : true ≡ false = ap asks same ∙ q in absurd (never z)

@@ -11,7 +11,7 @@ pub mod Step
 pub mod SenderRun
 -- a call of the rules, case by case
 pub mod EachCall
--- no call is refused with 1
+-- no call is refused with 1 or 15
 pub mod NeverUnfit
 -- a refused call changes nothing
 pub mod Refused

@@ -17,7 +17,7 @@ use Rattle.modulator.specs.Calls.{Left}
 abbrev pub flushSymbols : ℕ
 flushSymbols = 80
 
--- "2,720 samples"
+-- "2,720 samples"; document 02 k): "the end frame is 1,360 samples"
 abbrev pub endSamples : ℕ → ℕ
 endSamples p = p * (192 + flushSymbols)
 

@@ -7,7 +7,7 @@ use Rattle.protocol.specs.declared.Refusal.{Refusal}
 use Rattle.protocol.specs.declared.Refusal.the-variants.{RecordUnfit, ReplyOwed, NoReplyOwed, RoomTooSmall, CountAtItsEnd, WrongCount, SymbolNotANumber, SymbolInfinite, SymbolAboveOne, SymbolBelowMinusOne, BufferTooLarge, CapacityBelowFill, ValueOutside, WrongBurst, WrongRate}
 use Rattle.protocol.specs.Refusals.{PaperRefusal, bare, placed, onPaper}
 
--- those without a place in the order of their numbers, from 1; 7 and 12 to 14 are none's, and any stands there
+-- those without a place in the order of their numbers, from 1; 7 and 12 to 14 are none's, and any is there
 table : List Refusal
 table = RecordUnfit ∷ ReplyOwed ∷ NoReplyOwed ∷ RoomTooSmall ∷ CountAtItsEnd ∷ WrongCount ∷ RecordUnfit ∷ BufferTooLarge ∷ CapacityBelowFill ∷ ValueOutside ∷ WrongBurst ∷ RecordUnfit ∷ RecordUnfit ∷ RecordUnfit ∷ WrongRate ∷ []
 

@@ -18,7 +18,7 @@ use Rattle.pulse.specs.Promises.{push-symbols-says}
 use Rattle.pulse.specs.Phases.{pulsesOnly, pulseNo, rowSample}
 use Rattle.pulse.proofs.Pulses.{alone, pulse-at, gap-at, pulses-same}
 use Rattle.pulse.proofs.Stream.{after-more, sent-none, sent-one, sent-more, sent-cursor}
-use Rattle.pulse.proofs.Tail.{tail-back}
+use Rattle.numbers.proofs.Tail.{tail-back}
 use Rattle.pulse.proofs.PhaseSums.{row-sample}
 use Rattle.pulse.proofs.Ready.{sent-says, says-sent, no-rate, past-window, short-room}
 

@@ -10,8 +10,6 @@ pub mod View
 pub mod Tables
 -- a window that holds pulses only
 pub mod PhaseSums
--- a slice's tail, lent and back
-pub mod Tail
 -- what is ready is sent, what is not is given back
 pub mod Ready
 -- the promise fixes its answer

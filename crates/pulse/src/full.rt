@@ -62,7 +62,7 @@ fn push_symbol(
     next
 }
 
-// One symbol after the other, each into the room behind the last.
+// One symbol after the other, each into the room after the last.
 pub(crate) fn push_each(
     p: usize,
     window: &mut [f32; 81],

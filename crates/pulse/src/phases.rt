@@ -51,7 +51,7 @@ fn put_cuts(sums: &[f32; 48], room: &mut [i16])
     }
 }
 
-// One phase behind the other.
+// One phase after the other.
 fn put_by_table(p: usize, table: &[f32], row: &[f32; 56], room: &mut [i16])
     requires { ⌜ (Known p) × (now table ≡ rateAt p .taps) × (48 * p ≤ length (now room)) ⌝ }
     ensures { λ _. ⌜ now (room .exit) ≡ written (phaseCut (rateAt p) (now (row .entry))) (48 * p) (now (room .entry)) ⌝ }

@@ -11,10 +11,9 @@ struct Turn {
     receiving: Receiving,
 }
 
-// The lines of one read's samples. There is room for a line of each, so bytes are left over only where a sample is refused.
-fn hear_some(receiving: Receiving, bytes: &[u8]) -> Turn {
-    let mut lines = [0u8; 24832];
-    let after = receiving.hear(bytes, &mut lines);
+// The lines of one read's samples. `lines` has room for a line of each, so bytes are left over only where a sample is refused.
+fn hear_some(receiving: Receiving, bytes: &[u8], lines: &mut [u8]) -> Turn {
+    let after = receiving.hear(bytes, lines);
     let written = after.written;
     let consumed = after.consumed;
     let next = after.receiving;
@@ -35,8 +34,8 @@ fn hear_some(receiving: Receiving, bytes: &[u8]) -> Turn {
     }
 }
 
-fn read_some(receiving: Receiving) -> Turn {
-    let mut bytes = [0u8; 512];
+fn read_some(receiving: Receiving, lines: &mut [u8]) -> Turn {
+    let mut bytes = [0u8; 16384];
     let got = libc::read(STDIN_FILENO, &mut bytes);
     if got < 0 {
         telling::say(Trouble::Reading);
@@ -52,15 +51,16 @@ fn read_some(receiving: Receiving) -> Turn {
         };
     }
     let count = io::count(got, &bytes);
-    hear_some(receiving, &bytes[..count])
+    hear_some(receiving, &bytes[..count], lines)
 }
 
 // A proved loop has to end, and nothing says that the input does: the turns are counted down, from a number that no run uses up.
 fn main() {
     let mut receiving = Receiving::new();
+    let mut lines = [0u8; 794624];
     let mut turns = u64::MAX;
     while turns > 0 {
-        let turn = read_some(receiving);
+        let turn = read_some(receiving, &mut lines);
         if !turn.more {
             return;
         }

@@ -3,7 +3,7 @@
 use mathlib.Core.Path.{_≡_, sym, ap, _∙_}
 use mathlib.Core.Bool.{cond}
 use mathlib.Core.List.{List, [], _∷_, _++_, append-assoc, append-nil, flatMap}
-use Prim.Native.Nat.{ℕ, _≤_}
+use Prim.Native.Nat.{ℕ, _*_, _≤_}
 use native.Mathlib.Omega.{arith}
 use lib.Dec.{ltb}
 use lib.ListN.{length, take, length-take, take-append-drop}
@@ -16,7 +16,7 @@ use Rattle.receiving.specs.declared.Receiving.{Receiving}
 use Rattle.receiving.specs.Pairs.{samplesOf, oddOf, waiting}
 use Rattle.receiving.specs.Listener.{listener, ownRecord}
 use Rattle.receiving.specs.Text.{verdict, linesOf, textFrom}
-use Rattle.receiving.specs.Hear.{looked, samplesIn, emptyTold}
+use Rattle.receiving.specs.Hear.{mostSamples, looked, samplesIn, emptyTold}
 use Rattle.receiving.specs.Caller.{Read, Caller, input, given, intakeAt, after, callerAfter, textOf, consumedBy}
 use Rattle.receiving.proofs.BytePairs.{samples-joined, odd-joined, no-samples, odd-alone}
 use Rattle.receiving.proofs.Lines.{text-joined}
@@ -35,7 +35,7 @@ module _ (odd : Odd) (front back : List ℕ) where
 
 -- ---- one call
 pub looked-front : (bytes : List ℕ) (places t : ℕ) → t ≤ length (looked bytes places) → take t (looked bytes places) ≡ take t bytes
-looked-front bytes places t l = take-take t (cond (ltb places 97) 0 512) bytes (omega (arith, length-take (cond (ltb places 97) 0 512) bytes))
+looked-front bytes places t l = take-take t (cond (ltb places 97) 0 (2 * mostSamples)) bytes (omega (arith, length-take (cond (ltb places 97) 0 (2 * mostSamples)) bytes))
 
 -- what a record and a waiting byte come to with some bytes
 abbrev pub madeOf : Receiving → List ℕ → Receiving

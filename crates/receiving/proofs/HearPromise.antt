@@ -26,7 +26,7 @@ use Rattle.receiving.specs.declared.windows.AfterSamples.{AfterSamples}
 use Rattle.receiving.specs.Pairs.{oddOf, waiting}
 use Rattle.receiving.specs.Listener.{ownRecord}
 use Rattle.receiving.specs.Text.{Batch, batchOf}
-use Rattle.receiving.specs.Hear.{looked, samplesIn, consumedOf, intakeOf, emptyTold, recordIntake, receiptPaper, hear-says}
+use Rattle.receiving.specs.Hear.{mostSamples, looked, samplesIn, consumedOf, intakeOf, emptyTold, recordIntake, receiptPaper, hear-says}
 use Rattle.receiving.specs.Parts.{isAdmitted, looksAt, PairsUp, ConsumesPart, recordTold, recordBatch, HearsAll}
 use Rattle.receiving.proofs.BytePairs.{no-samples}
 use Rattle.receiving.proofs.FedCount.{told-none, batch-none}
@@ -37,17 +37,20 @@ module _ (bytes : List ℕ) (places : ℕ) where
   pub looked-is : take (looksAt (length bytes) places) bytes ≡ looked bytes places
   looked-is =
       by-test (λ (k : ℕ). take k bytes ≡ looked bytes places) (ltb places 97) _ _
-      (λ e. rw e) (λ e. rw e (by-test (λ (k : ℕ). take k bytes ≡ take 512 bytes) (ltb (length bytes) 512) _ _ (λ f. let few : length bytes ≤ 512 = omega (arith, ltb-true (length bytes) 512 f) in take-length bytes ∙ sym (take-all 512 bytes few)) (λ f. refl)))
+      (λ e. rw e)
+      (λ e. rw e
+      (by-test (λ (k : ℕ). take k bytes ≡ take (2 * mostSamples) bytes) (ltb (length bytes) (2 * mostSamples)) _ _
+      (λ f. let few : length bytes ≤ 2 * mostSamples = omega (arith, ltb-true (length bytes) (2 * mostSamples) f) in take-length bytes ∙ sym (take-all (2 * mostSamples) bytes few)) (λ f. refl)))
 
   pub looks-most : looksAt (length bytes) places ≤ length bytes
   looks-most =
       by-test (λ (k : ℕ). k ≤ length bytes) (ltb places 97) _ _ (λ _. omega arith)
-      (λ _. by-test (λ (k : ℕ). k ≤ length bytes) (ltb (length bytes) 512) _ _ (λ _. omega arith) (λ f. ltb-false (length bytes) 512 f))
+      (λ _. by-test (λ (k : ℕ). k ≤ length bytes) (ltb (length bytes) (2 * mostSamples)) _ _ (λ _. omega arith) (λ f. ltb-false (length bytes) (2 * mostSamples) f))
 
-  pub looks-few : looksAt (length bytes) places ≤ 512
+  pub looks-few : looksAt (length bytes) places ≤ 2 * mostSamples
   looks-few =
-      by-test (λ (k : ℕ). k ≤ 512) (ltb places 97) _ _ (λ _. omega arith)
-      (λ _. by-test (λ (k : ℕ). k ≤ 512) (ltb (length bytes) 512) _ _ (λ f. omega (arith, ltb-true (length bytes) 512 f)) (λ _. omega arith))
+      by-test (λ (k : ℕ). k ≤ 2 * mostSamples) (ltb places 97) _ _ (λ _. omega arith)
+      (λ _. by-test (λ (k : ℕ). k ≤ 2 * mostSamples) (ltb (length bytes) (2 * mostSamples)) _ _ (λ f. omega (arith, ltb-true (length bytes) (2 * mostSamples) f)) (λ _. omega arith))
 
   looked-long : length (looked bytes places) ≡ looksAt (length bytes) places
   looked-long = sym (ap length looked-is) ∙ length-take-le (looksAt (length bytes) places) bytes looks-most
@@ -68,7 +71,9 @@ refusal-told : (a : Receipt) → isRefusal (receiptPaper a) ≡ not (isAdmitted 
 refusal-told (Refused why) = refl
 refusal-told Admitted = refl
 
-module _ (r : Receiving) (bytes lines : List ℕ) (p : Paired) (a : AfterSamples) (after : List ℕ) (paired : PairsUp (r .odd) (looked bytes (length lines)) p) (hears : HearsAll (r .demodulator) (take (p .count) (p .samples)) lines a after) where
+module _ (r : Receiving) (bytes lines : List ℕ) (room samples : List ℤ) (p : Paired) (a : AfterSamples) (after : List ℕ)
+    (paired : PairsUp (r .odd) (looked bytes (length lines)) room p samples)
+    (hears : HearsAll (r .demodulator) (take (p .count) samples) lines a after) where
   abbrev m : SoftDemodulator
   m = r .demodulator
 
@@ -82,7 +87,7 @@ module _ (r : Receiving) (bytes lines : List ℕ) (p : Paired) (a : AfterSamples
   all = rw (paired .samples) at hears
 
   pub count-long : p .count ≡ length xs
-  count-long = sym (length-take-le (p .count) (p .samples) (omega (arith, paired .room, paired .count))) ∙ ap length (paired .samples)
+  count-long = sym (length-take-le (p .count) samples (omega (arith, paired .same-room, paired .count))) ∙ ap length (paired .samples)
 
   pub fed-most : a .fed ≤ length xs
   unfolding batchOf

@@ -30,11 +30,11 @@ read bytes places = record { bytes = bytes; places = places }
 
 -- in reads that cut both samples
 cut : List Read
-cut = read (0x34 ∷ []) 24832 ∷ read (0x12 ∷ 0xfe ∷ []) 24832 ∷ read [] 24832 ∷ read (0xff ∷ 0x07 ∷ []) 24832 ∷ []
+cut = read (0x34 ∷ []) 794624 ∷ read (0x12 ∷ 0xfe ∷ []) 794624 ∷ read [] 794624 ∷ read (0xff ∷ 0x07 ∷ []) 794624 ∷ []
 
 -- in one read
 whole : List Read
-whole = read (0x34 ∷ 0x12 ∷ 0xfe ∷ 0xff ∷ 0x07 ∷ []) 24832 ∷ []
+whole = read (0x34 ∷ 0x12 ∷ 0xfe ∷ 0xff ∷ 0x07 ∷ []) 794624 ∷ []
 
 -- with no room for a line, or for one
 cramped : List Read
@@ -93,7 +93,7 @@ cut-failed back = failed-write cut back cut-bytes 1
 
 -- and the next read of it is consumed
 one-more : Read
-one-more = read (0x00 ∷ []) 24832
+one-more = read (0x00 ∷ []) 794624
 
 six-bytes : Bytes (input cut ++ one-more .bytes)
 unfolding cut one-more flatMap Each

@@ -2,7 +2,7 @@
 use mathlib.Core.Path.{_≡_, sym, ap, subst, _∙_}
 use mathlib.Core.Bool.{cond}
 use mathlib.Core.List.{List, [], _∷_, _++_, append-assoc}
-use Prim.Native.Nat.{ℕ, _+_, _^_, _≤_}
+use Prim.Native.Nat.{ℕ, _+_, _*_, _^_, _≤_}
 use native.Mathlib.Omega.{arith}
 use borrow.Author.Needs.{sfits-of}
 use borrow.Author.Tests.{eq-eqb}
@@ -29,7 +29,7 @@ use Rattle.receiving.specs.declared.Receiving.{Receiving}
 use Rattle.receiving.specs.Pairs.{samplesOf, oddOf, waiting}
 use Rattle.receiving.specs.Listener.{listener, ownRecord}
 use Rattle.receiving.specs.Text.{verdict, linesOf, textFrom, goIn, batchOf, toldTo}
-use Rattle.receiving.specs.Hear.{looked, samplesIn, consumedOf, Intake, intakeOf, emptyTold}
+use Rattle.receiving.specs.Hear.{mostSamples, looked, samplesIn, consumedOf, Intake, intakeOf, emptyTold}
 use Rattle.receiving.specs.Caller.{Bytes, Read, Caller, freshCaller, input, given, intakeAt, callerAfter, consumedBy}
 use Rattle.receiving.specs.Rules.{rules48, rulesIntake}
 use Rattle.receiving.proofs.BytePairs.{samples-joined}
@@ -91,7 +91,7 @@ module _ (reads : List Read) (r : Read) (b : Bytes (input reads ++ r .bytes)) wh
   seen = looked (given c r) (r .places)
 
   abbrev unseen : List ℕ
-  unseen = drop (cond (ltb (r .places) 97) 0 512) (given c r)
+  unseen = drop (cond (ltb (r .places) 97) 0 (2 * mostSamples)) (given c r)
 
   abbrev xs : List ℤ
   xs = samplesOf before
@@ -114,7 +114,7 @@ module _ (reads : List Read) (r : Read) (b : Bytes (input reads ++ r .bytes)) wh
       ap samplesOf (sym all-cut)
       ∙ samples-joined before (given c r)
       ∙ ap (λ (o : Odd). xs ++ samplesIn o (given c r)) (sym made-odd)
-      ∙ ap (λ (l : List ℕ). xs ++ samplesIn odd l) (sym (take-append-drop (cond (ltb (r .places) 97) 0 512) (given c r)))
+      ∙ ap (λ (l : List ℕ). xs ++ samplesIn odd l) (sym (take-append-drop (cond (ltb (r .places) 97) 0 (2 * mostSamples)) (given c r)))
       ∙ ap (λ (l : List ℤ). xs ++ l) (samples-cut odd seen unseen)
 
   fits : SixteenBits (xs ++ (ys ++ zs))
@@ -137,7 +137,7 @@ module _ (reads : List Read) (r : Read) (b : Bytes (input reads ++ r .bytes)) wh
         untroubled at48 verdict ys _ (0 + length xs) (untroubled at48 verdict xs start 0 between-start (omega arith) .1) (omega arith) .0
 
     -- no sample is refused, neither for a reply that is owed; and with room for a line of each the call consumes all
-    pub next-taken : (intakeAt c r .answer ≡ nothing) × (length (given c r) ≤ 512 → 24832 ≤ r .places → intakeAt c r .consumed ≡ length (given c r))
+    pub next-taken : (intakeAt c r .answer ≡ nothing) × (length (given c r) ≤ 2 * mostSamples → 97 * mostSamples ≤ r .places → intakeAt c r .consumed ≡ length (given c r))
     unfolding intakeOf batchOf
     next-taken =
         let same = hear-run in
@@ -146,7 +146,7 @@ module _ (reads : List Read) (r : Read) (b : Bytes (input reads ++ r .bytes)) wh
           same .answers ∙ told,
           λ few enough.
               let whole : seen ≡ given c r = looked-all (given c r) (r .places) few (omega arith) in
-              let short : length seen ≤ 512 = rw whole few in
+              let short : length seen ≤ 2 * mostSamples = rw whole few in
               let long : length said ≡ length ys = answers-long (listener rules48 verdict) ys _ in
               let all : goIn said (r .places) ≡ length ys = all-in said calm (r .places) (omega (arith, long, few-samples odd seen short)) ∙ long in
               same .consumes ∙ rw (told, eq-eqb (goIn said (r .places)) (length ys) all) (ap length whole),

@@ -27,12 +27,11 @@ use Rattle.search.specs.declared.Reply.{Reply}
 use Rattle.search.specs.declared.Reply.the-variants.{Accepted, Rejected}
 use Rattle.search.specs.TakenBurst.{TakenBurst, heldIn}
 use Rattle.search.specs.Search.{carried, tried, passed, searched}
-use Rattle.search.specs.Turn.{Outcome, quiet, offer, counted, freed, owing, dueTurn, waitedTurn, comesTo, sampled, replied as settledBy}
+use Rattle.search.specs.Turn.{Outcome, quiet, offer, counted, freed, owing, dueTurn, waitedTurn, comesTo, controlOf, sampled, replied as settledBy}
 use Rattle.search.proofs.AgeInPass.{by-test, missed-keeps, matched-keeps}
 use Rattle.demodulator.specs.Spans.{eight}
 use Rattle.demodulator.specs.Calls.{isRefusal}
 use Rattle.demodulator.specs.Singles.{sample, reply}
-use Rattle.demodulator_laws.proofs.SampleFits.{controlOf}
 use Rattle.demodulator_run.specs.Filter.{ago}
 use Rattle.demodulator_run.specs.Rules.{History, After, start, settled, given, answered, single}
 use Rattle.demodulator_run.proofs.Count.{sampled-count, replied-count}

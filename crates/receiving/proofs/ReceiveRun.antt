@@ -4,7 +4,7 @@ use mathlib.Core.Path.{_≡_, refl, sym, ap, subst, _∙_}
 use mathlib.Core.Logic.{_⊎_, inl, inr}
 use mathlib.Core.Bool.{not}
 use mathlib.Core.List.{List, [], _∷_, _++_, append-assoc, append-nil, flatMap}
-use Prim.Native.Nat.{ℕ, _^_, _≤_, _<_}
+use Prim.Native.Nat.{ℕ, _*_, _^_, _≤_, _<_}
 use native.Mathlib.Omega.{arith}
 use lib.IntN.{ℤ}
 use lib.ListN.{length, take, drop, length-append, take-append-drop, drop-of-length-le}
@@ -25,6 +25,7 @@ use Rattle.receiving.specs.declared.Receiving.{Receiving}
 use Rattle.receiving.specs.Pairs.{samplesOf, oddOf, waiting}
 use Rattle.receiving.specs.Listener.{Rule, listedOf, listedIn, listener, calls, ownRecord}
 use Rattle.receiving.specs.Text.{verdict, linesOf, textFrom}
+use Rattle.receiving.specs.Hear.{mostSamples}
 use Rattle.receiving.specs.Caller.{Bytes, Read, Caller, Short, freshCaller, input, given, intakeAt, calling, callerAfter, textOf, consumedBy}
 use Rattle.receiving.specs.Rules.{rulesAt, rules48, receivedText}
 use Rattle.receiving.proofs.Listener.{calls-offers}
@@ -106,7 +107,7 @@ none-unused (r ∷ back) front none short b l =
     let whole : input (front ++ (r ∷ back)) ≡ here ++ input back = given-joined (λ (r : Read). r .bytes) front (r ∷ back) ∙ sym (append-assoc (input front) (r .bytes) (input back)) in
     let fewer : length (samplesOf here) ≤ 2 ^ 63 =
     omega (arith, ap (λ (q : List ℕ). length (samplesOf q)) whole, ap length (samples-joined here (input back)) ∙ length-append (samplesOf here) (samplesOf (waiting (oddOf here) ++ input back))) in
-    let few : length (given c r) ≤ 512 = rw none (short .0 .0) in
+    let few : length (given c r) ≤ 2 * mostSamples = rw none (short .0 .0) in
     let took : intakeAt c r .consumed ≡ length (given c r) = next-taken front r (each-front (λ (b : ℕ). b < 256) here (input back) (subst Bytes whole b)) fewer .1 few (short .0 .1) in
     let out : length (given c r) ≤ intakeAt c r .consumed = omega arith in
     let gone : callerAfter freshCaller (front ++ (r ∷ [])) .unused ≡ [] = ap (λ (d : Caller). d .unused) (run-joined calling front (r ∷ []) freshCaller) ∙ drop-of-length-le (given c r) out in

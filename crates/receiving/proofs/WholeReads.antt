@@ -23,7 +23,7 @@ use Rattle.receiving.specs.declared.Receiving.{Receiving}
 use Rattle.receiving.specs.Pairs.{waiting}
 use Rattle.receiving.specs.Listener.{blank, ownRecord}
 use Rattle.receiving.specs.Text.{goIn, Batch, toldTo}
-use Rattle.receiving.specs.Hear.{looked, samplesIn, intakeOf, emptyTold}
+use Rattle.receiving.specs.Hear.{mostSamples, looked, samplesIn, intakeOf, emptyTold}
 use Rattle.receiving.specs.Parts.{recordTold, recordBatch}
 use Rattle.receiving.specs.Caller.{Read, Caller, Short, input, given, after, callerAfter, textOf, consumedBy}
 use Rattle.receiving.proofs.BytePairs.{one-waits}
@@ -87,19 +87,19 @@ module _ (m : SoftDemodulator) (odd : Odd) (bytes : List ℕ) (places : ℕ) (en
       ]
 
 -- ---- a read as the program has it
-pub few-samples : (odd : Odd) (bytes : List ℕ) → length bytes ≤ 512 → 97 * length (samplesIn odd bytes) ≤ 24832
+pub few-samples : (odd : Odd) (bytes : List ℕ) → length bytes ≤ 2 * mostSamples → 97 * length (samplesIn odd bytes) ≤ 97 * mostSamples
 few-samples odd bytes l = omega (arith, samples-long (waiting odd ++ bytes), length-append (waiting odd) bytes, one-waits odd)
 
-pub looked-all : (bytes : List ℕ) (places : ℕ) → length bytes ≤ 512 → 97 ≤ places → looked bytes places ≡ bytes
-looked-all bytes places few enough = rw (le-ltb places 97 enough) (take-all 512 bytes few)
+pub looked-all : (bytes : List ℕ) (places : ℕ) → length bytes ≤ 2 * mostSamples → 97 ≤ places → looked bytes places ≡ bytes
+looked-all bytes places few enough = rw (le-ltb places 97 enough) (take-all (2 * mostSamples) bytes few)
 
 abbrev pub WholeOrStuck : Caller → Type 0
 WholeOrStuck c = (c .unused ≡ []) ⊎ ((number : ℕ) × RefusesAll number (c .receiving .demodulator))
 
-read-whole : (c : Caller) (r : Read) → c .unused ≡ [] → length (r .bytes) ≤ 512 → 24832 ≤ r .places → WholeOrStuck (after c r)
+read-whole : (c : Caller) (r : Read) → c .unused ≡ [] → length (r .bytes) ≤ 2 * mostSamples → 97 * mostSamples ≤ r .places → WholeOrStuck (after c r)
 read-whole c r none few enough =
     let all : List ℕ = given c r in
-    let short : length all ≤ 512 = rw none few in
+    let short : length all ≤ 2 * mostSamples = rw none few in
     let seen : looked all (r .places) ≡ all = looked-all all (r .places) short (omega arith) in
     rw seen
     (elim (call-whole (c .receiving .demodulator) (c .receiving .odd) all (r .places) (omega (arith, few-samples (c .receiving .odd) all short))) [

@@ -1,12 +1,12 @@
 -- How a caller goes on, with reads of any sizes and any room for each: the bytes that a call did not consume go before the next.
 -- Assumes nothing.
 use mathlib.Core.List.{List, [], _++_, flatMap}
-use Prim.Native.Nat.{ℕ, _≤_, _<_}
+use Prim.Native.Nat.{ℕ, _*_, _≤_, _<_}
 use lib.ListN.{length, take, drop}
 use Rattle.machine.specs.Runs.{Machine, run, answers, Each}
 use Rattle.demodulator.specs.declared.SoftDemodulator.{SoftDemodulator}
 use Rattle.receiving.specs.declared.Receiving.{Receiving}
-use Rattle.receiving.specs.Hear.{Intake, recordIntake, freshReceiving}
+use Rattle.receiving.specs.Hear.{mostSamples, Intake, recordIntake, freshReceiving}
 
 abbrev pub Bytes : List ℕ → Type 0
 Bytes = Each (λ (b : ℕ). b < 256)
@@ -20,9 +20,9 @@ pub record Read : Type 0 where
 abbrev pub input : List Read → List ℕ
 input = flatMap (λ (r : Read). r .bytes)
 
--- as the program has it: 512 bytes at most, and room for a line of each of their samples
+-- as the program has it: 16,384 bytes at most, and room for a line of each of their samples
 abbrev pub Short : List Read → Type 0
-Short = Each (λ (r : Read). (length (r .bytes) ≤ 512) × (24832 ≤ r .places))
+Short = Each (λ (r : Read). (length (r .bytes) ≤ 2 * mostSamples) × (97 * mostSamples ≤ r .places))
 
 -- ---- a caller: the record that the last call left, and the bytes that no call has consumed
 pub record Caller : Type 0 where

@@ -25,9 +25,13 @@ use Rattle.receiving.specs.Listener.{listener, ownRecord}
 use Rattle.receiving.specs.Text.{verdict, Batch, batchOf, toldTo}
 
 -- ---- the bytes
--- a call looks at its first 512 bytes, and at none where the room has no place for a line
+-- the most samples of a call
+abbrev pub mostSamples : ℕ
+mostSamples = 8192
+
+-- a call looks at the bytes of so many, and at none where the room has no place for a line
 abbrev pub looked : List ℕ → ℕ → List ℕ
-looked bytes places = take (cond (ltb places 97) 0 512) bytes
+looked bytes places = take (cond (ltb places 97) 0 (2 * mostSamples)) bytes
 
 -- "Receive reads i16 samples, low byte first": the byte that waits and these
 abbrev pub samplesIn : Odd → List ℕ → List ℤ

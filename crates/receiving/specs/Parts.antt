@@ -26,7 +26,7 @@ use Rattle.receiving.specs.declared.windows.AfterSamples.{AfterSamples}
 use Rattle.receiving.specs.Pairs.{samplesOf, oddOf, waiting}
 use Rattle.receiving.specs.Listener.{Listed, listedOf, blank, replyTo, listener, ownRecord}
 use Rattle.receiving.specs.Text.{verdict, ifAccepted, linesOf, Batch, batchOf, refusalIn, toldTo}
-use Rattle.receiving.specs.Hear.{emptyTold, receiptPaper}
+use Rattle.receiving.specs.Hear.{mostSamples, emptyTold, receiptPaper}
 
 -- ---- an answer, as the code looks at it
 abbrev pub isAdmitted : Receipt → Bool
@@ -46,14 +46,18 @@ refusedAfter fed answer = cond (eqb fed 0) (refusalIn answer) nothing
 
 -- ---- bytes
 abbrev pub looksAt : ℕ → ℕ → ℕ
-looksAt bytes places = cond (ltb places 97) 0 (cond (ltb bytes 512) bytes 512)
+looksAt bytes places = cond (ltb places 97) 0 (cond (ltb bytes (2 * mostSamples)) bytes (2 * mostSamples))
 
 -- the samples are at the front of their room
-pub record PairsUp (odd : Odd) (bytes : List ℕ) (r : Paired) : Type 0 where
-  pub room : length (r .samples) ≡ 256
-  pub count : r .count ≤ 256
-  pub samples : take (r .count) (r .samples) ≡ samplesOf (waiting odd ++ bytes)
+pub record PairsUp (odd : Odd) (bytes : List ℕ) (room : List ℤ) (r : Paired) (after : List ℤ) : Type 0 where
+  pub same-room : length after ≡ length room
+  pub count : r .count ≤ length room
+  pub samples : take (r .count) after ≡ samplesOf (waiting odd ++ bytes)
   pub left-over : r .odd ≡ oddOf (waiting odd ++ bytes)
+
+-- where none waits
+abbrev pub PairsWhole : List ℕ → List ℤ → Paired → List ℤ → Type 0
+PairsWhole = PairsUp Nothing
 
 pub record ConsumesPart (odd : Odd) (fed : ℕ) (r : Part) : Type 0 where
   pub bytes : r .consumed ≡ 2 * fed - length (waiting odd)
@@ -101,7 +105,7 @@ recordBatch = batchOf ownRecord
 
 -- no more than pairs of bytes make, and none without room for a line
 pub record Roomy (xs : List ℤ) (lines : List ℕ) : Type 0 where
-  pub few : length xs ≤ 256
+  pub few : length xs ≤ mostSamples
   pub room : 1 ≤ length xs → 97 ≤ length lines
 
 pub record HearsAll (m : SoftDemodulator) (xs : List ℤ) (lines : List ℕ) (r : AfterSamples) (after : List ℕ) : Type 0 where

@@ -34,8 +34,8 @@ pub struct AfterBytes {
     pub receiving: Receiving,
 }
 
-// The most bytes that a call looks at. With a byte that waits they are 256 samples.
-const MOST_BYTES: usize = 512;
+// The most bytes that a call looks at. With a byte that waits they are 8,192 samples.
+const MOST_BYTES: usize = 16384;
 
 fn is_admitted(answer: Receipt) -> bool
     ensures { λ r. ⌜ r ≡ isAdmitted answer ⌝ }
@@ -78,8 +78,8 @@ impl Receiving {
     {
         let looked = look_at(bytes.len(), lines.len());
         let odd = self.odd;
-        let paired = pairs::pair_up(odd, &bytes[..looked]);
-        let samples = paired.samples;
+        let mut samples = [0i16; 8192];
+        let paired = pairs::pair_up(odd, &bytes[..looked], &mut samples);
         let count = paired.count;
         let demodulator = self.demodulator;
         let heard = windows::hear_samples(demodulator, &samples[..count], lines);

@@ -1,42 +1,65 @@
 // Bytes in pairs: a read may end between the two bytes of a sample.
 use crate::Odd;
-ghost use Prim.Native.Nat.{_≤_};
+ghost use Prim.Native.Nat.{_*_, _+_, _≤_};
 ghost use lib.ListN.{length};
-ghost use Rattle.receiving.specs.Parts.{PairsUp, ConsumesPart};
+ghost use Rattle.receiving.specs.Hear.{mostSamples};
+ghost use Rattle.receiving.specs.Parts.{PairsWhole, PairsUp, ConsumesPart};
 
-// `odd` is the byte that is left over.
+// How many samples there are, and the byte that is left over.
 pub(crate) struct Paired {
-    pub samples: [i16; 256],
     pub count: usize,
     pub odd: Odd,
 }
 
-pub(crate) fn pair_up(odd: Odd, bytes: &[u8]) -> Paired
-    requires { ⌜ length (now bytes) ≤ 512 ⌝ }
-    ensures { λ r. ⌜ PairsUp odd (now (bytes .entry)) r ⌝ }
+// Whole samples from the first byte on.
+fn pair_whole(bytes: &[u8], samples: &mut [i16]) -> Paired
+    requires { ⌜ length (now bytes) ≤ 2 * length (now samples) + 1 ⌝ }
+    ensures { λ r. ⌜ PairsWhole (now (bytes .entry)) (now (samples .entry)) r (now (samples .exit)) ⌝ }
 {
-    let mut samples = [0i16; 256];
-    let mut count: usize = 0;
-    let mut held = odd;
+    let count = bytes.len() / 2;
     let mut i: usize = 0;
-    while i < bytes.len() {
-        let byte = bytes[i];
-        match held {
-            Odd::Nothing => {
-                held = Odd::Held(byte);
-            }
-            Odd::Held(low) => {
-                samples[count] = house::i16_of_bytes(low, byte);
-                count += 1;
-                held = Odd::Nothing;
-            }
-        }
+    while i < count {
+        let first = 2 * i;
+        let second = first + 1;
+        let sample = house::i16_of_bytes(bytes[first], bytes[second]);
+        samples[i] = sample;
         i += 1;
     }
+    let end = 2 * count;
+    if end < bytes.len() {
+        let last = bytes[end];
+        return Paired {
+            count,
+            odd: Odd::Held(last),
+        };
+    }
     Paired {
-        samples,
         count,
-        odd: held,
+        odd: Odd::Nothing,
+    }
+}
+
+// A byte that waits makes a sample with the first byte.
+pub(crate) fn pair_up(odd: Odd, bytes: &[u8], samples: &mut [i16]) -> Paired
+    requires { ⌜ length (now bytes) ≤ 2 * length (now samples) ⌝ }
+    ensures { λ r. ⌜ PairsUp odd (now (bytes .entry)) (now (samples .entry)) r (now (samples .exit)) ⌝ }
+{
+    match odd {
+        Odd::Nothing => pair_whole(bytes, samples),
+        Odd::Held(low) => {
+            if bytes.len() == 0 {
+                return Paired { count: 0, odd };
+            }
+            let sample = house::i16_of_bytes(low, bytes[0]);
+            samples[0] = sample;
+            let rest = pair_whole(&bytes[1..], &mut samples[1..]);
+            let count = rest.count + 1;
+            let left_over = rest.odd;
+            Paired {
+                count,
+                odd: left_over,
+            }
+        }
     }
 }
 
@@ -47,7 +70,7 @@ pub(crate) struct Part {
 }
 
 pub(crate) fn measure_part(odd: Odd, fed: usize) -> Part
-    requires { ⌜ fed ≤ 256 ⌝ }
+    requires { ⌜ fed ≤ mostSamples ⌝ }
     ensures { λ r. ⌜ ConsumesPart odd fed r ⌝ }
 {
     if fed == 0 {

@@ -13,6 +13,8 @@ pub mod AgeInPass
 pub mod Compared
 -- a search with nothing to do
 pub mod Silent
+-- what a sample comes to, by the wait
+pub mod SampleByWait
 -- what comes before a search leaves a fit control fit
 pub mod TurnFits
 -- each promise fixes its answer

@@ -5,13 +5,17 @@ use mathlib.Core.List.{List}
 use Prim.Native.Nat.{ℕ}
 use lib.Ieee.{Float}
 use Rattle.numbers.proofs.Answer.{same-answer}
+use Rattle.search.specs.declared.Candidate.{Candidate}
 use Rattle.search.specs.declared.Control.{Control}
 use Rattle.search.specs.declared.Turn.{Turn}
 use Rattle.search.specs.declared.Reply.{Reply}
-use Rattle.search.specs.Promises.{control-fit-says, turn-of-says, searched-says, replied-says}
+use Rattle.search.specs.Promises.{control-fit-says, is-held-says, turn-of-says, searched-says, replied-says}
 
 pub control-fit-only-answer : (p : ℕ) (c : Control) (r s : Bool) → control-fit-says p c r → control-fit-says p c s → r ≡ s
 control-fit-only-answer p c r s = same-answer
+
+pub is-held-only-answer : (candidate : Candidate) (r s : Bool) → is-held-says candidate r → is-held-says candidate s → r ≡ s
+is-held-only-answer candidate r s = same-answer
 
 pub turn-of-only-answer : (c : Control) (n : ℕ) (r s : Turn) → turn-of-says c n r → turn-of-says c n s → r ≡ s
 turn-of-only-answer c n r s = same-answer

@@ -17,7 +17,7 @@ use Rattle.search.proofs.Fitness.{taken-fact}
 use Rattle.search.proofs.AgeInPass.{by-test}
 
 -- ---- the timer
-cleared-fit : (p count : ℕ) (timer : Timer) → T (timerFit p timer) → T (timerFit p (cleared count timer))
+pub cleared-fit : (p count : ℕ) (timer : Timer) → T (timerFit p timer) → T (timerFit p (cleared count timer))
 unfolding cleared
 cleared-fit p count Off t = tt
 cleared-fit p count (Until end) t = by-test (λ (o : Timer). T (timerFit p o)) (ltb end count) Off (Until end) (λ e. tt) (λ e. t)
@@ -26,9 +26,9 @@ cleared-fit p count (Until end) t = by-test (λ (o : Timer). T (timerFit p o)) (
 pub taken-within : (count : ℕ) (t : TakenBurst) → 1 ≤ t .«taken_at» → t .«taken_at» ≤ count → T (takenFit count (heldAs t))
 taken-within count t from to = and-i (leb 1 (t .«taken_at»)) (leb (t .«taken_at») count) (le→leb 1 (t .«taken_at») from) (le→leb (t .«taken_at») count to)
 
-taken-later : (count : ℕ) {candidate : Candidate} → HeldOrNot candidate → T (takenFit count candidate) → T (takenFit (count + 1) candidate)
-taken-later count not-held t = tt
-taken-later count (is-held u) t = let within = taken-fact count u t in taken-within (count + 1) u (within .0) (omega (arith, within .1))
+pub taken-later : (count later : ℕ) → count ≤ later → {candidate : Candidate} → HeldOrNot candidate → T (takenFit count candidate) → T (takenFit later candidate)
+taken-later count later h not-held t = tt
+taken-later count later h (is-held u) t = let within = taken-fact count u t in taken-within later u (within .0) (omega (arith, within .1))
 
 -- ---- a reply
 none-held : (owed : Bool) → T (not (owed && false))
@@ -47,7 +47,7 @@ module _ (p : ℕ) (c : Control) (fit : T (controlFit p c)) where
         candidate = s .candidate;
         wait = s .wait;
         reply = s .reply;
-        taken = taken-later (c .sample) (held-or-not (c .candidate)) (s .taken);
+        taken = taken-later (c .sample) (c .sample + 1) (omega arith) (held-or-not (c .candidate)) (s .taken);
         kept = s .kept;
       })
 

@@ -18,7 +18,7 @@ use Rattle.search.specs.TakenBurst.{heldIn}
 abbrev pub countFit : Control → Bool
 countFit c = leb (c .sample) (2 ^ 63)
 
--- "timer end above 2^63 + 3,840"
+-- "timer end above 2^63 + 3,840"; document 02 k): "timer end 2^63 + 1,920"
 abbrev pub timerFit : ℕ → Timer → Bool
 timerFit p Off = true
 timerFit p (Until end) = leb end (2 ^ 63 + 384 * p)
@@ -45,7 +45,7 @@ candidateFit candidate = elim (heldIn candidate) [ none ↦ true | some t ↦ ag
 abbrev pub held : Candidate → Bool
 held candidate = elim (heldIn candidate) [ none ↦ false | some t ↦ true ]
 
--- "a wait outside 1 to 1,839, or held without a candidate, or with a reply owed"
+-- "a wait outside 1 to 1,839, or held without a candidate, or with a reply owed"; document 02 k): "wait 1 to 919"
 unfoldable pub waitFit : ℕ → Wait → Candidate → Bool → Bool
 waitFit p Free candidate owed = true
 waitFit p (Due w) candidate owed = leb 1 (w .left) && ltb (w .left) (184 * p) && held candidate && not owed

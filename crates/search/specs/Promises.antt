@@ -5,15 +5,19 @@ use mathlib.Core.List.{List}
 use Prim.Native.Nat.{ℕ}
 use lib.Ieee.{Float}
 use Rattle.decode.specs.Parts.{valuesOf}
+use Rattle.search.specs.declared.Candidate.{Candidate}
 use Rattle.search.specs.declared.Control.{Control}
 use Rattle.search.specs.declared.Turn.{Turn}
 use Rattle.search.specs.declared.Reply.{Reply}
 use Rattle.search.specs.Search.{searched}
 use Rattle.search.specs.Turn.{turnOf, replied}
-use Rattle.search.specs.Fit.{controlFit}
+use Rattle.search.specs.Fit.{held, controlFit}
 
 abbrev pub control-fit-says : ℕ → Control → Bool → Type 0
 control-fit-says p c r = r ≡ controlFit p c
+
+abbrev pub is-held-says : Candidate → Bool → Type 0
+is-held-says candidate r = r ≡ held candidate
 
 abbrev pub turn-of-says : Control → ℕ → Turn → Type 0
 turn-of-says c n r = r ≡ turnOf n c

@@ -30,7 +30,7 @@ abbrev pub endAfter : ℕ → ℕ → ℕ
 endAfter count span = min (count + span) 0xffff_ffff_ffff_ffff
 
 -- ---- first part
--- "preamble, then end of transmission; a match sets the timer's end to count + 240, even if that is sooner than before"
+-- "preamble, then end of transmission; a match sets the timer's end to count + 240, even if that is sooner than before"; document 02 k): "the timer spans are 120 and 1,920"
 unfoldable pub carried : ℕ → SyncBurst → (ℕ → Float) → Control → Control
 carried p burst v c = cond (matches burst v) (withTimer (Until (endAfter (c .sample) (24 * p))) c) c
 
@@ -49,7 +49,7 @@ sameKind j k = eqb (rank j) (rank k)
 abbrev pub ageOf : Candidate → ℕ
 ageOf candidate = elim (heldIn candidate) [ none ↦ 0 | some t ↦ t .age ]
 
--- "the wait becomes 1,840 - age": the age is kept with it, since the candidate's own can still rise
+-- "the wait becomes 1,840 - age"; document 02 k): "the wait is 920 - age". The age is kept with it, since the candidate's own can still rise
 abbrev pub waitAfter : ℕ → ℕ → Wait
 waitAfter p age = Due (record { left = 184 * p - age; age = age; replaced = false })
 

@@ -71,6 +71,11 @@ comesTo p v (Rest c) = quiet c
 comesTo p v (Offer shown c) = offer shown c
 comesTo p v (Look c) = quiet (searched p v c)
 
+-- the control then, whichever it is
+abbrev pub controlOf : Outcome → Control
+controlOf (quiet c) = c
+controlOf (offer shown c) = c
+
 -- once it is stored: `v` are the eight values then
 unfoldable pub sampled : ℕ → (ℕ → Float) → Control → Outcome
 sampled p v c = comesTo p v (turnOf (c .sample + 1) c)

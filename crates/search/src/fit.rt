@@ -7,8 +7,8 @@ use crate::LAST_COUNT;
 use crate::Timer;
 use crate::Wait;
 ghost use mathlib.Core.Path.{_≡_};
-ghost use Rattle.search.specs.Fit.{timerFit, candidateFit, held, waitFit, takenFit, keptFit};
-ghost use Rattle.search.specs.Promises.{control-fit-says};
+ghost use Rattle.search.specs.Fit.{timerFit, candidateFit, waitFit, takenFit, keptFit};
+ghost use Rattle.search.specs.Promises.{control-fit-says, is-held-says};
 
 // The timer's latest end is a frame's, set at the largest count.
 fn timer_fit(p: u8, timer: Timer) -> bool
@@ -44,8 +44,8 @@ fn candidate_fit(candidate: Candidate) -> bool
     }
 }
 
-pub(crate) fn is_held(candidate: Candidate) -> bool
-    ensures { λ r. ⌜ r ≡ held candidate ⌝ }
+pub fn is_held(candidate: Candidate) -> bool
+    ensures { λ r. ⌜ is-held-says candidate r ⌝ }
 {
     match candidate {
         Candidate::Nothing => false,

@@ -7,6 +7,7 @@ mod turns;
 
 pub use bursts::searched;
 pub use fit::control_fit;
+pub use fit::is_held;
 pub use turns::replied;
 pub use turns::turn_of;
 

@@ -1,4 +1,4 @@
-// What stands in the bytes.
+// What is in the bytes.
 ghost use mathlib.Core.Path.{_≡_};
 ghost use Prim.Native.Nat.{_≤_, min};
 ghost use lib.ListN.{length};

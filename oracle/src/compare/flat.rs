@@ -241,8 +241,8 @@ pub fn scalars_differ(
 ) -> Option<String> {
     let control = peek::control(old);
     let ours = numbers(peek::cursors(old), control, found, false);
-    if let Some(i) = (0..=RECEIVER_RATE).find(|&i| ours[i] != port[i]) {
-        return Some(say(RECEIVER_NAMES[i], ours[i], port[i]));
+    if let Some(what) = numbers_differ(&ours, port) {
+        return Some(what);
     }
     let [diff, gain, shift] = three(control);
     let ours = [diff, gain, shift, peek::newest(old)];
@@ -269,9 +269,16 @@ pub fn reports_differ(found: Found, port: &[u64]) -> Option<String> {
         .map(|i| say(names[i], ours[i], port[OFFER_TAKEN + i]))
 }
 
+/// Of the record's numbers, not of an answer's.
+pub fn numbers_differ(old: &[u64], port: &[u64]) -> Option<String> {
+    (0..=RECEIVER_RATE)
+        .find(|&i| old[i] != port[i])
+        .map(|i| say(RECEIVER_NAMES[i], old[i], port[i]))
+}
+
 pub fn receivers_differ(old: &Receiver, port: &Receiver) -> Option<String> {
-    if let Some(i) = (0..=RECEIVER_RATE).find(|&i| old.numbers[i] != port.numbers[i]) {
-        return Some(say(RECEIVER_NAMES[i], old.numbers[i], port.numbers[i]));
+    if let Some(what) = numbers_differ(&old.numbers, &port.numbers) {
+        return Some(what);
     }
     if let Some(i) = (0..PLACES).find(|&i| old.window[i] != port.window[i]) {
         return Some(say(

@@ -1,7 +1,9 @@
 //! Recordings: both receivers from fresh, sample by sample.
 
-use super::flat::{self, floats_differ, receivers_differ, room_after, say, Receiver};
-use super::flat::{ANSWER, CARRIER, GIVEN, NO_KIND, OFFERED_AT, OFFER_MARK, REFUSAL};
+use super::flat::{self, floats_differ, receivers_differ, say, Receiver};
+use super::flat::{ANSWER, CARRIER, GIVEN, NO_KIND, OFFERED_AT, REFUSAL};
+use super::lengths::length;
+use super::pieces::{self, Singly};
 use super::port::{Hearing, Note, Program};
 use super::recordings::{recording, Recording};
 use super::smallest::{from_the_front, plainer};
@@ -34,7 +36,7 @@ pub fn compare(
     while tally.samples < samples {
         let recording = recording(random, number);
         number += 1;
-        let found = difference(program, &recording.samples, &recording.replies, tally);
+        let found = difference(program, &recording.samples, &recording, tally);
         if let Some((at, what)) = found {
             return Some(smallest(program, recording, at, what));
         }
@@ -45,10 +47,9 @@ pub fn compare(
 
 /// The shortest beginning, without what can be spared in front, and with zeros where they do.
 fn smallest(program: &mut Program, recording: Recording, at: usize, what: String) -> Difference {
-    let mut samples = recording.samples;
+    let mut samples = recording.samples.clone();
     samples.truncate(at + 1);
-    let mut found =
-        |part: &[i16]| difference(program, part, &recording.replies, &mut Tally::default());
+    let mut found = |part: &[i16]| difference(program, part, &recording, &mut Tally::default());
     let mut shows = |part: &[i16]| found(part).is_some();
     from_the_front(&mut samples, &mut shows);
     plainer(&mut samples, 0, &mut shows);
@@ -66,16 +67,16 @@ fn smallest(program: &mut Program, recording: Recording, at: usize, what: String
     }
 }
 
-/// The place of the first sample after which the two differ, and in what.
+/// The place of the first sample after which the two differ, and in what. The samples are the recording's or some of them.
 fn difference(
     program: &mut Program,
     samples: &[i16],
-    replies: &str,
+    recording: &Recording,
     tally: &mut Tally,
 ) -> Option<(usize, String)> {
-    lay_replies(replies);
+    lay_replies(&recording.replies);
     take_offer();
-    let mut sides = Sides::new(program);
+    let mut sides = Sides::new(program, recording.pieces);
     if let Some(what) = receivers_differ(&flat::receiver(&sides.old, sides.found), &sides.port) {
         return Some((0, what));
     }
@@ -100,10 +101,12 @@ struct Sides<'a> {
     notes: Vec<Note>,
     /// The last reply.
     accepted: bool,
+    /// Where the pieces' lengths come from.
+    lengths: Random,
 }
 
 impl<'a> Sides<'a> {
-    fn new(program: &'a mut Program) -> Self {
+    fn new(program: &'a mut Program, pieces: u64) -> Self {
         let mut port = Receiver::empty();
         port.numbers[flat::RECEIVER_RATE] = RATE as u64;
         program.hear(Hearing::Fresh, &mut port, &mut []);
@@ -115,6 +118,7 @@ impl<'a> Sides<'a> {
             room: numbered(ROOM).try_into().expect("as many places"),
             notes: vec![],
             accepted: false,
+            lengths: Random::new(pieces),
         }
     }
 
@@ -129,9 +133,8 @@ impl<'a> Sides<'a> {
             self.sample(i, sample, tally).map_err(|what| (i, what))?;
         }
         let last = given - 1;
-        self.bulk(before, samples, given)
+        self.bulk(before, samples, tally)
             .map_err(|what| (last, what))?;
-        tally.bulk += given as u64;
         let written = if self.notes[last].numbers[ANSWER] == NO_KIND {
             0
         } else {
@@ -220,24 +223,20 @@ impl<'a> Sides<'a> {
         unequal(floats_differ("symbol", &offer.symbols, &self.room[..192]))
     }
 
-    /// The same stretch in one call of `feed`, and the reply: the port with itself.
-    fn bulk(&mut self, mut record: Receiver, samples: &[i16], given: usize) -> Result<(), String> {
-        let program = &mut self.program;
-        let mut room = numbered(ROOM);
-        program.hear(Hearing::Feed(samples), &mut record, &mut room);
-        let fed = record.numbers[GIVEN] as usize;
-        let noted = &self.notes[given - 1].numbers[REFUSAL..=OFFER_MARK];
-        if fed != given || record.numbers[REFUSAL..=OFFER_MARK] != *noted {
-            return Err(format!(
-                "{fed} samples go in by `feed`, {given} by `demod`, or it answers otherwise"
-            ));
-        }
-        let expected = room_after(&record.numbers, numbered(ROOM), &self.room);
-        unequal(floats_differ("room after `feed`, place", &expected, &room))?;
-        if record.numbers[ANSWER] != NO_KIND {
-            program.hear(Hearing::Reply(self.accepted), &mut record, &mut []);
-        }
-        unequal(receivers_differ(&self.port, &record).map(|what| format!("`feed`: {what}")))
+    /// The same stretch by `feed`, in one call and in pieces, with the reply: the port with itself.
+    fn bulk(&mut self, before: Receiver, samples: &[i16], tally: &mut Tally) -> Result<(), String> {
+        let singly = Singly {
+            samples,
+            notes: &self.notes,
+            room: &self.room,
+            accepted: self.accepted,
+            left: &self.port,
+        };
+        pieces::compared(self.program, before.clone(), &singly, || STRETCH)?;
+        let lengths = &mut self.lengths;
+        tally.pieces += pieces::compared(self.program, before, &singly, || length(lengths))?;
+        tally.bulk += self.notes.len() as u64;
+        Ok(())
     }
 }
 

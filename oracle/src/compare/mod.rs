@@ -2,7 +2,9 @@
 
 pub mod calls;
 pub mod flat;
+pub mod lengths;
 pub mod listening;
+pub mod pieces;
 pub mod port;
 pub mod receivers;
 pub mod recordings;
@@ -11,6 +13,10 @@ pub mod senders;
 pub mod sessions;
 pub mod smallest;
 pub mod steps;
+pub mod stretch_calls;
+pub mod stretch_cases;
+pub mod stretch_counts;
+pub mod stretch_signals;
 pub mod stretches;
 pub mod tally;
 #[cfg(not(feature = "rate24"))]

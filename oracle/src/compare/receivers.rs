@@ -11,7 +11,7 @@ use crate::modem::kept::{Control, Held};
 use crate::random::Random;
 use crate::rate::{tap, BURST_CARRIER, FRAME_CARRIER, P, REST, RING, WINDOW};
 
-const LAST: u64 = 1 << 63;
+pub const LAST: u64 = 1 << 63;
 
 /// The bursts whose last symbol is positive, and the others.
 const UP: [SyncBurst; 3] = [
@@ -64,7 +64,7 @@ fn any_sample(random: &mut Random) -> i16 {
 }
 
 /// Both rings with their cursors, and nothing else. The places that the rate does not use hold anything.
-fn rings(random: &mut Random) -> Receiver {
+pub fn rings(random: &mut Random) -> Receiver {
     let mut record = Receiver::empty();
     let level = *random.pick(&[0, 20, 500, 32_767]);
     record.lay_twice(&[(); WINDOW].map(|()| random.around(level) as i16));
@@ -87,7 +87,7 @@ fn rings(random: &mut Random) -> Receiver {
 }
 
 /// The filtered value of the window from a cursor on: one rounding an operation, in the Rust's order.
-fn filtered(window: &[i16; WINDOW], cursor: usize) -> f32 {
+pub fn filtered(window: &[i16; WINDOW], cursor: usize) -> f32 {
     let mut out = 0.0;
     for i in 0..WINDOW {
         out += tap(i) * f32::from(window[(cursor + i) % WINDOW]);
@@ -96,7 +96,7 @@ fn filtered(window: &[i16; WINDOW], cursor: usize) -> f32 {
 }
 
 /// Lays a burst, more or less exact, in the seven places that the search reads besides the newest value, and
-/// gives the eight. What the newest value is hangs on the window.
+/// gives the eight. What the newest value is depends on the window.
 fn burst(random: &mut Random, record: &mut Receiver, step: &Step) -> [f32; 8] {
     let (cursor, rx) = record.cursors();
     let newest = match *step {
@@ -134,12 +134,16 @@ fn burst(random: &mut Random, record: &mut Receiver, step: &Step) -> [f32; 8] {
     eight
 }
 
+pub fn any_count(random: &mut Random) -> u64 {
+    (u64::from(random.word()) << 31 | u64::from(random.word())) >> random.below(60)
+}
+
 fn control(random: &mut Random, owed: bool, eight: [f32; 8]) -> Control {
     let mut count = match random.below(8) {
         0 => LAST,
         1 => LAST - 1,
         2 => random.below(3) as u64,
-        _ => (u64::from(random.word()) << 31 | u64::from(random.word())) >> random.below(60),
+        _ => any_count(random),
     };
     if owed {
         // A reply is owed for a sample, so the old modem's count before it is one less.
@@ -174,7 +178,7 @@ fn control(random: &mut Random, owed: bool, eight: [f32; 8]) -> Control {
 
 /// What is kept besides: from the first sample to the last one a candidate may be taken, and a wait's age and mark may
 /// be anything but an age of 0.
-fn found(random: &mut Random, control: Control) -> Found {
+pub fn found(random: &mut Random, control: Control) -> Found {
     let mut found = Found::default();
     if control.candidate.is_some() {
         found.taken_at = match random.below(4) {
@@ -192,7 +196,7 @@ fn found(random: &mut Random, control: Control) -> Found {
 
 /// A candidate; its diff is often that of the match at hand, or a step from it, and now and then it is what that match
 /// would take.
-fn held(random: &mut Random, eight: [f32; 8]) -> Held {
+pub fn held(random: &mut Random, eight: [f32; 8]) -> Held {
     let kind = *random.pick(&KINDS);
     let taken = KINDS
         .iter()
@@ -239,7 +243,7 @@ fn lay_not_numbers(random: &mut Random, record: &mut Receiver, step: &Step) {
 }
 
 /// One thing, or two, that the unfit list names.
-fn spoil(random: &mut Random, record: &mut Receiver, step: &Step) {
+pub fn spoil(random: &mut Random, record: &mut Receiver, step: &Step) {
     for _ in 0..1 + random.below(2) {
         let places: Vec<usize> = tested(record, step).collect();
         let (n, f) = (&mut record.numbers, &mut record.floats);
@@ -290,7 +294,7 @@ fn spoil(random: &mut Random, record: &mut Receiver, step: &Step) {
             }
             13 => {
                 let sample = &mut record.window[random.below(USED)];
-                *sample = sample.wrapping_add(1 + random.below(65_535) as i16);
+                *sample = sample.wrapping_add((1 + random.below(65_535)) as i16);
             }
             _ if places.is_empty() => {}
             _ => f[*random.pick(&places)] = out_of_range(random),

@@ -12,6 +12,8 @@ pub struct Recording {
     pub samples: Vec<i16>,
     /// The reply to each offer in turn: `a` accepts, `r` rejects.
     pub replies: String,
+    /// The seed of the lengths in which its stretches are fed.
+    pub pieces: u64,
 }
 
 type Maker = fn(&mut Random) -> Vec<i16>;
@@ -38,10 +40,12 @@ pub fn recording(random: &mut Random, number: usize) -> Recording {
     let (name, make) = MAKERS[number % MAKERS.len()];
     let samples = make(random);
     let replies = replies(random, samples.len());
+    let pieces = u64::from(random.word());
     Recording {
         name,
         samples,
         replies,
+        pieces,
     }
 }
 

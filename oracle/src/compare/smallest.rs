@@ -1,5 +1,8 @@
 //! Makes an input that shows a difference small, for as long as it still shows one.
 
+use super::flat::{pattern, Receiver, DIFF, RECEIVER_RATE, VALUES};
+use crate::bits::row;
+
 /// Drops from the front: half of what is there, then a quarter, down to a single item.
 pub fn from_the_front<T>(items: &mut Vec<T>, shows: &mut dyn FnMut(&[T]) -> bool) {
     let mut by = items.len() / 2;
@@ -52,4 +55,34 @@ pub fn plainer<T: Copy + PartialEq>(
         }
         block /= 2;
     }
+}
+
+/// A made-up record with zeros in its rings, wherever they do.
+pub fn plainer_receiver(record: &mut Receiver, shows: &mut dyn FnMut(&Receiver) -> bool) {
+    let mut tried = record.clone();
+    plainer(&mut record.floats[..VALUES], 0.0, &mut |part| {
+        tried.floats[..VALUES].copy_from_slice(part);
+        shows(&tried)
+    });
+    tried.floats = record.floats;
+    plainer(&mut record.window, 0, &mut |part| {
+        tried.window.copy_from_slice(part);
+        shows(&tried)
+    });
+}
+
+/// A made-up record in words.
+pub fn told(record: &Receiver) -> String {
+    let laid = |(place, value): (usize, &f32)| format!("{place}: {}", pattern(*value));
+    let ring: Vec<String> = (record.floats[..VALUES].iter().enumerate())
+        .filter(|(_, value)| value.to_bits() != 0)
+        .map(laid)
+        .collect();
+    format!(
+        "numbers {:?}; diff, gain, shift {}; window {:?}; ring, where it is not 0.0: {}",
+        &record.numbers[..=RECEIVER_RATE],
+        row(&record.floats[DIFF..]),
+        record.window,
+        ring.join(", ")
+    )
 }

@@ -1,15 +1,15 @@
-//! One call on a made-up receiver record, to both sides.
+//! One call on a made-up receiver record, to both sides; of one record in eight a stretch, to the port alone.
 
 use super::flat::*;
 use super::port::{Hearing, Program};
 use super::receivers::made_up;
 use super::refusals::of_receiver;
-use super::smallest::plainer;
-use super::stretches;
+use super::smallest::{plainer_receiver, told};
+use super::stretch_signals::Signals;
 use super::tally::Tally;
 use super::values::{not_numbers, numbered};
 use super::{caught, Difference};
-use crate::bits::row;
+use super::{stretch_calls, stretch_cases, stretches};
 use crate::decode::{name, KINDS};
 use crate::harness::{lay_replies, take_offer, Offer};
 use crate::modem::found::Found;
@@ -45,10 +45,18 @@ pub fn compare(
     records: u64,
     tally: &mut Tally,
 ) -> Option<Difference> {
+    let mut signals = Signals::default();
     while tally.receiver_records < records {
-        let case = made_up(random);
-        if let Err(what) = compared(program, &case, tally) {
-            return Some(smallest(program, case, what));
+        let shown = if random.below(8) == 0 {
+            let case = stretch_cases::made_up(random, &mut signals);
+            stretch_calls::compare(program, case, tally)
+        } else {
+            let case = made_up(random);
+            let what = compared(program, &case, tally).err();
+            what.map(|what| smallest(program, case, what))
+        };
+        if shown.is_some() {
+            return shown;
         }
         tally.receiver_records += 1;
     }
@@ -57,34 +65,20 @@ pub fn compare(
 
 fn smallest(program: &mut Program, mut case: Case, what: String) -> Difference {
     let mut found = |case: &Case| compared(program, case, &mut Tally::default());
-    let mut floats = case.record.floats;
-    plainer(&mut floats[..VALUES], 0.0, &mut |part| {
-        case.record.floats[..VALUES].copy_from_slice(part);
+    let mut record = case.record.clone();
+    plainer_receiver(&mut record, &mut |part| {
+        case.record.clone_from(part);
         found(&case).is_err()
     });
-    case.record.floats = floats;
-    let mut window = case.record.window;
-    plainer(&mut window, 0, &mut |part| {
-        case.record.window.copy_from_slice(part);
-        found(&case).is_err()
-    });
-    case.record.window = window;
+    case.record = record;
     let what = found(&case).err().unwrap_or(what);
-    let laid = |(place, value): (usize, &f32)| format!("{place}: {}", pattern(*value));
-    let ring: Vec<String> = (case.record.floats[..VALUES].iter().enumerate())
-        .filter(|(_, value)| value.to_bits() != 0)
-        .map(laid)
-        .collect();
     Difference {
         what: format!("receiver, a made-up record, {what}"),
         input: format!(
-            "{:?}; room {}; numbers {:?}; diff, gain, shift {}; window {:?}; ring, where it is not 0.0: {}",
+            "{:?}; room {}; {}",
             case.step,
             case.room.len(),
-            &case.record.numbers[..=RECEIVER_RATE],
-            row(&case.record.floats[DIFF..]),
-            case.record.window,
-            ring.join(", ")
+            told(&case.record)
         ),
     }
 }

@@ -1,4 +1,4 @@
-//! Numbers, floats and samples as bytes, low byte first, one behind the other, as the port's library `wire`
+//! Numbers, floats and samples as bytes, low byte first, one after the other, as the port's library `wire`
 //! reads and lays them.
 
 macro_rules! laid {

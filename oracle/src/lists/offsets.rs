@@ -1,6 +1,6 @@
 //! Request d: one recording at several offsets, and what is received of it. README.md gives the lines' forms.
 
-use crate::lists::programs::Session;
+use crate::lists::programs::{Session, ALL, READ};
 
 const TEXT: &str = include_str!("../../../sample/frames.txt");
 
@@ -10,7 +10,7 @@ pub fn write() -> String {
     for offset in [0, 500, 5_000, 15_000] {
         list.send(&format!("offset-{offset}"), TEXT);
         list.offset(offset);
-        let found = list.receive(512, 24_832);
+        let found = list.receive(READ, ALL);
         let kept = TEXT
             .split_inclusive('\n')
             .filter(|&line| found.iter().any(|one| one == line));

@@ -4,8 +4,10 @@
 use crate::house::{bytes, received, sent};
 use crate::random::Random;
 
-/// Room for a line of each sample that a call looks at, as the program has it; and for one line.
-const ALL: usize = 24_832;
+/// As the program has them: the bytes of a read, the most that a call looks at, and room for a line of each of
+/// their samples. And room for one line.
+pub const READ: usize = 16_384;
+pub const ALL: usize = 794_624;
 const ONE: usize = 97;
 
 pub fn write() -> String {
@@ -18,27 +20,29 @@ pub fn write() -> String {
     list.lines
 }
 
-/// The client's whole case, in reads of several sizes, also larger than a call takes and with room for one
-/// line, with an odd byte, and no lines at all.
+/// The client's whole case, in reads of several sizes, also with room for one line, with an odd byte, and no
+/// lines at all.
 fn whole(list: &mut Session) {
     list.send("whole", &headed("55F7", '0'));
-    for size in [512, 511, 1] {
+    for size in [READ, 512, 511, 1] {
         list.receive(size, ALL);
     }
     list.receive(4000, ONE);
     list.append(&[0x5a]);
-    list.receive(512, ALL);
+    list.receive(READ, ALL);
     list.receive(513, ONE);
     list.send("none", "");
-    list.receive(512, ALL);
+    list.receive(READ, ALL);
 }
 
-/// A frame of each kind.
+/// A frame of each kind: more than one read of the program, also with reads a byte shorter and a byte longer.
 fn several(list: &mut Session) {
     let mut random = Random::new(31);
     let frames = ["55F7", "FF5D", "DF55", "75FF"].map(|word| payload(&mut random, word));
     list.send("several", &frames.concat());
-    list.receive(512, ALL);
+    for size in [READ, READ - 1, READ + 1] {
+        list.receive(size, ALL);
+    }
     list.receive(4000, 2 * ONE - 1);
 }
 
@@ -51,17 +55,17 @@ fn not_lossless(list: &mut Session) {
     ] {
         let first = format!("55F7{}{tail}\n", "0".repeat(90));
         list.send(name, &(first + &headed(word, '0')));
-        list.receive(512, ALL);
+        list.receive(READ, ALL);
     }
 }
 
 fn silence(list: &mut Session) {
     list.zeros(5000);
-    list.receive(512, ALL);
+    list.receive(READ, ALL);
     list.zeros(0);
-    list.receive(512, ALL);
+    list.receive(READ, ALL);
     list.append(&[1]);
-    list.receive(512, ALL);
+    list.receive(READ, ALL);
 }
 
 /// Each kind of bad line as the first, the second and the third of three; a line without its line feed can

@@ -37,7 +37,7 @@ fn candidate(held: Held) -> DecodeCandidate {
     }
 }
 
-/// The samples of the frame at hand, with what earlier ones left behind its length.
+/// The samples of the frame at hand, with what earlier ones left past its length.
 pub fn store(sender: &SoftModulator) -> &[i16; STORE] {
     &sender.next_transmission
 }

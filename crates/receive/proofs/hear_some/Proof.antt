@@ -6,17 +6,14 @@ use Rattle.receiving.proofs.HearPromise.{written-fits}
 use Rattle.receive.proofs.hear_some.Statement.{statement}
 use Rattle.receive.proofs.hear_some.Tie as tie
 
-slice-aggregate-hear : tie.Need-slice-aggregate-hear
-slice-aggregate-hear c = search needs
-
 hear-requires : tie.Need-hear-requires
 hear-requires c κs = search needs
 
-array-share-prefix-lines : tie.Need-array-share-prefix-lines
-array-share-prefix-lines c = written-fits _ _ _ _ _ (c .before .before .hear .ensures)
+slice-reshare-prefix-write-all : tie.Need-slice-reshare-prefix-write-all
+slice-reshare-prefix-write-all c = written-fits _ _ _ _ _ (c .before .before .before .hear .ensures)
 
 slice-aggregate-write-all : tie.Need-slice-aggregate-write-all
-slice-aggregate-write-all c = sym (length-take-le _ _ (written-fits _ _ _ _ _ (c .before .before .before .hear .ensures)))
+slice-aggregate-write-all c = sym (length-take-le _ _ (written-fits _ _ _ _ _ (c .before .before .before .before .hear .ensures)))
 
 write-all-requires : tie.Need-write-all-requires
 write-all-requires c κs = search needs
@@ -24,14 +21,23 @@ write-all-requires c κs = search needs
 say-requires : tie.Need-say-requires
 say-requires c κs = search needs
 
+same-length : tie.Need-same-length
+same-length c = search needs
+
 returns : tie.Need-returns
 returns c = search needs
 
 say-requires-2 : tie.Need-say-requires-2
 say-requires-2 c κs = search needs
 
+same-length-2 : tie.Need-same-length-2
+same-length-2 c = search needs
+
 returns-2 : tie.Need-returns-2
 returns-2 c = search needs
+
+same-length-3 : tie.Need-same-length-3
+same-length-3 c = search needs
 
 returns-3 : tie.Need-returns-3
 returns-3 c = search needs
@@ -40,13 +46,15 @@ pub hear-some-spec : {M : Type 1} → statement M
 hear-some-spec =
     tie.close
     (tie.spec
-    slice-aggregate-hear
     hear-requires
-    array-share-prefix-lines
+    slice-reshare-prefix-write-all
     slice-aggregate-write-all
     write-all-requires
     say-requires
+    same-length
     returns
     say-requires-2
+    same-length-2
     returns-2
+    same-length-3
     returns-3)

@@ -9,7 +9,7 @@ use Rattle.shaping.specs.Rate.{rateAt, tapCount}
 use Rattle.pulse.specs.Pulse.{pulses, listed, lineAt, Sent}
 use Rattle.pulse.proofs.Pulses.{alone}
 use Rattle.pulse.proofs.Stream.{sent-none, sent-more, sent-cursor}
-use Rattle.pulse.proofs.Tail.{tail-lent, tail-back}
+use Rattle.numbers.proofs.Tail.{tail-lent, tail-back}
 use Rattle.pulse.proofs.full.push_each.Statement.{statement}
 use Rattle.pulse.proofs.full.push_each.Tie as tie
 

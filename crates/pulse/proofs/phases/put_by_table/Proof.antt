@@ -9,7 +9,7 @@ use Rattle.numbers.specs.Firsts.{firsts, written}
 use Rattle.numbers.proofs.Firsts.{firsts-at, written-more}
 use Rattle.shaping.specs.Rate.{rateAt}
 use Rattle.pulse.specs.Phases.{phaseSum, phaseCut}
-use Rattle.pulse.proofs.Tail.{tail-lent, tail-back}
+use Rattle.numbers.proofs.Tail.{tail-lent, tail-back}
 use Rattle.pulse.proofs.phases.put_by_table.Statement.{statement}
 use Rattle.pulse.proofs.phases.put_by_table.Tie as tie
 

@@ -10,7 +10,7 @@ use Rattle.numbers.specs.Firsts.{firsts, written}
 use Rattle.numbers.proofs.Firsts.{written-more}
 use Rattle.pulse.specs.Phases.{inTurn}
 use Rattle.pulse.proofs.Pulses.{symbol-of}
-use Rattle.pulse.proofs.Tail.{tail-lent, tail-back}
+use Rattle.numbers.proofs.Tail.{tail-lent, tail-back}
 use Rattle.pulse.proofs.samples.put_in_turn.Statement.{statement}
 use Rattle.pulse.proofs.samples.put_in_turn.Tie as tie
 

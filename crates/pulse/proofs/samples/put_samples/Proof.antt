@@ -16,7 +16,7 @@ use Rattle.shaping.proofs.RateFacts.{facts}
 use Rattle.pulse.specs.Pulse.{pulses, listed, sampleAt, lineAt}
 use Rattle.pulse.specs.Phases.{rowSample}
 use Rattle.pulse.proofs.Pulses.{symbol-inside}
-use Rattle.pulse.proofs.Tail.{tail-lent, tail-back}
+use Rattle.numbers.proofs.Tail.{tail-lent, tail-back}
 use Rattle.pulse.proofs.PhaseSums.{row-sample}
 use Rattle.pulse.proofs.samples.put_samples.Statement.{statement}
 use Rattle.pulse.proofs.samples.put_samples.Tie as tie

@@ -1,98 +1,103 @@
--- `pairs::pair_up` meets its contract: the samples so far, and those of the waiting byte with the bytes that are left, are all.
--- Assumes nothing.
-use mathlib.Core.Path.{_≡_, ap, subst, _∙_}
-use mathlib.Core.Logic.{inl, inr}
-use Prim.Native.Nat.{_≤_, _<_, _-_}
-use native.Mathlib.Omega.{arith}
+-- `pairs::pair_up` meets its contract. Assumes nothing.
+use mathlib.Core.Path.{_∙_}
 use borrow.Author.Needs.{needs, sfits-of}
 use mir.Syntax.{w16}
 use mir.Facts.{toZ-ofZ}
-use lib.ListN.{length, set}
-use Rattle.receiving.specs.declared.Odd.{Odd}
-use Rattle.receiving.proofs.BytePairs.{PairsSoFar, pairs-start, pairs-wait, pairs-room, pairs-more, renamed, pairs-end}
+use Rattle.receiving.specs.declared.Odd.the-variants.{Held}
+use Rattle.receiving.proofs.BytePairs.{nothing-more, room-left, tail-fits, pairs-held}
 use Rattle.receiving.proofs.pairs.pair_up.Statement.{statement}
 use Rattle.receiving.proofs.pairs.pair_up.Tie as tie
 
-abbrev Inv-loop : tie.InvT-loop
-Inv-loop bytes samples₀ count₀ held₀ i₀ samples count held i = (i ≤ length bytes) × (length bytes ≤ 512) × PairsSoFar held₀ bytes samples count held i
-
-abbrev μ-loop : tie.MeasureT-loop
-μ-loop bytes samples₀ count₀ held₀ i₀ samples count held i = length bytes - i
-
-loop-holds : tie.Need-loop-holds Inv-loop μ-loop
-loop-holds c = (omega arith, search needs, pairs-start _ _)
-
-shared-slice-read-byte : tie.Need-shared-slice-read-byte Inv-loop μ-loop
-shared-slice-read-byte c = search needs
-
-enum-told : tie.Need-enum-told Inv-loop μ-loop
+enum-told : tie.Need-enum-told
 enum-told c = search needs
 
-enum-known-held : tie.Need-enum-known-held Inv-loop μ-loop
-enum-known-held c = search needs
+pair-whole-requires : tie.Need-pair-whole-requires
+pair-whole-requires c κs = search needs
 
-i16-of-bytes-requires : tie.Need-i16-of-bytes-requires Inv-loop μ-loop
+enum-known-odd : tie.Need-enum-known-odd
+enum-known-odd c = search needs
+
+returns : tie.Need-returns
+returns c =
+    let k = c .before .before in
+    let a = k .before .before .before .args in
+    rw (k .odd .given .1) (nothing-more (Held _) (a .bytes .now) (a .samples .now) (search needs))
+
+shared-slice-read-i16-of-bytes : tie.Need-shared-slice-read-i16-of-bytes
+shared-slice-read-i16-of-bytes c = search needs
+
+i16-of-bytes-requires : tie.Need-i16-of-bytes-requires
 i16-of-bytes-requires c κs = search needs
 
--- what is held is known in each branch
-held-now : (l : tie.At-loop Inv-loop μ-loop) (held : Odd) → l .loop .held ≡ held → PairsSoFar (l .before .before .args .odd) (l .before .before .args .bytes .now) (l .loop .samples) (l .loop .count) held (l .loop .i)
-held-now l held e = subst (λ (h : Odd). PairsSoFar (l .before .before .args .odd) (l .before .before .args .bytes .now) (l .loop .samples) (l .loop .count) h (l .loop .i)) e (l .loop .inv .2)
+slice-set-from-sample : tie.Need-slice-set-from-sample
+slice-set-from-sample c = search needs
 
--- there is room for the sample
-room-left : (c : tie.After-i16-of-bytes Inv-loop μ-loop) → c .before .before .before .before .before .before .loop .count < 256
-room-left c =
-    let k = c .before .before in
-    let l = k .before .before .before .before in
-    let more : l .loop .i < length (l .before .before .args .bytes .now) = search needs in
-    pairs-room _ _ _ _ _ more _ (held-now l _ (k .held .given .1)) (l .loop .inv .1)
+sub-pair-whole : tie.Need-sub-pair-whole
+sub-pair-whole c = search needs
 
-mul-samples : tie.Need-mul-samples Inv-loop μ-loop
-mul-samples c = let below = room-left c in search needs
+part-pair-whole-start : tie.Need-part-pair-whole-start
+part-pair-whole-start c = search needs
 
-array-set-from-samples : tie.Need-array-set-from-samples Inv-loop μ-loop
-array-set-from-samples c = room-left c
+part-pair-whole-end : tie.Need-part-pair-whole-end
+part-pair-whole-end c = search needs
 
-add-count : tie.Need-add-count Inv-loop μ-loop
-add-count c = let below = room-left c in search needs
+sub-pair-whole-2 : tie.Need-sub-pair-whole-2
+sub-pair-whole-2 c =
+    let a = c .before .before .before .before .before .before .before .before .args in
+    room-left (a .bytes .now) (a .samples .now) _ (search needs) (search needs)
 
-add-i : tie.Need-add-i Inv-loop μ-loop
-add-i c = search needs
+part-pair-whole-start-2 : tie.Need-part-pair-whole-start-2
+part-pair-whole-start-2 c = sub-pair-whole-2 c
 
-loop-less : tie.Need-loop-less Inv-loop μ-loop
-loop-less c = omega arith
+part-pair-whole-end-2 : tie.Need-part-pair-whole-end-2
+part-pair-whole-end-2 c = search needs
 
-loop-again : tie.Need-loop-again Inv-loop μ-loop
-loop-again c =
-    let l = c .before .before .before in
-    let more : l .loop .i < length (l .before .before .args .bytes .now) = search needs in (
-      omega arith,
-      l .loop .inv .1,
-      elim (c .match .came) [
-        | inl p ↦ renamed _ _ _ _ _ _ (pairs-wait _ _ _ _ _ more (held-now l _ (p .1 .given .1))) _ _ _ (p .2) (p .3) (p .4)
-        | inr q ↦ renamed _ _ _ _ _ _ (pairs-more _ _ _ _ _ more _ (held-now l _ (q .1 .given .1)) (l .loop .inv .1)) _ _ _ (q .4 ∙ ap (set (l .loop .samples) (l .loop .count)) (toZ-ofZ {w = w16} {z = q .3 .result} (sfits-of (q .3 .ok)) ∙ q .3 .ensures)) (q .5) (q .6)
-      ],
-    )
+pair-whole-requires-2 : tie.Need-pair-whole-requires-2
+pair-whole-requires-2 c κs =
+    let a = c .before .before .before .before .before .before .before .before .before .args in
+    tail-fits (a .bytes .now) (a .samples .now) _ (search needs) (search needs)
 
-returns : tie.Need-returns Inv-loop μ-loop
-returns c =
-    let l = c .before in
-    pairs-end _ _ _ _ _ _ (l .loop .inv .2) (l .loop .inv .1) (l .loop .inv .0) (omega arith)
+-- the sample of the byte that waited, and the others after it
+returns-3 : tie.Need-returns-3
+returns-3 c =
+    let w = c .before .before in
+    let g = w .before .before .before in
+    let k = g .before .before .before .before in
+    let made = toZ-ofZ {w = w16} {z = g .i16-of-bytes .result} (sfits-of (g .i16-of-bytes .ok)) ∙ g .i16-of-bytes .ensures in
+    rw (k .odd .given .1) (pairs-held _ _ _ _ _ _ made (search needs) (search needs) (w .pair-whole2 .ensures))
+
+add-count : tie.Need-add-count
+add-count c = let fits = returns-3 c .count in search needs
+
+same-length : tie.Need-same-length
+same-length c = search needs
+
+returns-2 : tie.Need-returns-2
+returns-2 c = rw (c .before .before .before .enum-told .given .1) (c .before .pair-whole .ensures)
+
+same-length-2 : tie.Need-same-length-2
+same-length-2 c = returns-3 c .same-room
 
 pub pair-up-spec : {M : Type 1} → statement M
 pair-up-spec =
     tie.close
     (tie.spec
-    Inv-loop
-    μ-loop
-    loop-holds
-    shared-slice-read-byte
     enum-told
-    enum-known-held
+    pair-whole-requires
+    enum-known-odd
+    returns
+    shared-slice-read-i16-of-bytes
     i16-of-bytes-requires
-    mul-samples
-    array-set-from-samples
+    slice-set-from-sample
+    sub-pair-whole
+    part-pair-whole-start
+    part-pair-whole-end
+    sub-pair-whole-2
+    part-pair-whole-start-2
+    part-pair-whole-end-2
+    pair-whole-requires-2
     add-count
-    add-i
-    loop-less
-    loop-again
-    returns)
+    same-length
+    returns-2
+    same-length-2
+    returns-3)

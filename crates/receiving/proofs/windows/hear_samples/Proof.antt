@@ -7,6 +7,7 @@ use borrow.Author.Tests.{leb-true, leb-false, not-true, not-false}
 use borrow.Author.Needs.{needs}
 use lib.IntN.{ℤ}
 use lib.ListN.{length, take, drop, length-drop}
+use Rattle.receiving.specs.Hear.{mostSamples}
 use Rattle.receiving.specs.Parts.{HearsStretch, Roomy}
 use Rattle.receiving.proofs.Lines.{tail-is}
 use Rattle.receiving.proofs.Settlement.{hears-nothing}
@@ -93,7 +94,7 @@ give-receipt-requires : tie.Need-give-receipt-requires Inv-loop μ-loop
 give-receipt-requires c κs = search needs
 
 -- where the work is after the stretch
-stands : (h : tie.After-hear-stretch Inv-loop μ-loop) → let l = loop-of h .loop in let r = h .hear-stretch .result in (l .written + r .written ≤ 97 * (l .fed + r .fed)) × (l .fed + r .fed ≤ length (samples-of (loop-of h))) × (length (samples-of (loop-of h)) ≤ 256)
+stands : (h : tie.After-hear-stretch Inv-loop μ-loop) → let l = loop-of h .loop in let r = h .hear-stretch .result in (l .written + r .written ≤ 97 * (l .fed + r .fed)) × (l .fed + r .fed ≤ length (samples-of (loop-of h))) × (length (samples-of (loop-of h)) ≤ mostSamples)
 stands h =
     let l = loop-of h .loop in
     let t = turn-of (then-of h) in
@@ -101,14 +102,10 @@ stands h =
     (s .few, s .at-most, l .inv .1 .few)
 
 add-written : tie.Need-add-written Inv-loop μ-loop
-add-written c =
-    let s = stands (c .before .before .before .before .before) in
-    search needs
+add-written c = let s = stands (c .before .before .before .before .before) in search needs
 
 add-fed : tie.Need-add-fed Inv-loop μ-loop
-add-fed c =
-    let s = stands (c .before .before .before .before .before .before) in
-    search needs
+add-fed c = let s = stands (c .before .before .before .before .before .before) in search needs
 
 is-offered-requires : tie.Need-is-offered-requires Inv-loop μ-loop
 is-offered-requires c κs = search needs
