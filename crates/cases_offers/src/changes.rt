@@ -141,14 +141,39 @@ pub(crate) fn put_event(before: u64, event: &[u8]) {
     io::write_all(1, event);
 }
 
+pub(crate) fn put_end(timer: u64) {
+    if timer == NO_TIMER {
+        io::write_all(1, b" none");
+    } else {
+        cases_text::put_count(timer);
+    }
+}
+
+pub(crate) fn put_held(held: Held) {
+    put_kind(held.kind);
+    if held.kind != NO_KIND {
+        cases_text::put_count(held.age);
+        cases_text::put_float(held.diff);
+        cases_text::put_float(held.gain);
+        cases_text::put_float(held.shift);
+        cases_text::put_count(held.taken_at);
+    }
+}
+
+pub(crate) fn put_waited(wait: Waited) {
+    if wait.left == 0 {
+        io::write_all(1, b" none");
+    } else {
+        cases_text::put_count(wait.left);
+        cases_text::put_count(wait.age);
+        cases_text::put_count(wait.mark);
+    }
+}
+
 fn put_timer(before: Seen, now: Seen) {
     if now.timer != before.timer {
         put_event(before.count, b"timer");
-        if now.timer == NO_TIMER {
-            io::write_all(1, b" none");
-        } else {
-            cases_text::put_count(now.timer);
-        }
+        put_end(now.timer);
         cases_text::end_line();
     }
 }
@@ -167,19 +192,13 @@ fn put_candidate(count: u64, before: Held, now: Held) {
     if is_older(now, before, 0) {
         return;
     }
-    let aged = is_older(now, before, 1);
-    if aged {
+    if is_older(now, before, 1) {
         put_event(count, b"age");
+        put_kind(now.kind);
+        cases_text::put_count(now.age);
     } else {
         put_event(count, b"take");
-    }
-    put_kind(now.kind);
-    cases_text::put_count(now.age);
-    if !aged {
-        cases_text::put_float(now.diff);
-        cases_text::put_float(now.gain);
-        cases_text::put_float(now.shift);
-        cases_text::put_count(now.taken_at);
+        put_held(now);
     }
     cases_text::end_line();
 }
@@ -191,9 +210,7 @@ fn put_wait(before: Seen, now: Seen) {
     let run_down = if 1 < was.left { was.left - 1 } else { 0 };
     if is.left != run_down {
         put_event(before.count, b"wait");
-        cases_text::put_count(is.left);
-        cases_text::put_count(is.age);
-        cases_text::put_count(is.mark);
+        put_waited(is);
         cases_text::end_line();
     }
 }

@@ -1,9 +1,11 @@
-// Replays the list `offers` of both rates: reads its streams of samples with their scripts of replies, feeds them to the receiver, and writes each line again with the changes that it led to.
+// Replays the lists `offers` and `stretches` of both rates: reads their streams of samples with their scripts of replies, feeds them to the receiver, and writes each line again with what it led to.
 mod changes;
 mod stream;
+mod stretch;
 
 use stream::Session;
 ghost use mathlib.Core.Path.{_≡_};
+ghost use Prim.Native.Nat.{_<_};
 ghost use lib.ListN.{length};
 
 // The sample that a pattern of 16 bits is, in two's complement.
@@ -50,10 +52,48 @@ fn script(letters: &[u8]) -> [u8; 16] {
     script
 }
 
-// A stream's line has its name, its rate and the replies.
+// Sample i of the digits, and 0 past their end.
+fn sample(digits: &[u8], i: usize) -> i16
+    requires { ⌜ i < 610 ⌝ }
+{
+    let first = 4 * i;
+    let end = first + 4;
+    if end <= digits.len() {
+        of_pattern(cases_text::hexadecimal(&digits[first..end]))
+    } else {
+        0
+    }
+}
+
+fn samples_of(digits: &[u8]) -> [i16; 610] {
+    let mut samples = [0i16; 610];
+    let mut i: usize = 0;
+    while i < 610 {
+        samples[i] = sample(digits, i);
+        i += 1;
+    }
+    samples
+}
+
+// All samples of a line in one stretch.
+fn feed_stretch(session: Session, digits: &[u8]) -> Session {
+    let samples = samples_of(digits);
+    stretch::feed_all(session, stretch::front(&samples, digits.len() / 4))
+}
+
+// A stream's line has its name, its rate and the replies; one in stretches has the count before them.
 fn begun(line: &[u8]) -> Session {
     let rate = cases_text::decimal(cases_text::word(line, 2)) % 100_000;
     stream::fresh(rate as u32, script(cases_text::word(line, 3)))
+}
+
+fn begun_at(line: &[u8]) -> Session {
+    let rate = cases_text::decimal(cases_text::word(line, 2)) % 100_000;
+    let count = cases_text::decimal(cases_text::word(line, 3));
+    stretch::at_count(
+        stream::fresh(rate as u32, script(cases_text::word(line, 4))),
+        count,
+    )
 }
 
 fn put_end(session: Session) {
@@ -77,6 +117,10 @@ fn answer_line(session: Session, line: &[u8]) -> Session {
         feed_samples(session, cases_text::word(line, 1))
     } else if check::same(name, b"zeros") {
         feed_zeros(session, cases_text::decimal(cases_text::word(line, 1)))
+    } else if check::same(name, b"feed") {
+        feed_stretch(session, cases_text::word(line, 1))
+    } else if check::same(name, b"stretches") {
+        begun_at(line)
     } else {
         begun(line)
     }

@@ -47,7 +47,7 @@ fn put_symbols(room: [f32; 192]) {
     }
 }
 
-fn put_offer(before: u64, offer: Offer, room: [f32; 192]) {
+pub(crate) fn put_offer(before: u64, offer: Offer, room: [f32; 192]) {
     let kind = offer.kind;
     changes::put_event(before, b"offer");
     changes::put_kind(changes::kind_number(kind));
@@ -59,7 +59,7 @@ fn put_offer(before: u64, offer: Offer, room: [f32; 192]) {
 }
 
 // Past the script's end every offer is rejected.
-fn is_accepted(session: Session) -> bool {
+pub(crate) fn is_accepted(session: Session) -> bool {
     let at = session.replies;
     if at < 16 {
         let letter = session.script[at as usize];
@@ -69,13 +69,13 @@ fn is_accepted(session: Session) -> bool {
     }
 }
 
-fn put_refusal(number: u32) {
+pub(crate) fn put_refusal(number: u32) {
     io::write_all(1, b"refused");
     cases_text::put_count(number as u64);
     cases_text::end_line();
 }
 
-fn settled(receiver: SoftDemodulator, accepted: bool) -> SoftDemodulator {
+pub(crate) fn settled(receiver: SoftDemodulator, accepted: bool) -> SoftDemodulator {
     let reply = if accepted {
         Reply::Accepted
     } else {
@@ -89,15 +89,19 @@ fn settled(receiver: SoftDemodulator, accepted: bool) -> SoftDemodulator {
     left.demodulator
 }
 
-fn offered(session: Session, receiver: SoftDemodulator, offer: Offer, room: [f32; 192]) -> Session {
-    let before = session.seen;
-    let accepted = is_accepted(session);
-    put_offer(before.count, offer, room);
+pub(crate) fn put_reply(accepted: bool) {
     if accepted {
         io::write_all(1, b" accept\n");
     } else {
         io::write_all(1, b" reject\n");
     }
+}
+
+fn offered(session: Session, receiver: SoftDemodulator, offer: Offer, room: [f32; 192]) -> Session {
+    let before = session.seen;
+    let accepted = is_accepted(session);
+    put_offer(before.count, offer, room);
+    put_reply(accepted);
     let mut next = finished(session, settled(receiver, accepted));
     next.replies = wrapping_add_u64(next.replies, 1);
     next

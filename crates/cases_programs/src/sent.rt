@@ -83,7 +83,7 @@ fn adler(recording: &[u8]) -> u64 {
 }
 
 fn put_words(part: AfterPart) {
-    let text = part.last_words();
+    let text = part.last_words(true, true);
     if text.length > 0 {
         io::write_all(1, b" ");
         let bytes = text.bytes;

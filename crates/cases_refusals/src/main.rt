@@ -3,6 +3,7 @@
 use bit_errors::BitErrors;
 use decode::Correlated;
 use decode::Correlation;
+use house::Program;
 use house::Trouble;
 use protocol::Kind;
 use protocol::Refusal;
@@ -149,17 +150,20 @@ fn put_zeros() {
     put_zero(b"min of -0 and 0:", numbers::min(-0.0, 0.0));
 }
 
-fn put_text(name: &[u8], trouble: Trouble) {
+fn put_text(name: &[u8], program: Program, trouble: Trouble) {
     io::write_all(1, name);
-    let text = house::trouble_text(trouble);
+    let text = house::trouble_text(program, trouble);
     let bytes = text.bytes;
     cases_text::put_front(&bytes, text.length);
 }
 
 fn put_troubles() {
-    put_text(b"a read fails: ", Trouble::Reading);
-    put_text(b"a write fails: ", Trouble::Writing);
-    put_text(b"a sample or a frame is refused: ", Trouble::Refused);
+    put_text(b"a read fails: ", Program::Receive, Trouble::Reading);
+    put_text(b"a write fails: ", Program::Receive, Trouble::Writing);
+    put_text(b"a sample is refused: ", Program::Receive, Trouble::Refused);
+    put_text(b"a read fails: ", Program::Send, Trouble::Reading);
+    put_text(b"a write fails: ", Program::Send, Trouble::Writing);
+    put_text(b"a frame is refused: ", Program::Send, Trouble::Refused);
 }
 
 fn main() {

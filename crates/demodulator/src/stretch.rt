@@ -6,8 +6,9 @@ use search::Control;
 use search::Wait;
 ghost use mathlib.Core.Path.{_≡_};
 ghost use mathlib.Core.Bool.{true};
-ghost use Prim.Native.Nat.{_≤_};
+ghost use Prim.Native.Nat.{_≤_, min};
 ghost use lib.ListN.{length};
+ghost use Rattle.quiet.specs.Walk.{beforeDue};
 ghost use Rattle.demodulator.specs.Fit.{halvesAgree};
 ghost use Rattle.demodulator.specs.Stretch.{Inside, StoresKnown, HasValues, StoresAll, Lent, StretchesFirst, Stretches};
 
@@ -76,14 +77,14 @@ fn store_all(
 }
 
 fn fewer(a: usize, b: usize) -> usize
-    ensures { λ r. ⌜ (r ≤ a) × (r ≤ b) ⌝ }
+    ensures { λ r. ⌜ r ≡ min a b ⌝ }
 {
     if a < b { a } else { b }
 }
 
 // How many of the samples to try: those before the one at which an awaited frame is due, but a stretch's most.
 fn count_quiet(left: usize, wait: Wait) -> usize
-    ensures { λ r. ⌜ (r ≤ left) × (r ≤ 624) ⌝ }
+    ensures { λ r. ⌜ r ≡ beforeDue wait (min left 624) ⌝ }
 {
     let most = fewer(left, MOST);
     match wait {

@@ -50,7 +50,7 @@ module _ (S : Sketch) where
   -- ---- the samples
   zeros-at : (k : ℕ) → 72 ≤ k → k < 1972 → getD twice k (pos 0) ≡ pos 0
   zeros-at k a b =
-      let two : length (S .front ++ (S .x ∷ S .y ∷ [])) ≡ 72 = length-append (S .front) (S .x ∷ S .y ∷ []) ∙ (let s = S .facts .seventy in omega arith) in
+      let two : length (S .front ++ (S .x ∷ S .y ∷ [])) ≡ 72 = length-append (S .front) (S .x ∷ S .y ∷ []) ∙ (let s = S .facts .long in omega arith) in
       List·getD-append (samples S) (samples S) (pos 0) k (let n = number S in omega arith)
       ∙ ap (λ (l : List ℤ). getD l k (pos 0)) (sym (append-assoc (S .front) (S .x ∷ S .y ∷ []) (pause 1900)))
       ∙ getD-append-right (S .front ++ (S .x ∷ S .y ∷ [])) (pause 1900) k (omega arith)

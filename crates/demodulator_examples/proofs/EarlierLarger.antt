@@ -44,12 +44,12 @@ pub tabled : firsts (filtered taps 10 (front ++ (negsuc 69 ∷ pos 207 ∷ pos 0
 unfolding front table firsts filtered sampleNo dot sumTo taps ofBits ofInt add mul
 tabled = refl
 
-passes : T (tested front (negsuc 69) (pos 207) table Stream (sameKind Lsf))
+passes : T (tested 10 70 front (negsuc 69) (pos 207) table Stream (sameKind Lsf))
 unfolding tested front allSixteen allBelow matched table ofBits matches correlation diffOf summed sumTo distanceOf symbolOf shiftOf gainOf highest lowest zeroUnsigned larger smaller sizeOf add sub mul div lt eq neg ofInt signsOf anyBelow
 passes = tt
 
-pub facts : Fits front (negsuc 69) (pos 207) table Stream (sameKind Lsf)
-facts = fits front (negsuc 69) (pos 207) table Stream (sameKind Lsf) passes
+pub facts : Fits 10 70 front (negsuc 69) (pos 207) table Stream (sameKind Lsf)
+facts = fits 10 70 front (negsuc 69) (pos 207) table Stream (sameKind Lsf) passes
 
 pub over : T (silent 10 table 73)
 unfolding matched table ofBits matches correlation diffOf summed sumTo distanceOf symbolOf shiftOf gainOf highest lowest zeroUnsigned larger smaller sizeOf add sub mul div lt eq neg ofInt signsOf anyBelow

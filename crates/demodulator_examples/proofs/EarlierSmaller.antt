@@ -49,12 +49,12 @@ pub tabled : firsts (filtered taps 10 (front ++ (x ∷ y ∷ []))) 73 ≡ table
 unfolding front table firsts filtered sampleNo dot sumTo taps ofBits ofInt add mul
 tabled = refl
 
-passes : T (tested front x y table Packet (sameKind Stream))
+passes : T (tested 10 70 front x y table Packet (sameKind Stream))
 unfolding tested front allSixteen allBelow matched table ofBits matches correlation diffOf summed sumTo distanceOf symbolOf shiftOf gainOf highest lowest zeroUnsigned larger smaller sizeOf add sub mul div lt eq neg ofInt signsOf anyBelow
 passes = tt
 
-pub facts : Fits front x y table Packet (sameKind Stream)
-facts = fits front x y table Packet (sameKind Stream) passes
+pub facts : Fits 10 70 front x y table Packet (sameKind Stream)
+facts = fits 10 70 front x y table Packet (sameKind Stream) passes
 
 -- the second diff is not above the first
 pub diffs : lt (correlation (Frame Packet) (listed 10 table 71) .diff) (correlation (Frame Stream) (listed 10 table 72) .diff) ≡ false

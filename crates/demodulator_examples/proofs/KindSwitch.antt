@@ -43,7 +43,7 @@ use Rattle.demodulator_examples.proofs.Fed.{fed, fed-split, fed-sampled
 use Rattle.demodulator_examples.proofs.Steps.{standing, Hits, none, hears}
 use Rattle.demodulator_examples.proofs.Table.{sixteen-test, listed, hits-listed, at-listed, silent-listed}
 use Rattle.demodulator_examples.proofs.Take.{is-admitted, marked-after}
-use Rattle.demodulator_examples.proofs.Burst.{part71, length71, after-71}
+use Rattle.demodulator_examples.proofs.Burst.{part-first, length-first, after-first}
 use Rattle.demodulator_examples.proofs.EarlierSmaller.{front, x, y, table, tabled, facts, diffs}
 
 abbrev pub samples : List ℤ
@@ -62,7 +62,7 @@ pub sampled : Each Callable calls
 sampled = fed-sampled samples sixteen
 
 number : length samples ≡ 72
-number = length-append front (x ∷ y ∷ []) ∙ (let s = facts .seventy in omega arith)
+number = length-append front (x ∷ y ∷ []) ∙ (let s = facts .long in omega arith)
 
 few : length samples ≤ 2 ^ 63
 few = let n = number in omega arith
@@ -94,11 +94,11 @@ abbrev holding : Timer → History
 holding t = standing before (heldAs (takenAt ear Packet 71)) Free t 71
 
 held : (t : Timer) × (historyAll taps 10 (fed before) ≡ holding t)
-held = after-71 front x y [] (facts .seventy) sixteen few quiet-before Packet at-71
+held = after-first at48 facts48 70 front x y [] (facts .long) sixteen few quiet-before Packet at-71
 
 -- ---- and at 72
 part : samples ≡ before ++ (y ∷ [])
-part = part71 front x y [] (facts .seventy) sixteen few
+part = part-first at48 facts48 70 front x y [] (facts .long) sixteen few
 
 pub switched : Switched (logAll taps 10 calls) 72 Packet Stream
 switched =
@@ -121,7 +121,7 @@ search-72 t =
     )
 
 heard-72 : ear 72 ≡ eightAt at48 (before ++ (y ∷ []))
-heard-72 = hears at48 samples before y [] 71 (length71 front x y [] (facts .seventy) sixteen few) part (lit< tt)
+heard-72 = hears at48 samples before y [] 71 (length-first at48 facts48 70 front x y [] (facts .long) sixteen few) part (lit< tt)
 
 called-72 : (t : Timer) → calledMarks taps 10 (holding t) (sample y room) ≡ Anew 72 Packet Stream ∷ []
 unfolding calledMarks stepMarks sampledMarks waitedMarks

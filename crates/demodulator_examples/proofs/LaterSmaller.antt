@@ -44,12 +44,12 @@ pub tabled : firsts (filtered taps 10 (front ++ (pos 68 ∷ negsuc 197 ∷ pos 0
 unfolding front table firsts filtered sampleNo dot sumTo taps ofBits ofInt add mul
 tabled = refl
 
-passes : T (tested front (pos 68) (negsuc 197) table Lsf (sameKind Stream))
+passes : T (tested 10 70 front (pos 68) (negsuc 197) table Lsf (sameKind Stream))
 unfolding tested front allSixteen allBelow matched table ofBits matches correlation diffOf summed sumTo distanceOf symbolOf shiftOf gainOf highest lowest zeroUnsigned larger smaller sizeOf add sub mul div lt eq neg ofInt signsOf anyBelow
 passes = tt
 
-pub facts : Fits front (pos 68) (negsuc 197) table Lsf (sameKind Stream)
-facts = fits front (pos 68) (negsuc 197) table Lsf (sameKind Stream) passes
+pub facts : Fits 10 70 front (pos 68) (negsuc 197) table Lsf (sameKind Stream)
+facts = fits 10 70 front (pos 68) (negsuc 197) table Lsf (sameKind Stream) passes
 
 pub over : T (silent 10 table 73)
 unfolding matched table ofBits matches correlation diffOf summed sumTo distanceOf symbolOf shiftOf gainOf highest lowest zeroUnsigned larger smaller sizeOf add sub mul div lt eq neg ofInt signsOf anyBelow

@@ -5,11 +5,11 @@ pub mod Fed
 pub mod Steps
 -- the first sample at which a kind matches
 pub mod Take
--- a burst that ends at sample 71
-pub mod Burst
 -- what is heard, from a table
 pub mod Table
 pub mod Fits
+-- a burst, and the frame that falls due
+pub mod Burst
 -- demand 3 on 72 samples and zeros
 pub mod Sketch
 -- three lists of samples
@@ -24,6 +24,11 @@ pub mod Seen
 -- a burst at 24 kHz
 pub mod OneBurst24
 pub mod Seen24
+-- the corner, and a mark, at 24 kHz
+pub mod Sketch24
+pub mod EarlierLarger24
+pub mod LaterSmaller24
+pub mod CornerSeen24
 -- a switch of kind without a wait
 pub mod EarlierSmaller
 pub mod KindSwitch

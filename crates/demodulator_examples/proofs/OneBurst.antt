@@ -41,12 +41,12 @@ pub tabled : firsts (filtered taps 10 (front ++ (negsuc 0 ∷ pos 0 ∷ pos 0 �
 unfolding front table firsts filtered sampleNo dot sumTo taps ofBits ofInt add mul
 tabled = refl
 
-passes : T (tested front (negsuc 0) (pos 0) table Stream none)
+passes : T (tested 10 70 front (negsuc 0) (pos 0) table Stream none)
 unfolding tested front allSixteen allBelow matched table ofBits matches correlation diffOf summed sumTo distanceOf symbolOf shiftOf gainOf highest lowest zeroUnsigned larger smaller sizeOf add sub mul div lt eq neg ofInt signsOf anyBelow
 passes = tt
 
-pub facts : Fits front (negsuc 0) (pos 0) table Stream none
-facts = fits front (negsuc 0) (pos 0) table Stream none passes
+pub facts : Fits 10 70 front (negsuc 0) (pos 0) table Stream none
+facts = fits 10 70 front (negsuc 0) (pos 0) table Stream none passes
 
 pub over : T (silent 10 table 73)
 unfolding matched table ofBits matches correlation diffOf summed sumTo distanceOf symbolOf shiftOf gainOf highest lowest zeroUnsigned larger smaller sizeOf add sub mul div lt eq neg ofInt signsOf anyBelow

@@ -41,7 +41,7 @@ use Rattle.demodulator_examples.proofs.Fed.{fed, fed-append, fed-sample
 use Rattle.demodulator_examples.proofs.Steps.{standing, Hits, none, next-due, quiet-run}
 use Rattle.demodulator_examples.proofs.Table.{pause, pause-split, pause-suc, pause-length, listed, silent, hits-matched, hits-listed, silent-listed}
 use Rattle.demodulator_examples.proofs.Take.{one-more, ear-all, fed-all, marked-after}
-use Rattle.demodulator_examples.proofs.Burst.{part72, length71, before-due, falls-due}
+use Rattle.demodulator_examples.proofs.Burst.{part-second, length-first, before-due, falls-due}
 use Rattle.demodulator_examples.proofs.Sketch.{Sketch, samples, sixteen, number, part, long}
 use Rattle.demodulator_examples.proofs.Again.{twice, begun, hits-again}
 
@@ -95,9 +95,9 @@ module _ (S : Sketch) (fades : Hits (listed 10 (S .table) 72) none) where
 
   waits : (t : Timer) × (historyAll taps 10 (fed upToDue) ≡ standing upToDue (heldAs held71) (lastSample 1 false) t 1910)
   waits =
-      before-due (S .front) (S .x) (S .y) (pause 1900 ++ samples S) (S .facts .seventy) both-sixteen few none-before (S .kind) at-71 none at-72 (heldAs held71) 1 false 1839
+      before-due at48 facts48 70 (S .front) (S .x) (S .y) (pause 1900 ++ samples S) (S .facts .long) both-sixteen few none-before (S .kind) at-71 none at-72 (heldAs held71) 1 false 1839
       (λ t. (Until (72 + 384 * 10), ap (λ (s : Step). s .control) (pass-lost 10 (λ i. at hear i 72) t false 72 held71)))
-      (pause 1838) (pos 0) (pause 61 ++ samples S) goes (let n = pause-length 1838 in omega arith) (lit≤ tt)
+      (pause 1838) (pos 0) (pause 61 ++ samples S) goes (let n = pause-length 1838 in omega arith)
 
   -- ---- the frame is offered and accepted; nothing is held until the burst comes again
   abbrev offered1911 : List ℤ
@@ -111,11 +111,11 @@ module _ (S : Sketch) (fades : Hits (listed 10 (S .table) 72) none) where
   length-offered : length offered1911 ≡ 1911
   length-offered =
       length-append upToDue (pos 0 ∷ []) ∙ ap (λ (n : ℕ). n + 1) (length-append first72 (pause 1838) ∙ ap (λ (n : ℕ). n + length (pause 1838)) (length-append (S .front ++ (S .x ∷ [])) (S .y ∷ [])))
-      ∙ (let a = pause-length 1838 in let b = length71 (S .front) (S .x) (S .y) (pause 1900 ++ samples S) (S .facts .seventy) both-sixteen few in omega arith)
+      ∙ (let a = pause-length 1838 in let b = length-first at48 facts48 70 (S .front) (S .x) (S .y) (pause 1900 ++ samples S) (S .facts .long) both-sixteen few in omega arith)
 
   rest : both ≡ offered1911 ++ (pause 61 ++ samples S)
   rest =
-      part72 (S .front) (S .x) (S .y) (pause 1900 ++ samples S) (S .facts .seventy) both-sixteen few
+      part-second at48 facts48 70 (S .front) (S .x) (S .y) (pause 1900 ++ samples S) (S .facts .long) both-sixteen few
       ∙ ap (λ (l : List ℤ). first72 ++ l) goes
       ∙ sym (append-assoc first72 (pause 1838) (pos 0 ∷ (pause 61 ++ samples S)))
       ∙ sym (append-assoc upToDue (pos 0 ∷ []) (pause 61 ++ samples S))
@@ -127,7 +127,7 @@ module _ (S : Sketch) (fades : Hits (listed 10 (S .table) 72) none) where
   rest-split = rest ∙ ap (λ (l : List ℤ). offered1911 ++ l) (sym (append-assoc (pause 61) (S .front) (S .x ∷ S .y ∷ pause 1900)))
 
   length-between : length between ≡ 131
-  length-between = length-append (pause 61) (S .front) ∙ (let a = pause-length 61 in let b = S .facts .seventy in omega arith)
+  length-between = length-append (pause 61) (S .front) ∙ (let a = pause-length 61 in let b = S .facts .long in omega arith)
 
   heard-again : (n : ℕ) → 223 ≤ n → n ≤ 2045 → (hit : Kind → Bool) → Hits (listed 10 (S .table) (n - 1972)) hit → Hits (hear n) hit
   heard-again n a b hit h = subst (λ (l : List ℤ). Hits (earOf taps 10 l n) hit) (sym same) (hits-again S n a b hit h)
@@ -168,9 +168,9 @@ module _ (S : Sketch) (fades : Hits (listed 10 (S .table) 72) none) where
   pub first-frame : OfferedAt taps 10 1911 (shownAt hear (S .kind) 71 1 false) (fed both)
   first-frame =
       due-offered-48 (fed both) both-sampled 1911 (shownAt hear (S .kind) 71 1 false)
-      (falls-due (S .front) (S .x) (S .y) (pause 1900 ++ samples S) (S .facts .seventy) both-sixteen few none-before (S .kind) at-71 none at-72 (heldAs held71) 1 false 1839
+      (falls-due at48 facts48 70 (S .front) (S .x) (S .y) (pause 1900 ++ samples S) (S .facts .long) both-sixteen few none-before (S .kind) at-71 none at-72 (heldAs held71) 1 false 1839
       (λ t. (Until (72 + 384 * 10), ap (λ (s : Step). s .control) (pass-lost 10 (λ i. at hear i 72) t false 72 held71)))
-      (pause 1838) (pos 0) (pause 61 ++ samples S) goes (let n = pause-length 1838 in omega arith) (lit≤ tt) held71 refl)
+      (pause 1838) (pos 0) (pause 61 ++ samples S) goes (let n = pause-length 1838 in omega arith) held71 refl)
 
   module _ (d : ℕ) (w : Shown) (C : Cause hear 10 (logAll taps 10 (fed both)) d w) (late : 2043 ≤ C .b) (lasts : (j : ℕ) → 2043 ≤ j → j < C .s → (k : Kind) × Matches hear k j) where
     fails-2044 : C .s ≡ 2044

@@ -3,7 +3,7 @@ use mathlib.Core.Path.{_≡_, refl, sym, ap, _∙_, subst}
 use mathlib.Core.Bool.{Bool, false}
 use mathlib.Core.Logic.{inl, inr}
 use mathlib.Core.List.{List, [], _∷_, _++_, append-assoc}
-use Prim.Native.Nat.{ℕ, suc, _+_, _-_, _^_, _≤_}
+use Prim.Native.Nat.{ℕ, _+_, _^_, _≤_}
 use native.Mathlib.Nat.{le-refl}
 use native.Mathlib.Omega.{arith}
 use lib.Dec.{T, lit≤}
@@ -37,10 +37,10 @@ use Rattle.demodulator_run.proofs.Pass.{controlled, passBy}
 use Rattle.demodulator_run.proofs.Sixteen.{sixteen-append}
 use Rattle.demodulator_examples.proofs.Fed.{fed, fed-sampled}
 use Rattle.demodulator_examples.proofs.Steps.{Hits, none, waiting}
-use Rattle.demodulator_examples.proofs.Table.{pause, pause-split, pause-suc, pause-length, sixteen-test, sixteen-pause, listed, silent, hits-matched, listens, hits-listed, at-listed, silent-listed}
+use Rattle.demodulator_examples.proofs.Table.{pause, pause-length, sixteen-test, sixteen-pause, listed, silent, hits-matched, listens, hits-listed, at-listed, silent-listed}
 use Rattle.demodulator_examples.proofs.Fits.{Fits}
 use Rattle.demodulator_examples.proofs.Take.{heard-all, ear-all, fed-all, takes}
-use Rattle.demodulator_examples.proofs.Burst.{falls-due}
+use Rattle.demodulator_examples.proofs.Burst.{falls-due-in}
 
 pub record Sketch : Type 0 where
   pub front : List ℤ
@@ -50,7 +50,7 @@ pub record Sketch : Type 0 where
   pub kind : Kind
   pub hit : Kind → Bool
   pub tabled : firsts (filtered taps 10 (front ++ (x ∷ y ∷ pos 0 ∷ []))) 74 ≡ table
-  pub facts : Fits front x y table kind hit
+  pub facts : Fits 10 70 front x y table kind hit
   pub lost : hit kind ≡ false
   pub over : T (silent 10 table 73)
 
@@ -72,7 +72,7 @@ module _ (S : Sketch) where
   sampled = fed-sampled samples sixteen
 
   pub number : length samples ≡ 1972
-  number = length-append (S .front) (S .x ∷ S .y ∷ pause 1900) ∙ (let a = S .facts .seventy in let b = pause-length 1900 in omega arith)
+  number = length-append (S .front) (S .x ∷ S .y ∷ pause 1900) ∙ (let a = S .facts .long in let b = pause-length 1900 in omega arith)
 
   few : length samples ≤ 2 ^ 63
   few = let e = number in omega arith
@@ -85,7 +85,7 @@ module _ (S : Sketch) where
 
   -- ---- what is heard
   pub long : length (S .front ++ (S .x ∷ S .y ∷ pos 0 ∷ [])) ≡ 73
-  long = length-append (S .front) (S .x ∷ S .y ∷ pos 0 ∷ []) ∙ (let a = S .facts .seventy in omega arith)
+  long = length-append (S .front) (S .x ∷ S .y ∷ pos 0 ∷ []) ∙ (let a = S .facts .long in omega arith)
 
   first-zero : pause 1900 ≡ pos 0 ∷ pause 1899
   unfolding pause
@@ -117,7 +117,7 @@ module _ (S : Sketch) where
 
   -- ---- the take, and the span
   pub started : Started (logAll taps 10 calls) 71
-  started = (S .kind, takes at48 facts48 70 (S .front) (S .x) (S .y ∷ pause 1900) (S .facts .seventy) sixteen few none-before (S .kind) at-71)
+  started = (S .kind, takes at48 facts48 70 (S .front) (S .x) (S .y ∷ pause 1900) (S .facts .long) sixteen few none-before (S .kind) at-71)
 
   pub spans : (d : ℕ) × DueAt (logAll taps 10 calls) d × (71 + 1839 ≤ d) × (d ≤ 71 + 1879)
   spans = due-span-48 calls sampled 71 started (let e = fed-number in omega arith)
@@ -130,11 +130,7 @@ module _ (S : Sketch) where
       (leaves : (t : Timer) → (u : Timer) × (passBy 10 (S .hit) (λ i. at shaped i 72) (controlled (heldAs (takenAt shaped (S .kind) 71)) Free t false 72) .control ≡ controlled (heldAs now) (waiting age mark left) u false 72)) where
     pub due-mark : In (FellDue (72 + left) (shownOf now age mark)) (logAll taps 10 calls)
     due-mark =
-        let goes : pause 1900 ≡ pause (left - 1) ++ (pos 0 ∷ pause (1900 - left)) =
-        ap pause {x = 1900} {y = (left - 1) + suc (1900 - left)} (omega arith) ∙ pause-split (left - 1) (suc (1900 - left)) ∙ ap (λ (l : List ℤ). pause (left - 1) ++ l) (pause-suc (1900 - left)) in
-        let enough : length (pause (left - 1)) + 1 ≡ left = let e = pause-length (left - 1) in omega arith in
-        falls-due (S .front) (S .x) (S .y) (pause 1900) (S .facts .seventy) sixteen few none-before (S .kind) at-71 (S .hit) at-72 (heldAs now) age mark left leaves
-        (pause (left - 1)) (pos 0) (pause (1900 - left)) goes enough (omega arith) now refl
+        falls-due-in at48 facts48 70 (S .front) (S .x) (S .y) 1900 (S .facts .long) sixteen few none-before (S .kind) at-71 (S .hit) at-72 now age mark left some short leaves
 
   -- ---- where it comes from
   pub ear-same : shaped ≡ earAll taps 10 calls

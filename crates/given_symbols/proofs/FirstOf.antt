@@ -11,12 +11,9 @@ use lib.Dec.{T}
 use lib.ListN.{getD}
 use lib.Ieee.{Float, nan}
 use Rattle.numbers.proofs.Tests.{lt-or-le}
-use Rattle.protocol.specs.declared.Refusal.{Refusal}
-use Rattle.protocol.specs.Refusals.{placed, onPaper}
-use Rattle.given_symbols.specs.declared.Verdict.{Verdict}
-use Rattle.given_symbols.specs.declared.Verdict.the-variants.{Refused, Fine}
-use Rattle.given_symbols.specs.Offender.{symbolFit, judged, earlier, judgedBelow}
-use Rattle.given_symbols.proofs.SymbolFaults.{Fault, Judgement, fine, wrong, judgement, numberIn, one-number}
+use Rattle.protocol.specs.Refusals.{PaperRefusal, placed}
+use Rattle.given_symbols.specs.Offender.{PaperVerdict, refused, fine, symbolFit, judged, earlier, judgedBelow}
+use Rattle.given_symbols.proofs.SymbolFaults.{Fault, Judgement, fits, wrong, judgement, numberIn, one-number}
 
 -- ---- the first of them
 module _ (symbols : List Float) where
@@ -29,14 +26,14 @@ module _ (symbols : List Float) where
     pub outside : symbolFit (symbol place) ≡ false
     pub earlier-fit : (i : ℕ) → i < place → T (symbolFit (symbol i))
 
-  pub data FirstOf (n : ℕ) : Verdict → Type 0 where
-    none : ((i : ℕ) → i < n → T (symbolFit (symbol i))) → FirstOf n Fine
-    first : (why : Refusal) (number place : ℕ) → onPaper why ≡ placed number place → place < n → Offends number place → FirstOf n (Refused why)
+  pub data FirstOf (n : ℕ) : PaperVerdict → Type 0 where
+    none : ((i : ℕ) → i < n → T (symbolFit (symbol i))) → FirstOf n fine
+    first : (why : PaperRefusal) (number place : ℕ) → why ≡ placed number place → place < n → Offends number place → FirstOf n (refused why)
 
-  one-more : (n : ℕ) (a b : Verdict) → FirstOf n a → Judgement n (symbol n) b → FirstOf (suc n) (earlier a b)
-  one-more n Fine Fine (none all) (fine t) = none (rw (add-one n) at (below-more (λ (i : ℕ). T (symbolFit (symbol i))) n all t))
-  one-more n Fine (Refused why) (none all) (wrong _ number told fault out) = first why number n told (omega arith) (record { fault = fault; outside = out; earlier-fit = all })
-  one-more n (Refused why) b (first _ number place told l o) j = first why number place told (omega arith) o
+  one-more : (n : ℕ) (a b : PaperVerdict) → FirstOf n a → Judgement n (symbol n) b → FirstOf (suc n) (earlier a b)
+  one-more n fine fine (none all) (fits t) = none (rw (add-one n) at (below-more (λ (i : ℕ). T (symbolFit (symbol i))) n all t))
+  one-more n fine (refused why) (none all) (wrong _ number told fault out) = first why number n told (omega arith) (record { fault = fault; outside = out; earlier-fit = all })
+  one-more n (refused why) b (first _ number place told l o) j = first why number place told (omega arith) o
 
   pub first-of : (n : ℕ) → FirstOf n (judgedBelow n symbols)
   unfolding judgedBelow
@@ -44,12 +41,12 @@ module _ (symbols : List Float) where
   first-of (suc n) = one-more n (judgedBelow n symbols) (judged n (symbol n)) (first-of n) (judgement n (symbol n))
 
   -- where no symbol is wrong
-  pub fit-judged : (n : ℕ) → ((i : ℕ) → i < n → T (symbolFit (symbol i))) → judgedBelow n symbols ≡ Fine
+  pub fit-judged : (n : ℕ) → ((i : ℕ) → i < n → T (symbolFit (symbol i))) → judgedBelow n symbols ≡ fine
   fit-judged n all = by-first (judgedBelow n symbols) (first-of n)
     where
-      by-first : (a : Verdict) → FirstOf n a → a ≡ Fine
-      by-first Fine f = refl
-      by-first (Refused why) (first _ number place told l o) = absurd (subst T (o .outside) (all place l))
+      by-first : (a : PaperVerdict) → FirstOf n a → a ≡ fine
+      by-first fine f = refl
+      by-first (refused why) (first _ number place told l o) = absurd (subst T (o .outside) (all place l))
 
 -- ---- there is one
 one-place : (symbols : List Float) (n k i j : ℕ) → Offends symbols n i → Offends symbols k j → i < j → ⊥

@@ -9,12 +9,8 @@ use lib.Ieee.Fits.{and-i, and-l, and-r}
 use lib.Ieee.Scale.{finite}
 use Rattle.numbers.proofs.Tests.{holds, fails}
 use Rattle.numbers.proofs.Order.{lt→le, nlt→le, not-lt, le-trans}
-use Rattle.protocol.specs.declared.Refusal.{Refusal}
-use Rattle.protocol.specs.declared.Refusal.the-variants.{SymbolNotANumber, SymbolInfinite, SymbolAboveOne, SymbolBelowMinusOne}
-use Rattle.protocol.specs.Refusals.{placed, onPaper}
-use Rattle.given_symbols.specs.declared.Verdict.{Verdict}
-use Rattle.given_symbols.specs.declared.Verdict.the-variants.{Refused, Fine}
-use Rattle.given_symbols.specs.Offender.{symbolFit, judged}
+use Rattle.protocol.specs.Refusals.{PaperRefusal, placed}
+use Rattle.given_symbols.specs.Offender.{PaperVerdict, refused, fine, symbolFit, judged}
 use Rattle.given_symbols.proofs.Judged.{one, minusOne}
 
 -- what is wrong with a symbol, by the numbers: "not a number, infinite, above 1, below -1"; "an infinity is always 72"
@@ -25,9 +21,9 @@ pub data Fault : Float → ℕ → Type 0 where
   below : (x : Float) → T (finite x) → T (lt x minusOne) → Fault x 74
 
 -- what is made of it: nothing for a symbol from -1 to 1, and for any other its number with its place
-pub data Judgement (place : ℕ) (x : Float) : Verdict → Type 0 where
-  fine : T (symbolFit x) → Judgement place x Fine
-  wrong : (why : Refusal) (number : ℕ) → onPaper why ≡ placed number place → Fault x number → symbolFit x ≡ false → Judgement place x (Refused why)
+pub data Judgement (place : ℕ) (x : Float) : PaperVerdict → Type 0 where
+  fits : T (symbolFit x) → Judgement place x fine
+  wrong : (why : PaperRefusal) (number : ℕ) → why ≡ placed number place → Fault x number → symbolFit x ≡ false → Judgement place x (refused why)
 
 both : (b : Bool) → T b → T (not b) → ⊥
 both true s t = t
@@ -63,10 +59,10 @@ module _ (x : Float) (f : T (finite x)) where
   neither-fit a b = and-i (le minusOne x) (le x one) (nlt→le x minusOne f minus-one-finite b) (nlt→le one x one-finite f a)
 
   judgement-finite : (place : ℕ) (a b : Bool) → lt one x ≡ a → lt x minusOne ≡ b
-      → Judgement place x (cond a (Refused (SymbolAboveOne place)) (cond b (Refused (SymbolBelowMinusOne place)) Fine))
-  judgement-finite place true b p q = let t = holds p in wrong (SymbolAboveOne place) 73 refl (above x f t) (above-outside t)
-  judgement-finite place false true p q = let t = holds q in wrong (SymbolBelowMinusOne place) 74 refl (below x f t) (below-outside t)
-  judgement-finite place false false p q = fine (neither-fit (fails p) (fails q))
+      → Judgement place x (cond a (refused (placed 73 place)) (cond b (refused (placed 74 place)) fine))
+  judgement-finite place true b p q = let t = holds p in wrong (placed 73 place) 73 refl (above x f t) (above-outside t)
+  judgement-finite place false true p q = let t = holds q in wrong (placed 74 place) 74 refl (below x f t) (below-outside t)
+  judgement-finite place false false p q = fits (neither-fit (fails p) (fails q))
 
 nan-outside : symbolFit nan ≡ false
 unfolding symbolFit ofBits le lt eq
@@ -79,8 +75,8 @@ inf-outside false = refl
 
 pub judgement : (place : ℕ) (x : Float) → Judgement place x (judged place x)
 unfolding judged
-judgement place nan = wrong (SymbolNotANumber place) 71 refl not-a-number nan-outside
-judgement place (inf negative) = wrong (SymbolInfinite place) 72 refl (infinite negative) (inf-outside negative)
+judgement place nan = wrong (placed 71 place) 71 refl not-a-number nan-outside
+judgement place (inf negative) = wrong (placed 72 place) 72 refl (infinite negative) (inf-outside negative)
 judgement place (fin negative m e) = judgement-finite (fin negative m e) tt place (lt one (fin negative m e)) (lt (fin negative m e) minusOne) refl refl
 
 -- ---- a symbol has one number

@@ -10,11 +10,9 @@ use lib.Dec.{T, eqb}
 use lib.ListN.{length, getD}
 use lib.Ieee.{Float, nan}
 use Rattle.numbers.proofs.Below.{all-below, below-all}
-use Rattle.protocol.specs.declared.Refusal.the-variants.{WrongCount, WrongBurst}
+use Rattle.protocol.specs.Refusals.{bare}
 use Rattle.given_symbols.specs.declared.Traffic.{Traffic}
-use Rattle.given_symbols.specs.declared.Verdict.{Verdict}
-use Rattle.given_symbols.specs.declared.Verdict.the-variants.{Refused, Fine}
-use Rattle.given_symbols.specs.Offender.{symbolFit, allFit, earlier, judgedBelow, headed, judgedAs}
+use Rattle.given_symbols.specs.Offender.{PaperVerdict, refused, fine, symbolFit, allFit, earlier, judgedBelow, headed, judgedAs}
 use Rattle.given_symbols.proofs.FirstOf.{FirstOf, none, first, first-of}
 
 module _ (traffic : Traffic) (symbols : List Float) where
@@ -24,20 +22,20 @@ module _ (traffic : Traffic) (symbols : List Float) where
     pub head : headed traffic symbols ≡ false
 
   -- what is made of them, by the tests
-  abbrev verdictBy : Bool → Verdict → Bool → Verdict
-  verdictBy counted a head = cond (not counted) (Refused WrongCount) (earlier a (cond head Fine (Refused WrongBurst)))
+  abbrev verdictBy : Bool → PaperVerdict → Bool → PaperVerdict
+  verdictBy counted a head = cond (not counted) (refused (bare 6)) (earlier a (cond head fine (refused (bare 11))))
 
-  found : (counted : Bool) (a : Verdict) (head : Bool) → eqb (length symbols) 192 ≡ counted → FirstOf symbols 192 a → headed traffic symbols ≡ head → verdictBy counted a head ≡ Refused WrongBurst → Unheaded
+  found : (counted : Bool) (a : PaperVerdict) (head : Bool) → eqb (length symbols) 192 ≡ counted → FirstOf symbols 192 a → headed traffic symbols ≡ head → verdictBy counted a head ≡ refused (bare 11) → Unheaded
   found false a head c o h e = let z : _≡_ {A = ℕ} 0 1 = cc in absurd (omega arith)
-  found true Fine true c (none all) h e = let z : _≡_ {A = ℕ} 0 1 = cc in absurd (omega arith)
-  found true Fine false c (none all) h e = record { count = eqb-true (length symbols) 192 c; inside = below-all 192 (λ (i : ℕ). symbolFit (getD symbols i nan)) all; head = h }
-  found true (Refused why) head c (first _ number place told l o) h e = let z : _≡_ {A = ℕ} 0 1 = cc in absurd (omega arith)
+  found true fine true c (none all) h e = let z : _≡_ {A = ℕ} 0 1 = cc in absurd (omega arith)
+  found true fine false c (none all) h e = record { count = eqb-true (length symbols) 192 c; inside = below-all 192 (λ (i : ℕ). symbolFit (getD symbols i nan)) all; head = h }
+  found true (refused why) head c (first _ number place told l o) h e = let z : _≡_ {A = ℕ} 0 1 = cc in absurd (omega arith)
 
-  told-by : (a : Verdict) → FirstOf symbols 192 a → T (allFit symbols) → verdictBy true a false ≡ Refused WrongBurst
-  told-by Fine (none all) t = refl
-  told-by (Refused why) (first _ number place told l o) t = absurd (subst T (o .outside) (all-below 192 (λ (i : ℕ). symbolFit (getD symbols i nan)) t place l))
+  told-by : (a : PaperVerdict) → FirstOf symbols 192 a → T (allFit symbols) → verdictBy true a false ≡ refused (bare 11)
+  told-by fine (none all) t = refl
+  told-by (refused why) (first _ number place told l o) t = absurd (subst T (o .outside) (all-below 192 (λ (i : ℕ). symbolFit (getD symbols i nan)) t place l))
 
-  pub wrong-burst : (judgedAs traffic symbols ≡ Refused WrongBurst) ↔ Unheaded
+  pub wrong-burst : (judgedAs traffic symbols ≡ refused (bare 11)) ↔ Unheaded
   unfolding judgedAs
   wrong-burst = (
     found (eqb (length symbols) 192) (judgedBelow 192 symbols) (headed traffic symbols) refl (first-of symbols 192) refl,

@@ -4,7 +4,7 @@ use protocol::Refusal;
 use protocol::SyncBurst;
 ghost use mathlib.Core.Path.{_≡_};
 ghost use lib.ListN.{length};
-ghost use Rattle.given_symbols.specs.Offender.{judged, earlier, judgedBelow, bertHeaded, headJudged, judge-frame-says};
+ghost use Rattle.given_symbols.specs.Offender.{verdictPaper, judged, earlier, judgedBelow, bertHeaded, headJudged, judge-frame-says};
 
 // The symbols of a frame.
 const FRAME: usize = 192;
@@ -21,7 +21,7 @@ pub enum Verdict {
 }
 
 fn judge(place: usize, symbol: f32) -> Verdict
-    ensures { λ r. ⌜ r ≡ judged place symbol ⌝ }
+    ensures { λ r. ⌜ verdictPaper r ≡ judged place symbol ⌝ }
 {
     let infinity: f32 = 1.0 / 0.0;
     if symbol != symbol {
@@ -38,7 +38,7 @@ fn judge(place: usize, symbol: f32) -> Verdict
 }
 
 fn earlier(first: Verdict, next: Verdict) -> Verdict
-    ensures { λ r. ⌜ r ≡ earlier first next ⌝ }
+    ensures { λ r. ⌜ verdictPaper r ≡ earlier (verdictPaper first) (verdictPaper next) ⌝ }
 {
     match first {
         Verdict::Refused(_) => first,
@@ -47,7 +47,7 @@ fn earlier(first: Verdict, next: Verdict) -> Verdict
 }
 
 fn first_offender(symbols: &[f32]) -> Verdict
-    ensures { λ r. ⌜ r ≡ judgedBelow (length (now (symbols .entry))) (now (symbols .entry)) ⌝ }
+    ensures { λ r. ⌜ verdictPaper r ≡ judgedBelow (length (now (symbols .entry))) (now (symbols .entry)) ⌝ }
 {
     let mut found = Verdict::Fine;
     let mut i: usize = 0;
@@ -74,7 +74,7 @@ fn has_bert_head(symbols: &[f32]) -> bool
 
 fn judge_head(traffic: Traffic, symbols: &[f32]) -> Verdict
     requires { ⌜ length (now symbols) ≡ 192 ⌝ }
-    ensures { λ r. ⌜ r ≡ headJudged traffic (now (symbols .entry)) ⌝ }
+    ensures { λ r. ⌜ verdictPaper r ≡ headJudged traffic (now (symbols .entry)) ⌝ }
 {
     match traffic {
         Traffic::Ordinary => Verdict::Fine,

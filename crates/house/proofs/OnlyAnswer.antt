@@ -13,8 +13,9 @@ use Rattle.house.specs.Line.{line-symbols-says, symbols-line-says}
 use Rattle.house.specs.Samples.{i16-of-bytes-says, bytes-of-i16-says}
 use Rattle.house.specs.BadLine.{bad-line-text-says}
 use Rattle.house.specs.Accept.{accepts-says}
+use Rattle.house.specs.declared.Program.{Program}
 use Rattle.house.specs.declared.Trouble.{Trouble}
-use Rattle.house.specs.Trouble.{trouble-text-says}
+use Rattle.house.specs.Trouble.{trouble-text-says, outcome-text-says}
 
 pub line-symbols-only-answer : (line : List ℕ) (r s : Symbols) → line-symbols-says line r → line-symbols-says line s → r ≡ s
 line-symbols-only-answer line r s = same-answer
@@ -34,5 +35,8 @@ bad-line-text-only-answer n r s = same-answer
 pub accepts-only-answer : (kind : Kind) (symbols : List Float) (r s : Bool) → accepts-says kind symbols r → accepts-says kind symbols s → r ≡ s
 accepts-only-answer kind symbols r s = same-answer
 
-pub trouble-text-only-answer : (trouble : Trouble) (r s : Text) → trouble-text-says trouble r → trouble-text-says trouble s → r ≡ s
-trouble-text-only-answer trouble r s = same-answer
+pub trouble-text-only-answer : (program : Program) (trouble : Trouble) (r s : Text) → trouble-text-says program trouble r → trouble-text-says program trouble s → r ≡ s
+trouble-text-only-answer program trouble r s = same-answer
+
+pub outcome-text-only-answer : (program : Program) (read written admitted : Bool) (r s : Text) → outcome-text-says program read written admitted r → outcome-text-says program read written admitted s → r ≡ s
+outcome-text-only-answer program read written admitted r s = same-answer

@@ -69,15 +69,15 @@ module _ (n : ℕ) where
       ∙ getD-at (decimal n) lineFeed [] 0 (suc (tens n)) length-decimal
 
   -- the line feed goes in last
-  stored : tens n < 20 → set (written byteAt (10 + tens n) (empty 32)) (10 + tens n) lineFeed ≡ badLine n ++ empty (32 - length (badLine n))
+  stored : tens n < 20 → set (written byteAt (10 + tens n) (empty 40)) (10 + tens n) lineFeed ≡ badLine n ++ empty (40 - length (badLine n))
   stored few =
       let all : suc (10 + tens n) ≡ length (badLine n) = omega (arith, length-bad-line) in
-      ap (λ (b : ℕ). set (written byteAt (10 + tens n) (empty 32)) (10 + tens n) b) (sym feed-at)
-      ∙ written-step byteAt (10 + tens n) (empty 32) 0 (omega arith)
-      ∙ ap (λ (k : ℕ). written byteAt k (empty 32)) all
-      ∙ rw (firsts-all (badLine n), drop-empty (length (badLine n)) 32)
+      ap (λ (b : ℕ). set (written byteAt (10 + tens n) (empty 40)) (10 + tens n) b) (sym feed-at)
+      ∙ written-step byteAt (10 + tens n) (empty 40) 0 (omega arith)
+      ∙ ap (λ (k : ℕ). written byteAt k (empty 40)) all
+      ∙ rw (firsts-all (badLine n), drop-empty (length (badLine n)) 40)
 
-  pub whole-text : tens n < 20 → record { bytes = set (written byteAt (10 + tens n) (empty 32)) (10 + tens n) lineFeed; length = 10 + tens n + 1 } ≡ inRoom (badLine n)
+  pub whole-text : tens n < 20 → record { bytes = set (written byteAt (10 + tens n) (empty 40)) (10 + tens n) lineFeed; length = 10 + tens n + 1 } ≡ inRoom (badLine n)
   unfolding inRoom
   whole-text few =
       let long : 10 + tens n + 1 ≡ length (badLine n) = omega (arith, length-bad-line) in

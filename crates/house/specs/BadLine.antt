@@ -39,9 +39,9 @@ heading = 98 ∷ 97 ∷ 100 ∷ 32 ∷ 108 ∷ 105 ∷ 110 ∷ 101 ∷ 32 ∷ []
 unfoldable pub badLine : ℕ → List ℕ
 badLine n = heading ++ (decimal n ++ (lineFeed ∷ []))
 
--- a text at the front of 32 places, and zeros after it
+-- a text at the front of 40 places, and zeros after it
 unfoldable pub inRoom : List ℕ → Text
-inRoom text = record { bytes = text ++ replicate (32 - length text) 0; length = length text }
+inRoom text = record { bytes = text ++ replicate (40 - length text) 0; length = length text }
 
 -- ---- what the function promises
 abbrev pub bad-line-text-says : ℕ → Text → Type 0

@@ -5,7 +5,8 @@ ghost use mathlib.Core.Path.{_≡_};
 ghost use Prim.Native.Nat.{_^_};
 ghost use Rattle.house.specs.BadLine.{tens, bad-line-text-says};
 
-const HEADING: [u8; 32] = *b"bad line \0\0\0\0\0\0\0\0\0\0\0\0\0\0\0\0\0\0\0\0\0\0\0";
+const HEADING: [u8; 40] =
+    *b"bad line \0\0\0\0\0\0\0\0\0\0\0\0\0\0\0\0\0\0\0\0\0\0\0\0\0\0\0\0\0\0\0";
 
 // The weight of a number's first decimal digit.
 fn first_weight(n: u64) -> u64

@@ -7,6 +7,7 @@ mod accept;
 mod bad_line;
 mod failing;
 mod line;
+mod outcome;
 mod sample;
 
 pub use accept::accepts;
@@ -14,6 +15,7 @@ pub use bad_line::bad_line_text;
 pub use failing::trouble_text;
 pub use line::line_symbols;
 pub use line::symbols_line;
+pub use outcome::outcome_text;
 pub use sample::bytes_of_i16;
 pub use sample::i16_of_bytes;
 
@@ -25,8 +27,14 @@ pub struct Symbols {
 
 // The first `length` bytes are the text, and zeros follow.
 pub struct Text {
-    pub bytes: [u8; 32],
+    pub bytes: [u8; 40],
     pub length: usize,
+}
+
+// Which program speaks.
+pub enum Program {
+    Receive,
+    Send,
 }
 
 // Why a program stops before its input has ended.

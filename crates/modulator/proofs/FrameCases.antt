@@ -4,11 +4,9 @@ use mathlib.Core.Bool.{true, false}
 use mathlib.Core.List.{List, []}
 use lib.Ieee.{Float}
 use Rattle.shaping.specs.Rate.{Rate}
-use Rattle.protocol.specs.declared.Refusal.{Refusal}
-use Rattle.protocol.specs.Refusals.{bare, onPaper}
+use Rattle.protocol.specs.Refusals.{PaperRefusal, bare}
 use Rattle.given_symbols.specs.declared.Traffic.{Traffic}
-use Rattle.given_symbols.specs.declared.Verdict.the-variants.{Refused, Fine}
-use Rattle.given_symbols.specs.Offender.{judgedAs}
+use Rattle.given_symbols.specs.Offender.{refused, fine, judgedAs}
 use Rattle.modulator.specs.declared.DelaySteps.{DelaySteps}
 use Rattle.modulator.specs.declared.SoftModulator.{SoftModulator}
 use Rattle.modulator.specs.declared.ModulatorFrame.{ModulatorFrame}
@@ -42,11 +40,11 @@ module _ (R : Rate) (m : SoftModulator) (frame : ModulatorFrame) (symbols : List
     frame-ending k = rw (fit, k)
 
     module _ (traffic : Traffic) (k : frame ≡ GivenSymbols traffic) where
-      pub frame-refused : (why : Refusal) → judgedAs traffic symbols ≡ Refused why → provided R m frame symbols ≡ left (refusal (onPaper why)) m []
+      pub frame-refused : (why : PaperRefusal) → judgedAs traffic symbols ≡ refused why → provided R m frame symbols ≡ left (refusal why) m []
       unfolding provided settled frameOutcome
       frame-refused why h = rw (fit, k, h)
 
-      pub frame-given : judgedAs traffic symbols ≡ Fine
+      pub frame-given : judgedAs traffic symbols ≡ fine
           → provided R m frame symbols ≡ left done (framed R (given symbols) (m .progress .«tx_delay_padding» .0) (m .pending) m) []
       unfolding provided settled frameOutcome
       frame-given h = rw (fit, k, h)

@@ -4,10 +4,8 @@ use mathlib.Core.List.{List}
 use Prim.Native.Nat.{ℕ}
 use lib.Dec.{ltb}
 use lib.Ieee.{Float}
-use Rattle.protocol.specs.Refusals.{bare, onPaper}
-use Rattle.given_symbols.specs.declared.Verdict.{Verdict}
-use Rattle.given_symbols.specs.declared.Verdict.the-variants.{Refused, Fine}
-use Rattle.given_symbols.specs.Offender.{judgedAs}
+use Rattle.protocol.specs.Refusals.{bare}
+use Rattle.given_symbols.specs.Offender.{PaperVerdict, refused, fine, judgedAs}
 use Rattle.modulator.specs.declared.EndReport.{EndReport}
 use Rattle.modulator.specs.declared.EndReport.the-variants.{Nothing as NoReport, After}
 use Rattle.modulator.specs.declared.Pending.{Pending}
@@ -29,9 +27,9 @@ pub data Outcome : Type 0 where
 
 -- ---- a frame
 -- 6, 71 to 74 and 11, of which 71 to 74 "are the first to return a place beside the number"
-abbrev pub judgedOutcome : Verdict → List Float → Control → Outcome
-judgedOutcome (Refused why) symbols s = only (refusal (onPaper why))
-judgedOutcome Fine symbols s = sends (given symbols) (s .progress .«tx_delay_padding» .0) (s .pending)
+abbrev pub judgedOutcome : PaperVerdict → List Float → Control → Outcome
+judgedOutcome (refused why) symbols s = only (refusal why)
+judgedOutcome fine symbols s = sends (given symbols) (s .progress .«tx_delay_padding» .0) (s .pending)
 
 -- "A frame is a preamble with TxDelay, 192 symbols, the end of transmission, or none. None only drops the wish for a frame." Of padding: "Only a preamble sets it."
 unfoldable pub frameOutcome : ℕ → ModulatorFrame → List Float → Control → Outcome

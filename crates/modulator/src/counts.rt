@@ -22,11 +22,11 @@ fn delay_step(p: usize) -> usize
 }
 
 // The most that a TxDelay counts.
-pub(crate) fn padding_limit(p: usize) -> usize
+pub(crate) fn padding_limit(p: usize) -> SampleCount
     requires { ⌜ p ≤ 10 ⌝ }
-    ensures { λ r. ⌜ r ≡ paddingLimit p ⌝ }
+    ensures { λ r. ⌜ r .0 ≡ paddingLimit p ⌝ }
 {
-    255 * delay_step(p)
+    DelaySteps(255).in_samples(p)
 }
 
 // The largest number that an end is reported with.
@@ -34,7 +34,7 @@ pub(crate) fn end_limit(p: usize) -> usize
     requires { ⌜ p ≤ 10 ⌝ }
     ensures { λ r. ⌜ r ≡ endLimit p ⌝ }
 {
-    33_554_432 + store_places(p) + padding_limit(p)
+    33_554_432 + store_places(p) + padding_limit(p).0
 }
 
 // The room in the card's buffer that a wish needs.

@@ -22,7 +22,7 @@ fn progress_fit(p: usize, progress: Progress) -> bool
 {
     (progress.next_len <= store_places(p))
         & (progress.next_read <= progress.next_len)
-        & (progress.tx_delay_padding.0 <= padding_limit(p))
+        & (progress.tx_delay_padding.0 <= padding_limit(p).0)
 }
 
 // A fill, a capacity or a latency that is taken.

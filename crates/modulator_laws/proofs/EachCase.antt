@@ -9,12 +9,9 @@ use lib.ListN.{length, getD}
 use lib.Ieee.{Float, nan}
 use lib.Ieee.Bits.{is-true}
 use Rattle.numbers.proofs.Below.{below-all, all-failed}
-use Rattle.protocol.specs.declared.Refusal.the-variants.{WrongCount, WrongBurst}
 use Rattle.protocol.specs.Refusals.{bare, placed}
 use Rattle.given_symbols.specs.declared.Traffic.{Traffic}
-use Rattle.given_symbols.specs.declared.Verdict.{Verdict}
-use Rattle.given_symbols.specs.declared.Verdict.the-variants.{Refused, Fine}
-use Rattle.given_symbols.specs.Offender.{symbolFit, allFit, earlier, judgedBelow, headed, headJudged, judgedAs}
+use Rattle.given_symbols.specs.Offender.{PaperVerdict, refused, fine, symbolFit, allFit, earlier, judgedBelow, headed, headJudged, judgedAs}
 use Rattle.given_symbols.proofs.FirstOf.{FirstOf, none, first, first-of}
 use Rattle.modulator.specs.declared.SampleCount.{SampleCount}
 use Rattle.modulator.specs.declared.EndReport.{EndReport}
@@ -26,7 +23,7 @@ use Rattle.modulator.specs.Outcome.{Outcome, only, told, sends, judgedOutcome, 
 use Rattle.modulator_laws.proofs.Picked.{picked}
 
 module _ (s : Control) (P : Outcome → Type 0) where
-  abbrev Of : List Float → Verdict → Type 0
+  abbrev Of : List Float → PaperVerdict → Type 0
   Of symbols a = P (judgedOutcome a symbols s)
 
   pub each-given : (traffic : Traffic) (symbols : List Float) → (eqb (length symbols) 192 ≡ false → P (only (refusal (bare 6))))
@@ -36,14 +33,14 @@ module _ (s : Control) (P : Outcome → Type 0) where
       → P (judgedOutcome (judgedAs traffic symbols) symbols s)
   unfolding judgedAs
   each-given traffic symbols miscounted outside unheaded taken =
-      picked (Of symbols) (not (eqb (length symbols) 192)) (Refused WrongCount) (earlier (judgedBelow 192 symbols) (headJudged traffic symbols)) (λ e. miscounted (not-true _ e)) λ e.
+      picked (Of symbols) (not (eqb (length symbols) 192)) (refused (bare 6)) (earlier (judgedBelow 192 symbols) (headJudged traffic symbols)) (λ e. miscounted (not-true _ e)) λ e.
       by-first (not-false _ e) (judgedBelow 192 symbols) (first-of symbols 192)
     where
-      by-first : eqb (length symbols) 192 ≡ true → (a : Verdict) → FirstOf symbols 192 a → Of symbols (earlier a (headJudged traffic symbols))
-      by-first counted Fine (none all) =
+      by-first : eqb (length symbols) 192 ≡ true → (a : PaperVerdict) → FirstOf symbols 192 a → Of symbols (earlier a (headJudged traffic symbols))
+      by-first counted fine (none all) =
           let fits = is-true _ (below-all 192 (λ (i : ℕ). symbolFit (getD symbols i nan)) all) in
-          picked (Of symbols) (headed traffic symbols) Fine (Refused WrongBurst) (taken counted fits) (unheaded counted fits)
-      by-first counted (Refused why) (first _ number place e l o) = rw e (outside number place (all-failed 192 (λ (i : ℕ). symbolFit (getD symbols i nan)) place l (o .outside)))
+          picked (Of symbols) (headed traffic symbols) fine (refused (bare 11)) (taken counted fits) (unheaded counted fits)
+      by-first counted (refused why) (first _ number place e l o) = rw e (outside number place (all-failed 192 (λ (i : ℕ). symbolFit (getD symbols i nan)) place l (o .outside)))
 
   pub each-update : (p fill capacity latency : ℕ) → (tooLarge fill capacity latency ≡ true → P (only (refusal (bare 8)))) → (tooLarge fill capacity latency ≡ false → capacity < fill → P (only (refusal (bare 9))))
       → (tooLarge fill capacity latency ≡ false → fill ≤ capacity → P (told done (updatedPending p fill capacity (endAfter fill latency (s .progress)) (s .pending)) (bufferOf fill capacity latency)))

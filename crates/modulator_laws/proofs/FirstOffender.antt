@@ -10,12 +10,9 @@ use lib.Dec.{T, eqb}
 use lib.ListN.{length}
 use lib.Ieee.{Float}
 use Rattle.shaping.specs.Rate.{Rate}
-use Rattle.protocol.specs.declared.Refusal.the-variants.{WrongCount, WrongBurst}
 use Rattle.protocol.specs.Refusals.{bare, placed}
 use Rattle.given_symbols.specs.declared.Traffic.{Traffic}
-use Rattle.given_symbols.specs.declared.Verdict.{Verdict}
-use Rattle.given_symbols.specs.declared.Verdict.the-variants.{Refused, Fine}
-use Rattle.given_symbols.specs.Offender.{earlier, judgedBelow, headed, judgedAs}
+use Rattle.given_symbols.specs.Offender.{PaperVerdict, refused, fine, earlier, judgedBelow, headed, judgedAs}
 use Rattle.given_symbols.proofs.FirstOf.{Offends, FirstOf, none, first, first-of, one-offender}
 use Rattle.modulator.specs.declared.SoftModulator.{SoftModulator}
 use Rattle.modulator.specs.declared.ModulatorFrame.the-variants.{Symbols as GivenSymbols}
@@ -34,28 +31,28 @@ module _ (R : Rate) (m : SoftModulator) (traffic : Traffic) (symbols : List Floa
     pub offends : Offends symbols number place
 
   -- what comes of the call, by the tests and by what the symbols make of it
-  abbrev pub answerBy : Bool → Bool → Verdict → Bool → Paper
+  abbrev pub answerBy : Bool → Bool → PaperVerdict → Bool → Paper
   answerBy fit counted a head =
       cond (not fit) (left (refusal (bare (unfitNumber m))) m [])
-      (settled R m (judgedOutcome (cond (not counted) (Refused WrongCount) (earlier a (cond head Fine (Refused WrongBurst)))) symbols (controlOf m))) .answer
+      (settled R m (judgedOutcome (cond (not counted) (refused (bare 6)) (earlier a (cond head fine (refused (bare 11))))) symbols (controlOf m))) .answer
 
   module _ (number place : ℕ) where
-    found : (fit counted : Bool) (a : Verdict) (head : Bool) → recordFit (R .p) m ≡ fit → eqb (length symbols) 192 ≡ counted → FirstOf symbols 192 a
+    found : (fit counted : Bool) (a : PaperVerdict) (head : Bool) → recordFit (R .p) m ≡ fit → eqb (length symbols) 192 ≡ counted → FirstOf symbols 192 a
         → answerBy fit counted a head ≡ refusal (placed number place) → FirstOffender number place
     unfolding settled
     found false counted a head f c o e = let z : _≡_ {A = ℕ} 0 1 = cc in absurd (omega arith)
     found true false a head f c o e = let z : _≡_ {A = ℕ} 0 1 = cc in absurd (omega arith)
-    found true true Fine true f c (none all) e = let z : _≡_ {A = ℕ} 0 1 = cc in absurd (omega arith)
-    found true true Fine false f c (none all) e = let z : _≡_ {A = ℕ} 0 1 = cc in absurd (omega arith)
-    found true true (Refused why) head f c (first _ n i told l o) e =
+    found true true fine true f c (none all) e = let z : _≡_ {A = ℕ} 0 1 = cc in absurd (omega arith)
+    found true true fine false f c (none all) e = let z : _≡_ {A = ℕ} 0 1 = cc in absurd (omega arith)
+    found true true (refused why) head f c (first _ n i told l o) e =
         let numbers : n ≡ number = cc in
         let places : i ≡ place = cc in
         record { fit = f; count = eqb-true (length symbols) 192 c; inside = subst (λ (j : ℕ). j < 192) places l; offends = rw (sym numbers, sym places) o }
 
-    told-by : (a : Verdict) → FirstOf symbols 192 a → FirstOffender number place → answerBy true true a (headed traffic symbols) ≡ refusal (placed number place)
+    told-by : (a : PaperVerdict) → FirstOf symbols 192 a → FirstOffender number place → answerBy true true a (headed traffic symbols) ≡ refusal (placed number place)
     unfolding settled
-    told-by Fine (none all) o = absurd (subst T (o .offends .outside) (all place (o .inside)))
-    told-by (Refused why) (first _ n i told l o) given =
+    told-by fine (none all) o = absurd (subst T (o .offends .outside) (all place (o .inside)))
+    told-by (refused why) (first _ n i told l o) given =
         let one = one-offender symbols n number i place o (given .offends) in
         rw (told, one .0, one .1)
 

@@ -9,7 +9,6 @@ use lib.Ieee.{Float, nan, binary32, ofBits, ofInt, lt, eq, le}
 use Rattle.numbers.specs.Below.{allBelow}
 use Rattle.numbers.specs.Firsts.{firsts}
 use Rattle.shaping.specs.Rate.{at48}
-use Rattle.protocol.specs.declared.Refusal.the-variants.{WrongCount, SymbolAboveOne, WrongBurst}
 use Rattle.protocol.specs.Bursts.{signsOf}
 use Rattle.protocol.specs.Refusals.{bare, placed}
 use Rattle.given_symbols.specs.declared.Traffic.the-variants.{Ordinary, Bert}
@@ -27,6 +26,7 @@ use Rattle.modulator.proofs.Frames.{framed-listed}
 use Rattle.modulator.proofs.FrameCases.{frame-unfit, frame-none, frame-preamble, frame-ending, frame-refused, frame-given}
 use Rattle.modulator_laws.proofs.FirstOffender.{FirstOffender, first-offender}
 use Rattle.modulator_laws.proofs.SymbolsAsBefore.{providedBefore, symbols-as-before}
+use Rattle.modulator_laws.proofs.WrongBurst.{WrongBurst, wrong-burst}
 use Rattle.modulator_laws.proofs.OutcomeLimits.{Byte}
 use Rattle.modulator_laws.proofs.Kept.{frame-keeps}
 use Rattle.modulator_laws.proofs.Instances.{astray, fresh-fit, astray-unfit}
@@ -43,7 +43,7 @@ frame-preamble-meets = frame-preamble at48 (fresh 48000) (Preamble Ordinary (rec
 
 frame-count-meets : provided at48 (fresh 48000) (GivenSymbols Ordinary) [] ≡ left (refusal (bare 6)) (fresh 48000) []
 unfolding judgedAs
-frame-count-meets = frame-refused at48 (fresh 48000) (GivenSymbols Ordinary) [] fresh-fit Ordinary refl WrongCount refl
+frame-count-meets = frame-refused at48 (fresh 48000) (GivenSymbols Ordinary) [] fresh-fit Ordinary refl (bare 6) refl
 
 -- 192 symbols, all the same
 even : Float → List Float
@@ -55,7 +55,7 @@ louder = ofBits binary32 0 ∷ ofBits binary32 0x4000_0000 ∷ nan ∷ replicate
 
 frame-outside-meets : provided at48 (fresh 48000) (GivenSymbols Ordinary) louder ≡ left (refusal (placed 73 1)) (fresh 48000) []
 unfolding louder judgedAs headed judgedBelow judged ofBits lt
-frame-outside-meets = frame-refused at48 (fresh 48000) (GivenSymbols Ordinary) louder fresh-fit Ordinary refl (SymbolAboveOne 1) refl
+frame-outside-meets = frame-refused at48 (fresh 48000) (GivenSymbols Ordinary) louder fresh-fit Ordinary refl (placed 73 1) refl
 
 frame-given-meets : provided at48 (fresh 48000) (GivenSymbols Ordinary) (even one) ≡ left done (framed at48 (given (even one)) ((fresh 48000) .progress .«tx_delay_padding» .0) ((fresh 48000) .pending) (fresh 48000)) []
 unfolding even judgedAs headed judgedBelow judged ofBits lt
@@ -71,7 +71,13 @@ bert-given-meets = frame-given at48 (fresh 48000) (GivenSymbols Bert) (headedBy 
 
 bert-unheaded-meets : provided at48 (fresh 48000) (GivenSymbols Bert) (headedBy one) ≡ left (refusal (bare 11)) (fresh 48000) []
 unfolding headedBy judgedAs headed bertHeaded allBelow judgedBelow judged signsOf ofBits ofInt lt eq
-bert-unheaded-meets = frame-refused at48 (fresh 48000) (GivenSymbols Bert) (headedBy one) fresh-fit Bert refl WrongBurst refl
+bert-unheaded-meets = frame-refused at48 (fresh 48000) (GivenSymbols Bert) (headedBy one) fresh-fit Bert refl (bare 11) refl
+
+bert-unheaded : WrongBurst at48 (fresh 48000) (GivenSymbols Bert) (headedBy one)
+bert-unheaded = wrong-burst at48 (fresh 48000) (GivenSymbols Bert) (headedBy one) .0 (ap (λ (l : Left). l .answer) bert-unheaded-meets)
+
+bert-unheaded-told : provided at48 (fresh 48000) (GivenSymbols Bert) (headedBy one) .answer ≡ refusal (bare 11)
+bert-unheaded-told = wrong-burst at48 (fresh 48000) (GivenSymbols Bert) (headedBy one) .1 bert-unheaded
 
 -- ---- the first symbol that is wrong, and what was said of it before
 louder-first : FirstOffender at48 (fresh 48000) Ordinary louder 73 1

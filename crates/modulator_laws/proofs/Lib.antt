@@ -7,6 +7,8 @@ pub mod OnlyAnswer
 -- which symbol is wrong, and that no other frame is refused than before
 pub mod FirstOffender
 pub mod SymbolsAsBefore
+-- when a frame is refused for its burst
+pub mod WrongBurst
 -- what holds in every case of a call
 pub mod EachCase
 -- a fit record stays fit
@@ -16,6 +18,8 @@ pub mod Kept
 pub mod FitAgain
 -- its rate stays what it is
 pub mod RateKept
+-- the places that a rate does not use
+pub mod UnusedPlaces
 -- an empty room, the wish that stays, and what is told once
 pub mod Once
 -- a transmission read in two pieces

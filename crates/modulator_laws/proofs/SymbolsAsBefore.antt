@@ -11,12 +11,9 @@ use lib.Ieee.{Float, nan}
 use Rattle.numbers.proofs.Below.{all-below, below-all}
 use Rattle.numbers.proofs.Tests.{holds}
 use Rattle.shaping.specs.Rate.{Rate, rateFit}
-use Rattle.protocol.specs.declared.Refusal.the-variants.{WrongCount}
 use Rattle.protocol.specs.Refusals.{bare, placed}
 use Rattle.given_symbols.specs.declared.Traffic.the-variants.{Ordinary}
-use Rattle.given_symbols.specs.declared.Verdict.{Verdict}
-use Rattle.given_symbols.specs.declared.Verdict.the-variants.{Refused, Fine}
-use Rattle.given_symbols.specs.Offender.{symbolFit, allFit, earlier, judgedBelow, headed, judgedAs}
+use Rattle.given_symbols.specs.Offender.{PaperVerdict, refused, fine, symbolFit, allFit, earlier, judgedBelow, headed, judgedAs}
 use Rattle.given_symbols.proofs.FirstOf.{FirstOf, none, first, first-of}
 use Rattle.modulator.specs.declared.SoftModulator.{SoftModulator}
 use Rattle.modulator.specs.declared.ModulatorFrame.the-variants.{Symbols as GivenSymbols}
@@ -54,16 +51,16 @@ not-seven true e = omega arith
 not-seven false e = omega arith
 
 module _ (R : Rate) (m : SoftModulator) (symbols : List Float) where
-  by-tests : (fit counted : Bool) (a : Verdict) (within : Bool) → FirstOf symbols 192 a → allFit symbols ≡ within
-      → AsBefore (cond (not fit) (left (refusal (bare (unfitNumber m))) m []) (settled R m (judgedOutcome (cond (not counted) (Refused WrongCount) (earlier a Fine)) symbols (controlOf m))))
+  by-tests : (fit counted : Bool) (a : PaperVerdict) (within : Bool) → FirstOf symbols 192 a → allFit symbols ≡ within
+      → AsBefore (cond (not fit) (left (refusal (bare (unfitNumber m))) m []) (settled R m (judgedOutcome (cond (not counted) (refused (bare 6)) (earlier a fine)) symbols (controlOf m))))
       (cond (not fit) (left (refusal (bare (unfitNumber m))) m []) (settled R m (outcomeBefore counted within symbols (controlOf m))))
   unfolding settled
   by-tests false counted a within o e = unchanged _ (λ n i r. let z : _≡_ {A = ℕ} 0 1 = cc in omega arith) (λ r. let z : unfitNumber m ≡ 7 = cc in not-seven (rateFit (m .rate)) z)
   by-tests true false a within o e = unchanged _ (λ n i r. let z : _≡_ {A = ℕ} 0 1 = cc in omega arith) (λ r. let z : _≡_ {A = ℕ} 0 1 = cc in omega arith)
-  by-tests true true Fine true o e = unchanged _ (λ n i r. let z : _≡_ {A = ℕ} 0 1 = cc in omega arith) (λ r. let z : _≡_ {A = ℕ} 0 1 = cc in omega arith)
-  by-tests true true Fine false (none all) e = absurd (subst T e (below-all 192 (λ (i : ℕ). symbolFit (getD symbols i nan)) all))
-  by-tests true true (Refused why) true (first _ n i told l o) e = absurd (subst T (o .outside) (all-below 192 (λ (i : ℕ). symbolFit (getD symbols i nan)) (holds e) i l))
-  by-tests true true (Refused why) false (first _ n i told l o) e = record {
+  by-tests true true fine true o e = unchanged _ (λ n i r. let z : _≡_ {A = ℕ} 0 1 = cc in omega arith) (λ r. let z : _≡_ {A = ℕ} 0 1 = cc in omega arith)
+  by-tests true true fine false (none all) e = absurd (subst T e (below-all 192 (λ (i : ℕ). symbolFit (getD symbols i nan)) all))
+  by-tests true true (refused why) true (first _ n i told l o) e = absurd (subst T (o .outside) (all-below 192 (λ (i : ℕ). symbolFit (getD symbols i nan)) (holds e) i l))
+  by-tests true true (refused why) false (first _ n i told l o) e = record {
     refused = (λ _. refl, λ _. (n, i, rw told));
     keeps = (refl, refl);
     otherwise = λ never. absurd (never refl);

@@ -41,6 +41,8 @@ pub mod Flush
 pub mod EndFrame
 -- reads in pieces
 pub mod AnyPieces
+-- the places that a rate does not use
+pub mod UnusedUnread
 -- all of these at each rate
 pub mod AtEachRate
 -- examples, computed

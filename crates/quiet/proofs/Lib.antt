@@ -19,6 +19,8 @@ pub mod BlockLaws
 pub mod Midway
 -- the whole row
 pub mod WalkLaws
+-- and no sample of it from which on a frame is due
+pub mod BeforeDue
 -- each promise fixes its answer
 pub mod OnlyAnswer
 -- instances that meet the laws' hypotheses

@@ -2,7 +2,7 @@
 use mathlib.Core.Path.{_≡_}
 use mathlib.Core.Bool.{Bool, false, not, cond, _&&_}
 use mathlib.Core.List.{List}
-use Prim.Native.Nat.{ℕ, zero, suc, _+_, _*_, _^_}
+use Prim.Native.Nat.{ℕ, zero, suc, _+_, _-_, _*_, _^_, min}
 use lib.Dec.{leb, ltb}
 use lib.ListN.{length, take}
 use lib.Ieee.{Float}
@@ -32,6 +32,11 @@ walkedTo i c = record { fed = i; control = c }
 unfoldable pub walkedFrom : ℕ → (ℕ → ℕ → Float) → ℕ → ℕ → Control → Walked
 walkedFrom p v i zero c = walkedTo i c
 walkedFrom p v i (suc n) c = cond (goesOn p c) (walkedFrom p v (i + 1) n (controlOf (sampled p (v i) c))) (walkedTo i c)
+
+-- of n samples, those before the one at which an awaited frame is due: the walk takes no others
+unfoldable pub beforeDue : Wait → ℕ → ℕ
+beforeDue Free n = n
+beforeDue (Due w) n = min (w .left - 1) n
 
 -- the row has the values of seven symbols before the samples, theirs, and the places of a block after them; all but these last are in range.
 -- The rates have 10 samples a symbol at most.

@@ -1,17 +1,17 @@
 // Reads lines of the house format from standard input, and writes the samples of their transmission to standard output, two bytes each,
 // the low one first. Where a read or a write fails it stops and says so on standard error; what it wrote by then begins the right output.
-use house::Trouble;
+use house::Text;
 use libc::STDIN_FILENO;
 use libc::STDOUT_FILENO;
-use modulator::Provided;
 use sending::AfterPart;
 use sending::Sending;
 ghost use Prim.Native.Nat.{_≤_};
 
-// The part that came last, and whether all went well until here.
+// The part that came last, whether all went well until here, and what is said if the program stops with it.
 struct Turn {
     part: AfterPart,
     fine: bool,
+    words: Text,
 }
 
 // What a read gave.
@@ -20,46 +20,28 @@ struct Got {
     count: usize,
 }
 
+// From a fresh start no turn is refused. A refused one has taken no byte of its read and gives nothing to be written: the program cannot go on.
 fn put(part: AfterPart) -> Turn
     requires { ⌜ part .length ≤ 5440 ⌝ }
 {
     let bytes = part.bytes;
     let length = part.length;
-    let fine = io::write_all(STDOUT_FILENO, &bytes[..length]);
-    if !fine {
-        telling::say(Trouble::Writing);
+    let written = io::write_all(STDOUT_FILENO, &bytes[..length]);
+    let words = part.last_words(true, written);
+    let admitted = part.is_admitted();
+    Turn {
+        part,
+        fine: written & admitted,
+        words,
     }
-    Turn { part, fine }
 }
 
 fn read_some(room: &mut [u8]) -> Got {
     let got = libc::read(STDIN_FILENO, room);
-    if got < 0 {
-        telling::say(Trouble::Reading);
-    }
     Got {
         fine: got >= 0,
         count: io::count(got, room),
     }
-}
-
-fn is_refused(answer: Provided) -> bool {
-    match answer {
-        Provided::Refused(_) => true,
-        Provided::Done => false,
-    }
-}
-
-// From a fresh start no turn is refused. A refused one has taken no byte of its read, so the program cannot go on.
-fn put_admitted(part: AfterPart) -> Turn
-    requires { ⌜ part .length ≤ 5440 ⌝ }
-{
-    let answer = part.answer;
-    if is_refused(answer) {
-        telling::say(Trouble::Refused);
-        return Turn { part, fine: false };
-    }
-    put(part)
 }
 
 // Reads once, no more than the line at hand lacks.
@@ -69,16 +51,14 @@ fn next_turn(before: AfterPart) -> Turn {
     let wanted = sending.lacks();
     let got = read_some(&mut bytes[..wanted]);
     if !got.fine {
+        let words = before.last_words(false, true);
         return Turn {
             part: before,
             fine: false,
+            words,
         };
     }
-    put_admitted(sending.turn(bytes, got.count))
-}
-
-fn tell_last(part: AfterPart) {
-    telling::tell(part.last_words());
+    put(sending.turn(bytes, got.count))
 }
 
 // A proved loop has to end, and nothing says that the input does: the turns are counted down, from a number that no run uses up.
@@ -89,7 +69,5 @@ fn main() {
         turn = next_turn(turn.part);
         turns -= 1;
     }
-    if turn.fine {
-        tell_last(turn.part);
-    }
+    telling::tell(turn.words);
 }

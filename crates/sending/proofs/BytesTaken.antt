@@ -1,5 +1,5 @@
 -- How many of a read's bytes a turn takes; none is lost that the count does not tell of. Assumes nothing.
-use mathlib.Core.Path.{_≡_, refl, sym, ap, _∙_}
+use mathlib.Core.Path.{_≡_, sym, ap, _∙_}
 use mathlib.Core.List.{List, [], _∷_, _++_}
 use Prim.Native.Nat.{ℕ, _≤_, _<_, min}
 use native.Mathlib.Omega.{arith}
@@ -7,15 +7,16 @@ use lib.ListN.{length, length-append, length-take}
 use lib.Seq.{take-append-le}
 use Rattle.modulator.specs.Paper.{done}
 use Rattle.sending.specs.declared.Sending.{Sending}
-use Rattle.sending.specs.Calls.{Left, lacking, added, held, moved, turned}
+use Rattle.sending.specs.Calls.{Left, lacking, added, held, turned}
 use Rattle.sending.specs.Run.{Fitting, callsFrom, AllDone, AllTaken}
-use Rattle.sending.proofs.Turns.{moved-some, turned-answer, turned-done}
+use Rattle.sending.proofs.Turns.{moved-some, turned-fit, told-fit}
+use Rattle.sending.proofs.RefusedTurn.{refused-exactly}
 
 module _ (s : Sending) (bytes : List ℕ) where
   -- A turn that is not refused takes as many of its bytes as the line lacks, and all where they are no more.
   pub bytes-taken : turned s bytes .answer ≡ done → turned s bytes .taken ≡ min (length bytes) (lacking s)
   bytes-taken fine =
-      ap (λ (l : Left). l .taken) (turned-done s bytes (moved s bytes) refl (sym (turned-answer s bytes) ∙ fine)) ∙ omega (arith, length-take (lacking s) bytes)
+      ap (λ (l : Left). l .taken) (turned-fit s bytes (told-fit (s .modulator) (sym (refused-exactly s bytes) ∙ fine))) ∙ omega (arith, length-take (lacking s) bytes)
 
   module _ (more : List ℕ) (some : 0 < length bytes) (full : lacking s ≤ length bytes) where
     added-same : added s (bytes ++ more) ≡ added s bytes

@@ -19,8 +19,7 @@ use Rattle.numbers.proofs.Firsts.{length-firsts, firsts-at, firsts-same}
 use Rattle.shaping.specs.Rate.{Rate, at48}
 use Rattle.pulse.specs.Pulse.{listed}
 use Rattle.given_symbols.specs.declared.Traffic.the-variants.{Ordinary}
-use Rattle.given_symbols.specs.declared.Verdict.the-variants.{Fine}
-use Rattle.given_symbols.specs.Offender.{symbolFit, judgedBelow, headed, judgedAs}
+use Rattle.given_symbols.specs.Offender.{fine, symbolFit, judgedBelow, headed, judgedAs}
 use Rattle.given_symbols.proofs.FirstOf.{fit-judged}
 use Rattle.modulator.specs.declared.Pending.{Pending}
 use Rattle.modulator.specs.declared.SoftModulator.{SoftModulator}
@@ -79,7 +78,7 @@ module _ (line : List ℕ) (good : goodLine line ≡ true) where
       let digit : valueOf (getD line (i / 2) 0) < 16 = ltb-true _ 16 (is-true _ (good-digit line (holds good) (i / 2) (omega arith))) in
       rw (firsts-at (λ (j : ℕ). symbolOf (bitsAt line j)) 192 i nan l) (fit-symbol (bitsAt line i) (pair-below (valueOf (getD line (i / 2) 0)) i digit))
 
-  all-fit : judgedBelow 192 (symbolsOf line) ≡ Fine
+  all-fit : judgedBelow 192 (symbolsOf line) ≡ fine
   all-fit = fit-judged (symbolsOf line) 192 fit-at
 
   -- by every record that is fit

@@ -24,12 +24,13 @@ use Rattle.house.specs.Line.{lineFeed, goodLine, noSymbols}
 use Rattle.house.specs.BadLine.{tensIn, decimal, heading, badLine, inRoom}
 use Rattle.sending.specs.declared.Sending.{Sending}
 use Rattle.sending.specs.Text.{hasFeed, linesOf, goodFront, AllGood, none, inLine, firstBad, preambleSymbols, endSymbols, lineSymbols, streamSamples, samplesSent, sampleBytes, bytesSent}
-use Rattle.sending.specs.Calls.{Left, isRefusal, emptyRoom, partOf, quiet, starting, opened, lacking, held, judged, moved, orAsItWas, turned, words}
+use Rattle.sending.specs.Calls.{Left, isRefusal, emptyRoom, partOf, quiet, starting, opened, lacking, added, held, judged, moved, withTaken, turned, words}
 use Rattle.sending.specs.Run.{Fitting, callsFrom, callsOver, callsUntil, writtenBy, AllDone, AllTaken, lastOf, lastCall, lastUntil, toldOf, lastWords, Begins}
-use Rattle.sending.specs.TurnFrame.{lineFrame, turnFrame, isGiven}
+use Rattle.sending.proofs.OnePart.{sits-fit}
+use Rattle.sending.proofs.Turns.{turned-fit}
 use Rattle.sending.proofs.RefusedTurn.{refused-exactly, read-follows, refused-turn}
 use Rattle.sending.proofs.BytesTaken.{bytes-taken, surplus}
-use Rattle.sending.proofs.SendRun.{send-run}
+use Rattle.sending.proofs.SendRun.{opened-stands, send-run}
 use Rattle.sending.proofs.AnyText.{asks-some, output-prefix, failed-write, failed-last-write}
 use Rattle.sending.proofs.GoodLines.{lines-back, good-lines, send-good, send-good-tells, samples-sent, bytes-sent}
 
@@ -71,7 +72,7 @@ whole-case-fits = (lit< tt, (lit≤ tt, λ _. tt))
 whole-case-tells : toldOf (lastCall (wholeCase ∷ [])) ≡ none
 whole-case-tells = send-good-tells (wholeCase ∷ []) whole-case-good (wholeCase ∷ []) refl whole-case-fits (lit≤ tt)
 
-whole-case-silent : lastWords (wholeCase ∷ []) ≡ record { bytes = replicate 32 0; length = 0 }
+whole-case-silent : lastWords (wholeCase ∷ []) ≡ record { bytes = replicate 40 0; length = 0 }
 unfolding words inRoom
 whole-case-silent = ap words whole-case-tells
 
@@ -82,18 +83,29 @@ whole-case-written = send-good (wholeCase ∷ []) whole-case-good (wholeCase ∷
 two-reads : List (List ℕ)
 two-reads = take 50 wholeCase ∷ drop 50 wholeCase ∷ []
 
-two-reads-fit : Fitting (opened .sending) two-reads
-unfolding two-reads Fitting opened partOf starting wholeCase turned orAsItWas moved judged held hasFeed
-two-reads-fit = (lit< tt, (lit≤ tt, λ _. (lit< tt, (lit≤ tt, λ _. tt))))
+-- a fit record takes the first
+abbrev half-left : Left
+half-left = withTaken (length (added (opened .sending) (take 50 wholeCase))) (moved (opened .sending) (take 50 wholeCase))
+
+half-turned : turned (opened .sending) (take 50 wholeCase) ≡ half-left
+half-turned = turned-fit (opened .sending) (take 50 wholeCase) (sits-fit (opened-stands .sits))
+
+rest-fits : Fitting (half-left .sending) (drop 50 wholeCase ∷ [])
+unfolding Fitting opened partOf starting wholeCase moved judged held hasFeed
+rest-fits = (lit< tt, (lit≤ tt, λ _. tt))
 
 -- and between them the line lacks a byte at least
 half-fits : Fitting (opened .sending) (take 50 wholeCase ∷ [])
 unfolding Fitting opened partOf starting wholeCase
 half-fits = (lit< tt, (lit≤ tt, λ _. tt))
 
+two-reads-fit : Fitting (opened .sending) two-reads
+unfolding two-reads Fitting
+two-reads-fit = (half-fits .0, (half-fits .1 .0, λ _. rw half-turned rest-fits))
+
 half-goes-on : lastUntil (take 50 wholeCase ∷ []) .last ≡ false
-unfolding lastOf callsUntil opened partOf starting wholeCase turned orAsItWas moved judged held hasFeed
-half-goes-on = refl
+unfolding lastOf callsUntil opened partOf starting wholeCase moved judged held hasFeed
+half-goes-on = rw half-turned
 
 half-asks : 0 < lacking (lastUntil (take 50 wholeCase ∷ []) .sending)
 half-asks = asks-some (take 50 wholeCase ∷ []) half-fits half-goes-on
@@ -166,22 +178,19 @@ unfit = record {
   number = 7;
 }
 
--- a good line's frame
+-- a good line's bytes, a bad line's, some that end no line, and the end of the input
 unfit-line : turned unfit (drop 50 wholeCase) ≡ quiet (refusal (bare 1)) unfit false
-unfolding unfit wholeCase recordFit turnFrame lineFrame isGiven held goodLine allBelow valueOf placeIn capitals
+unfolding unfit recordFit
 unfit-line = refused-turn unfit (drop 50 wholeCase) (bare 1) (refused-exactly unfit (drop 50 wholeCase))
 
--- the end of the input
-unfit-end : turned unfit [] ≡ quiet (refusal (bare 1)) unfit false
-unfolding unfit recordFit turnFrame isGiven
-unfit-end = refused-turn unfit [] (bare 1) (refused-exactly unfit [])
-
--- a bad line
 unfit-bad : turned unfit (lineFeed ∷ []) ≡ quiet (refusal (bare 1)) unfit false
-unfolding unfit wholeCase recordFit turnFrame lineFrame isGiven held hasFeed
+unfolding unfit recordFit
 unfit-bad = refused-turn unfit (lineFeed ∷ []) (bare 1) (refused-exactly unfit (lineFeed ∷ []))
 
--- and bytes that end no line, of which the sender hears nothing
-unfit-more : turned unfit (0x30 ∷ []) .answer ≡ done
-unfolding unfit wholeCase recordFit turnFrame lineFrame isGiven held hasFeed
-unfit-more = refused-exactly unfit (0x30 ∷ [])
+unfit-more : turned unfit (0x30 ∷ []) ≡ quiet (refusal (bare 1)) unfit false
+unfolding unfit recordFit
+unfit-more = refused-turn unfit (0x30 ∷ []) (bare 1) (refused-exactly unfit (0x30 ∷ []))
+
+unfit-end : turned unfit [] ≡ quiet (refusal (bare 1)) unfit false
+unfolding unfit recordFit
+unfit-end = refused-turn unfit [] (bare 1) (refused-exactly unfit [])

@@ -25,6 +25,8 @@ pub mod BytesTaken
 pub mod RestOfRun
 -- the program over all of its reads
 pub mod SendRun
+-- what the program says when it stops, by what is told of its calls
+pub mod LastWords
 -- every text, and what is written so far
 pub mod AnyText
 -- a text of good lines, and how much is written

@@ -1,6 +1,6 @@
 -- A part from a sender that has sent the symbols `xs` and has no padding due: its frame's symbols are sent after them, and all of its samples are written. Assumes nothing.
 use mathlib.Core.Path.{_≡_, refl, sym, ap, _∙_}
-use mathlib.Core.Bool.{Bool}
+use mathlib.Core.Bool.{Bool, true}
 use mathlib.Core.List.{List, [], _∷_, _++_}
 use Prim.Native.Nat.{ℕ, _*_}
 use lib.IntN.{ℤ}
@@ -24,10 +24,10 @@ use Rattle.modulator.specs.Calls.{read as readInto}
 use Rattle.modulator_run.specs.Rules.{Call, provide, read, Sent, Said, After, start, after, framed, drained, called, rules, sentAll}
 use Rattle.modulator_run.specs.Run.{leftAt, saidBy, sender, freshAt, recordAfter, Given}
 use Rattle.modulator_run.specs.Pieces.{counted}
-use Rattle.modulator_run.proofs.SenderRun.{answers-from}
+use Rattle.modulator_run.proofs.SenderRun.{sender-run, answers-from, fit-throughout}
 use Rattle.sending.specs.declared.Sending.{Sending}
 use Rattle.sending.specs.Text.{sampleBytes}
-use Rattle.sending.specs.Calls.{Left, emptyRoom, partOf}
+use Rattle.sending.specs.Calls.{Left, emptyRoom, partOf, isFit}
 use Rattle.sending.specs.Run.{output, partCalls}
 use Rattle.sending.proofs.Bytes.{bytes-two, bytes-length}
 use Rattle.sending.proofs.Stream.{samplesBehind, samples-number}
@@ -39,6 +39,11 @@ pub record Sits (m : SoftModulator) (cs : List Call) (xs : List Float) : Type 0 
   pub given : Each Given cs
   pub symbols : sentAll at48 cs .symbols ≡ xs
   pub padding : sentAll at48 cs .progress .«tx_delay_padding» .0 ≡ 0
+
+-- it is fit
+pub sits-fit : {m : SoftModulator} {cs : List Call} {xs : List Float} → Sits m cs xs → isFit m ≡ true
+unfolding run
+sits-fit {m} {cs} {xs} sits = rw (sits .by, sender-run at48 facts48 cs (sits .given) .0 .rate) (fit-throughout at48 facts48 cs (sits .given))
 
 both : {A : Type 0} {a b c d : A} → _≡_ {A = List A} (a ∷ (b ∷ [])) (c ∷ (d ∷ [])) → (a ≡ c) × (b ≡ d)
 both e = (cc, cc)

@@ -9,7 +9,7 @@ use Rattle.modulator_laws.proofs.Papers.{provided-once}
 use Rattle.house.specs.declared.Text.{Text}
 use Rattle.sending.specs.declared.Sending.{Sending}
 use Rattle.sending.specs.declared.AfterPart.{AfterPart}
-use Rattle.sending.specs.Calls.{Left, Says, open-says, lacks-says, turn-says, last-words-says}
+use Rattle.sending.specs.Calls.{Left, Says, open-says, lacks-says, turn-says, is-admitted-says, last-words-says}
 
 -- what is made of seven parts is one where these are
 made : {a b : Provided} {s t : Sending} {k l : List ℕ} {m n i j : ℕ} {p q u v : Bool} → a ≡ b → s ≡ t → k ≡ l → m ≡ n → i ≡ j → p ≡ q → u ≡ v
@@ -36,5 +36,8 @@ lacks-only-answer s m n = same-answer
 pub turn-only-answer : (s : Sending) (bytes : List ℕ) (n : ℕ) (a b : AfterPart) → turn-says s bytes n a → turn-says s bytes n b → a ≡ b
 turn-only-answer s bytes n a b = said-once _ a b
 
-pub last-words-only-answer : (part : AfterPart) (a b : Text) → last-words-says part a → last-words-says part b → a ≡ b
-last-words-only-answer part a b = same-answer
+pub is-admitted-only-answer : (part : AfterPart) (p q : Bool) → is-admitted-says part p → is-admitted-says part q → p ≡ q
+is-admitted-only-answer part p q = same-answer
+
+pub last-words-only-answer : (part : AfterPart) (read written : Bool) (a b : Text) → last-words-says part read written a → last-words-says part read written b → a ≡ b
+last-words-only-answer part read written a b = same-answer

@@ -18,17 +18,17 @@ use Rattle.modulator_run.specs.Rules.{Call}
 use Rattle.house.specs.Line.{goodLine, symbolsOf, noSymbols}
 use Rattle.sending.specs.declared.Sending.{Sending}
 use Rattle.sending.specs.Text.{hasFeed, linesOf, goodLines, preambleSymbols, endSymbols, lineSymbols, symbolsSent, sampleBytes}
-use Rattle.sending.specs.Calls.{Left, partOf, quiet, starting, opened, atHand, added, held, largest, nextLine, judged, closed, withTaken, turned, words}
+use Rattle.sending.specs.Calls.{Left, partOf, quiet, starting, opened, atHand, added, held, largest, nextLine, judged, closed, withTaken, isFit, turned, words}
 use Rattle.sending.specs.Run.{Fitting, callsFrom, writtenBy, AllDone, lastOf, partCalls, lineCalls, senderCalls, Sends}
 use Rattle.sending.proofs.Lines.{never-both, good-first}
 use Rattle.sending.proofs.Bytes.{bytes-two}
 use Rattle.sending.proofs.Stream.{samplesBehind, samples-from-start, samples-two}
 use Rattle.sending.proofs.Frames.{gives-preamble, gives-line, line-frame}
-use Rattle.sending.proofs.OnePart.{Sits, Done, part-done}
+use Rattle.sending.proofs.OnePart.{Sits, sits-fit, Done, part-done}
 use Rattle.sending.proofs.LineAtHand.{longer, Becomes, waits, fails, sends, longer-places, longer-at-hand, becomes}
 use Rattle.sending.proofs.Turns.{closed-last, turned-on, turned-bad, turned-end}
 use Rattle.sending.proofs.BytesTaken.{all-taken}
-use Rattle.sending.proofs.RestOfRun.{Over, closes, open-bad, over-bad, over-nothing, over-quiet, over-part}
+use Rattle.sending.proofs.RestOfRun.{Over, open-bad, over-bad, over-nothing, over-quiet, over-part}
 
 -- ---- where the program stands between two reads: the line at hand has not ended, and has the number k
 pub record Stands (s : Sending) (cs : List Call) (xs : List Float) (k : ℕ) : Type 0 where
@@ -60,20 +60,20 @@ over-end n s cs xs k st = by-test (ltb 0 (s .have)) refl
 abbrev Runs : List (List ℕ) → Type 0
 Runs reads = (s : Sending) (cs : List Call) (xs : List Float) (k : ℕ) → Stands s cs xs k → Fitting s reads → Over (callsFrom s reads) cs xs k (linesOf (atHand s ++ flatten reads))
 
-module _ (s : Sending) (bytes : List ℕ) (reads : List (List ℕ)) (some : 0 < length bytes) (l : Left) (e : judged (held s bytes) ≡ l) where
-  calls-on : l .bad ≡ false → l .answer ≡ done → l .last ≡ false → callsFrom s (bytes ∷ reads) ≡ withTaken (length (added s bytes)) l ∷ callsFrom (l .sending) reads
+module _ (s : Sending) (bytes : List ℕ) (reads : List (List ℕ)) (fit : isFit (s .modulator) ≡ true) (some : 0 < length bytes) (l : Left) (e : judged (held s bytes) ≡ l) where
+  calls-on : l .bad ≡ false → l .last ≡ false → callsFrom s (bytes ∷ reads) ≡ withTaken (length (added s bytes)) l ∷ callsFrom (l .sending) reads
   unfolding callsFrom
-  calls-on fine answered on = rw (turned-on s bytes some l e fine answered, on)
+  calls-on fine on = rw (turned-on s bytes fit some l e fine, on)
 
-  calls-end : l .bad ≡ true → closed (l .sending) .answer ≡ done → callsFrom s (bytes ∷ reads) ≡ withTaken (length (added s bytes)) (closed (l .sending)) ∷ []
+  calls-end : l .bad ≡ true → callsFrom s (bytes ∷ reads) ≡ withTaken (length (added s bytes)) (closed (l .sending)) ∷ []
   unfolding callsFrom
-  calls-end bad answered = rw (turned-bad s bytes some l e bad answered, closed-last (l .sending))
+  calls-end bad = rw (turned-bad s bytes fit some l e bad, closed-last (l .sending))
 
-  fits-on : l .bad ≡ false → l .answer ≡ done → l .last ≡ false → Fitting s (bytes ∷ reads) → Fitting (l .sending) reads
+  fits-on : l .bad ≡ false → l .last ≡ false → Fitting s (bytes ∷ reads) → Fitting (l .sending) reads
   unfolding Fitting
-  fits-on fine answered on fit =
-      let now = turned-on s bytes some l e fine answered in
-      rw now at (fit .1 .1 (ap (λ (x : Left). x .last) now ∙ on))
+  fits-on fine on fitting =
+      let now = turned-on s bytes fit some l e fine in
+      rw now at (fitting .1 .1 (ap (λ (x : Left). x .last) now ∙ on))
 
 few-bytes : (s : Sending) (bytes : List ℕ) (reads : List (List ℕ)) → s .have < 97 → Fitting s (bytes ∷ reads) → s .have + length bytes ≤ 97
 unfolding Fitting
@@ -107,9 +107,6 @@ module _ (bytes : List ℕ) (s : Sending) (cs : List Call) (xs : List Float) (k 
   line-done : goodLine g ≡ true → Done lineSent cs xs (symbolsOf g) (GivenSymbols Ordinary) (symbolsOf g)
   line-done good = rw (line-frame g good) at (part-done (nextLine (longer s bytes)) cs xs (st .sits) (GivenSymbols Ordinary) (symbolsOf g) (given (symbolsOf g)) (gives-line g good) false false)
 
-  bad-done : closed (longer s bytes) .answer ≡ done
-  bad-done = closes (longer s bytes) cs xs (st .sits) .answer
-
   sends-stands : goodLine g ≡ true → Stands (lineSent .sending) (cs ++ lineCalls g) (xs ++ symbolsOf g) (suc k)
   unfolding partOf hasFeed
   sends-stands good =
@@ -121,16 +118,15 @@ module _ (bytes : List ℕ) (s : Sending) (cs : List Call) (xs : List Float) (k 
     next-read fit (waits e less plain) =
         let some = some-bytes s bytes reads fit in
         let l : Left = quiet done (longer s bytes) false in
-        let rest = rw (longer-at-hand s bytes (st .places) few) at (more (longer s bytes) cs xs k (waits-stands less plain) (fits-on s bytes reads some l e refl refl refl fit)) in
-        rw (calls-on s bytes reads some l e refl refl refl) (over-quiet n l (callsFrom (longer s bytes) reads) cs xs k (linesOf (g ++ flatten reads)) refl refl rest)
+        let rest = rw (longer-at-hand s bytes (st .places) few) at (more (longer s bytes) cs xs k (waits-stands less plain) (fits-on s bytes reads (sits-fit (st .sits)) some l e refl refl fit)) in
+        rw (calls-on s bytes reads (sits-fit (st .sits)) some l e refl refl) (over-quiet n l (callsFrom (longer s bytes) reads) cs xs k (linesOf (g ++ flatten reads)) refl refl rest)
     next-read fit (fails e begun bad) =
-        rw (calls-end s bytes reads (some-bytes s bytes reads fit) (quiet done (longer s bytes) true) e refl bad-done)
+        rw (calls-end s bytes reads (sits-fit (st .sits)) (some-bytes s bytes reads fit) (quiet done (longer s bytes) true) e refl)
         (over-bad n (longer s bytes) cs xs k (linesOf (g ++ flatten reads)) (st .sits) begun (st .number) (bad (flatten reads)))
     next-read fit (sends e good) =
         let some = some-bytes s bytes reads fit in
-        let fine = line-done good .answer in
-        let rest = more (lineSent .sending) (cs ++ lineCalls g) (xs ++ symbolsOf g) (suc k) (sends-stands good) (fits-on s bytes reads some lineSent e refl fine refl fit) in
-        rw (calls-on s bytes reads some lineSent e refl fine refl, good-first g good (flatten reads))
+        let rest = more (lineSent .sending) (cs ++ lineCalls g) (xs ++ symbolsOf g) (suc k) (sends-stands good) (fits-on s bytes reads (sits-fit (st .sits)) some lineSent e refl refl fit) in
+        rw (calls-on s bytes reads (sits-fit (st .sits)) some lineSent e refl refl, good-first g good (flatten reads))
         (over-part n lineSent (callsFrom (lineSent .sending) reads) cs xs k (linesOf (flatten reads)) g good (line-done good) rest)
 
 -- after a turn that is not the last the program stands between two reads again
@@ -143,12 +139,12 @@ pub record Somewhere (s : Sending) : Type 0 where
 module _ (bytes : List ℕ) (some : 0 < length bytes) where
   by-line : (s : Sending) (cs : List Call) (xs : List Float) (k : ℕ) → Stands s cs xs k → s .have + length bytes ≤ 97 → turned s bytes .last ≡ false → Becomes s bytes → Somewhere (turned s bytes .sending)
   by-line s cs xs k st few on (waits e less plain) =
-      rw (turned-on s bytes some (quiet done (longer s bytes) false) e refl refl) (record { cs = cs; xs = xs; k = k; stands = waits-stands bytes s cs xs k st few less plain })
+      rw (turned-on s bytes (sits-fit (st .sits)) some (quiet done (longer s bytes) false) e refl) (record { cs = cs; xs = xs; k = k; stands = waits-stands bytes s cs xs k st few less plain })
   by-line s cs xs k st few on (fails e begun bad) =
       let l : Left = quiet done (longer s bytes) true in
-      absurd (never-both (ap (λ (x : Left). x .last) (turned-bad s bytes some l e refl (bad-done bytes s cs xs k st few)) ∙ closed-last (l .sending)) on)
+      absurd (never-both (ap (λ (x : Left). x .last) (turned-bad s bytes (sits-fit (st .sits)) some l e refl) ∙ closed-last (l .sending)) on)
   by-line s cs xs k st few on (sends e good) =
-      rw (turned-on s bytes some (lineSent bytes s cs xs k st few) e (line-fine bytes s cs xs k st few) (line-done bytes s cs xs k st few good .answer))
+      rw (turned-on s bytes (sits-fit (st .sits)) some (lineSent bytes s cs xs k st few) e (line-fine bytes s cs xs k st few))
       (record { cs = cs ++ lineCalls (atHand s ++ bytes); xs = xs ++ symbolsOf (atHand s ++ bytes); k = suc k; stands = sends-stands bytes s cs xs k st few good })
 
   pub next-stands : (s : Sending) → Somewhere s → s .have + length bytes ≤ 97 → turned s bytes .last ≡ false → Somewhere (turned s bytes .sending)
@@ -156,7 +152,7 @@ module _ (bytes : List ℕ) (some : 0 < length bytes) where
 
 pub run-from : (reads : List (List ℕ)) → Runs reads
 unfolding callsFrom flatten
-run-from [] s cs xs k st fit = rw (append-nil (atHand s), turned-end s (closes s cs xs (st .sits) .answer)) (over-end (length (added s [])) s cs xs k st)
+run-from [] s cs xs k st fit = rw (append-nil (atHand s), turned-end s (sits-fit (st .sits))) (over-end (length (added s [])) s cs xs k st)
 run-from (bytes ∷ reads) s cs xs k st fit =
     let few : s .have + length bytes ≤ 97 = few-bytes s bytes reads (st .short) fit in
     rw append-assoc at (next-read bytes s cs xs k st few reads (run-from reads) fit (becomes s bytes (st .places) few))

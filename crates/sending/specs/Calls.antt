@@ -1,26 +1,30 @@
 -- What each call answers, leaves and has written. Assumes nothing.
 use mathlib.Core.Path.{_≡_}
-use mathlib.Core.Bool.{Bool, true, false, cond}
+use mathlib.Core.Bool.{Bool, true, false, not, cond, _&&_}
 use mathlib.Core.List.{List, [], _∷_, _++_}
 use Prim.Native.Nat.{ℕ, _+_, _-_, _*_, min}
 use lib.Dec.{ltb}
 use lib.IntN.{ℤ, pos}
 use lib.ListN.{length, take, drop, replicate}
 use lib.Ieee.{Float}
-use Rattle.shaping.specs.Rate.{rateOf}
+use Rattle.shaping.specs.Rate.{samplesIn, rateOf}
+use Rattle.protocol.specs.Refusals.{bare}
 use Rattle.given_symbols.specs.declared.Traffic.the-variants.{Ordinary}
 use Rattle.modulator.specs.declared.SoftModulator.{SoftModulator}
 use Rattle.modulator.specs.declared.ModulatorFrame.{ModulatorFrame}
 use Rattle.modulator.specs.declared.ModulatorFrame.the-variants.{Preamble, Symbols as GivenSymbols, EndOfTransmission}
 use Rattle.modulator.specs.Paper.{Paper, refusal, done, wrote, transmitEnd, readOutput, idle, getFrame, nothing, providedPaper}
 use Rattle.modulator.specs.Record.{fresh}
+use Rattle.modulator.specs.Fit.{recordFit, unfitNumber}
 use Rattle.modulator.specs.Calls.{provided}
 use Rattle.modulator.specs.Calls.{Left as SenderLeft}
 use Rattle.modulator.specs.Calls.{read as readInto}
 use Rattle.modulator_run.specs.Pieces.{counted}
+use Rattle.house.specs.declared.Program.the-variants.{Send}
 use Rattle.house.specs.declared.Text.{Text}
 use Rattle.house.specs.Line.{goodLine, symbolsOf, noSymbols}
 use Rattle.house.specs.BadLine.{badLine, inRoom}
+use Rattle.house.specs.Trouble.{outcomeText}
 use Rattle.sending.specs.declared.Sending.{Sending}
 use Rattle.sending.specs.declared.AfterPart.{AfterPart}
 use Rattle.sending.specs.Text.{hasFeed, Bad, none, inLine, sampleBytes}
@@ -132,12 +136,17 @@ moved s (byte ∷ bytes) = orClosed (judged (held s (byte ∷ bytes)))
 abbrev pub withTaken : ℕ → Left → Left
 withTaken n l = record { answer = l .answer; sending = l .sending; bytes = l .bytes; length = l .length; taken = n; bad = l .bad; last = l .last }
 
--- "Every refusal returns its number only, with record and buffers as they were": then nothing is to be written, and no byte is taken
-unfoldable pub orAsItWas : Sending → Left → Left
-orAsItWas s l = cond (isRefusal (l .answer)) (quiet (l .answer) s false) l
+-- the sender's record by itself. 15: "any rate but the two, checked first"; 1: "record unfit"
+abbrev pub isFit : SoftModulator → Bool
+isFit m = recordFit (samplesIn (m .rate)) m
 
+abbrev pub recordTold : SoftModulator → Paper
+recordTold m = cond (isFit m) done (refusal (bare (unfitNumber m)))
+
+-- it decides, whatever the bytes. "Every refusal returns its number only, with record and buffers as they were": then nothing is to be
+-- written, and no byte is taken
 unfoldable pub turned : Sending → List ℕ → Left
-turned s bytes = orAsItWas s (withTaken (length (added s bytes)) (moved s bytes))
+turned s bytes = cond (isFit (s .modulator)) (withTaken (length (added s bytes)) (moved s bytes)) (quiet (recordTold (s .modulator)) s false)
 
 -- ---- ".. and writes `bad line N` and a line feed on standard error"
 unfoldable pub named : Bool → ℕ → Bad
@@ -146,6 +155,16 @@ named bad number = cond bad (inLine number) none
 unfoldable pub words : Bad → Text
 words none = inRoom []
 words (inLine n) = inRoom (badLine n)
+
+abbrev pub isAdmitted : AfterPart → Bool
+isAdmitted part = not (isRefusal (providedPaper (part .answer)))
+
+-- ".. and writes": where a read or a write failed or a turn was refused, why the program stops; else the words of the line at hand
+unfoldable pub saidOf : AfterPart → Bool → Bool → Text
+saidOf part read written =
+    cond (read && written && isAdmitted part)
+    (words (named (part .bad) (part .sending .number)))
+    (inRoom (outcomeText Send read written (isAdmitted part)))
 
 -- ---- what the functions promise
 pub record Says (d : Left) (r : AfterPart) : Type 0 where
@@ -166,5 +185,8 @@ lacks-says s r = r ≡ lacking s
 abbrev pub turn-says : Sending → List ℕ → ℕ → AfterPart → Type 0
 turn-says s bytes n r = Says (turned s (take n bytes)) r
 
-abbrev pub last-words-says : AfterPart → Text → Type 0
-last-words-says part r = r ≡ words (named (part .bad) (part .sending .number))
+abbrev pub is-admitted-says : AfterPart → Bool → Type 0
+is-admitted-says part r = r ≡ isAdmitted part
+
+abbrev pub last-words-says : AfterPart → Bool → Bool → Text → Type 0
+last-words-says part read written r = r ≡ saidOf part read written

@@ -1,10 +1,11 @@
 // What the program `send` does between its reads and its writes: preamble, a frame for each good line and the end of transmission,
 // each as the bytes that are to be written. All goes by value in arrays of fixed length: no caller can bring too little room.
+use house::Program;
 use house::Text;
 use modulator::Provided;
 use modulator::SoftModulator;
 ghost use lib.ListN.{take};
-ghost use Rattle.sending.specs.Calls.{moved, Says, turn-says, last-words-says};
+ghost use Rattle.sending.specs.Calls.{moved, Says, turn-says, is-admitted-says, last-words-says};
 
 mod line;
 mod part;
@@ -45,32 +46,44 @@ fn move_on(s: Sending, bytes: [u8; 97], n: usize) -> AfterPart
 }
 
 impl Sending {
-    // What a read gave, the first n of the bytes. A refused turn leaves all as it was.
+    // What a read gave, the first n of the bytes. The record decides whether they are taken, whatever they are: a refused turn leaves all
+    // as it was.
     pub fn turn(self, bytes: [u8; 97], n: usize) -> AfterPart
         ensures { λ r. ⌜ turn-says self bytes n r ⌝ }
     {
-        let taken = line::count_taken(self, n);
-        let mut after = move_on(self, bytes, n);
-        after.taken = taken;
-        let answer = after.answer;
-        match answer {
-            Provided::Refused(_) => line::write_nothing(answer, self, false),
-            Provided::Done => after,
+        let told = part::test_record(self);
+        match told {
+            Provided::Refused(_) => line::write_nothing(told, self, false),
+            Provided::Done => {
+                let taken = line::count_taken(self, n);
+                let mut after = move_on(self, bytes, n);
+                after.taken = taken;
+                after
+            }
         }
     }
 }
 
 impl AfterPart {
-    // What is said when all is written: a bad line's text, or nothing.
-    pub fn last_words(self) -> Text
-        ensures { λ r. ⌜ last-words-says self r ⌝ }
+    pub fn is_admitted(self) -> bool
+        ensures { λ r. ⌜ is-admitted-says self r ⌝ }
     {
-        if self.bad {
+        let answer = self.answer;
+        match answer {
+            Provided::Refused(_) => false,
+            Provided::Done => true,
+        }
+    }
+
+    // What is said if the program stops here: what went wrong, or a bad line's text, or nothing. `read` and `written` say whether its read
+    // and its write went well.
+    pub fn last_words(self, read: bool, written: bool) -> Text
+        ensures { λ r. ⌜ last-words-says self read written r ⌝ }
+    {
+        let admitted = self.is_admitted();
+        if read & written & admitted & self.bad {
             return house::bad_line_text(self.sending.number);
         }
-        Text {
-            bytes: [0; 32],
-            length: 0,
-        }
+        house::outcome_text(Program::Send, read, written, admitted)
     }
 }

@@ -4,13 +4,14 @@ use super::Sending;
 use given_symbols::Traffic;
 use modulator::DelaySteps;
 use modulator::ModulatorFrame;
+use modulator::Provided;
 use modulator::Read;
 use modulator::SoftModulator;
 ghost use mathlib.Core.Path.{_≡_};
-ghost use Rattle.modulator.specs.Paper.{readPaper};
+ghost use Rattle.modulator.specs.Paper.{providedPaper, readPaper};
 ghost use Rattle.modulator_run.specs.Pieces.{counted};
 ghost use Rattle.sending.specs.Text.{sampleBytes};
-ghost use Rattle.sending.specs.Calls.{partOf, closed, Says, open-says};
+ghost use Rattle.sending.specs.Calls.{partOf, closed, recordTold, Says, open-says};
 
 // A frame that takes no symbols does not look at those beside it.
 const NO_SYMBOLS: [f32; 192] = [0.0; 192];
@@ -40,6 +41,17 @@ fn count(answer: Read) -> usize
         Read::Refused(_) => 0,
         Read::Wrote(n) => n.0,
     }
+}
+
+// No frame is given: a call that asks for nothing but a fit record.
+pub(crate) fn test_record(s: Sending) -> Provided
+    ensures { λ r. ⌜ providedPaper r ≡ recordTold (s .modulator) ⌝ }
+{
+    let symbols = NO_SYMBOLS;
+    let asked = s.modulator
+        .provide_next_frame(ModulatorFrame::Nothing, &symbols);
+    let answer = asked.answer;
+    answer
 }
 
 // The room holds the longest frame, the end of transmission.

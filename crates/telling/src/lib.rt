@@ -1,8 +1,7 @@
-// What a program says on standard error before it stops. No contract can say what is written there.
+// What a program says on standard error when it stops. No contract can say what is written there.
 use house::Text;
-use house::Trouble;
 use libc::STDERR_FILENO;
-ghost use Rattle.telling.specs.Texts.{tell-says, say-says};
+ghost use Rattle.telling.specs.Texts.{tell-says};
 
 // Tells a text that lies within its bytes, and says whether it does: of one that is said to be longer nothing is written.
 pub fn tell(text: Text) -> bool
@@ -15,11 +14,4 @@ pub fn tell(text: Text) -> bool
     }
     io::write_all(STDERR_FILENO, &bytes[..length]);
     true
-}
-
-// Says why a program stops.
-pub fn say(trouble: Trouble) -> bool
-    ensures { λ r. ⌜ say-says trouble r ⌝ }
-{
-    tell(house::trouble_text(trouble))
 }

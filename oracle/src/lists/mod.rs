@@ -15,6 +15,7 @@ mod programs;
 mod sender;
 mod slices;
 mod streams;
+mod stretches;
 mod taps;
 
 use crate::rate::RATE;
@@ -25,7 +26,7 @@ pub struct List {
 }
 
 /// The lists that follow the rate; the others are those of 48 kHz.
-const OF_EACH_RATE: [&str; 4] = ["taps", "filters", "offers", "sender"];
+const OF_EACH_RATE: [&str; 5] = ["taps", "filters", "offers", "stretches", "sender"];
 
 /// The lists of the rate that this build is for.
 pub fn lists() -> impl Iterator<Item = List> {
@@ -33,7 +34,7 @@ pub fn lists() -> impl Iterator<Item = List> {
         .filter(|list| RATE == 48_000 || OF_EACH_RATE.contains(&list.name))
 }
 
-const ALL: [List; 14] = [
+const ALL: [List; 15] = [
     List {
         name: "bit-errors",
         write: bit_errors::write,
@@ -73,6 +74,10 @@ const ALL: [List; 14] = [
     List {
         name: "offers",
         write: offers::write,
+    },
+    List {
+        name: "stretches",
+        write: stretches::write,
     },
     List {
         name: "sender",

@@ -3,7 +3,7 @@
 
 use crate::bits::{hex, row};
 use crate::decode::name;
-use crate::harness::{lay_replies, replies_left, take_offer};
+use crate::harness::{lay_replies, replies_left, take_offer, Offer};
 use crate::lists::streams::{streams, Script};
 use crate::modem::found::{is_taken, Found};
 use crate::modem::kept::{Control, Held};
@@ -73,16 +73,7 @@ fn feed(list: &mut String, receiver: &mut SoftDemodulator, sample: i16, found: F
     let offer = take_offer();
     match (due, &offer) {
         (Some(_), Some(offer)) => {
-            let reply = if offer.accepted { "accept" } else { "reject" };
-            let symbols = row(&offer.symbols);
-            say(format!(
-                "offer {} {} {} {} {} {symbols} {reply}",
-                offer.kind,
-                after.count,
-                found.taken_at,
-                found.age,
-                u8::from(found.replaced)
-            ));
+            say(offer_event(offer, after.count, found));
         }
         (Some(_), None) => panic!("a due frame that was not offered"),
         (None, offer) => assert!(offer.is_none(), "an offer that was not due"),
@@ -113,6 +104,18 @@ fn feed(list: &mut String, receiver: &mut SoftDemodulator, sample: i16, found: F
         say(event);
     }
     now
+}
+
+pub fn offer_event(offer: &Offer, count: u64, found: Found) -> String {
+    let reply = if offer.accepted { "accept" } else { "reject" };
+    let symbols = row(&offer.symbols);
+    format!(
+        "offer {} {count} {} {} {} {symbols} {reply}",
+        offer.kind,
+        found.taken_at,
+        found.age,
+        u8::from(found.replaced)
+    )
 }
 
 fn candidate_event(

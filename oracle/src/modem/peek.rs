@@ -49,6 +49,11 @@ pub fn window(sender: &SoftModulator) -> (usize, [f32; WINDOW]) {
     (sender.filter_cursor, sender.filter_win)
 }
 
+/// Puts a made-up count into the receiver: no run comes near the last one.
+pub fn lay_count(receiver: &mut SoftDemodulator, count: u64) {
+    receiver.sample = count;
+}
+
 /// Puts a made-up window into the sender, as no frame from a fresh start leaves it.
 pub fn lay_window(sender: &mut SoftModulator, cursor: usize, values: [f32; WINDOW]) {
     sender.filter_cursor = cursor;

@@ -5,12 +5,12 @@ use native.Mathlib.Numerals.{add-one}
 use native.Mathlib.Omega.{arith}
 use borrow.Author.Needs.{needs}
 use lib.ListN.{length}
-use Rattle.given_symbols.specs.Offender.{judgedBelow}
+use Rattle.given_symbols.specs.Offender.{verdictPaper, judgedBelow}
 use Rattle.given_symbols.proofs.first_offender.Statement.{statement}
 use Rattle.given_symbols.proofs.first_offender.Tie as tie
 
 abbrev Inv-loop : tie.InvT-loop
-Inv-loop symbols found₀ i₀ found i = (i ≤ length symbols) × (found ≡ judgedBelow i symbols)
+Inv-loop symbols found₀ i₀ found i = (i ≤ length symbols) × (verdictPaper found ≡ judgedBelow i symbols)
 
 abbrev μ-loop : tie.MeasureT-loop
 μ-loop symbols found₀ i₀ found i = length symbols - i

@@ -18,29 +18,14 @@ slice-aggregate-write-all c = sym (length-take-le _ _ (written-fits _ _ _ _ _ (c
 write-all-requires : tie.Need-write-all-requires
 write-all-requires c κs = search needs
 
-say-requires : tie.Need-say-requires
-say-requires c κs = search needs
+outcome-text-requires : tie.Need-outcome-text-requires
+outcome-text-requires c κs = search needs
 
 same-length : tie.Need-same-length
 same-length c = search needs
 
 returns : tie.Need-returns
 returns c = search needs
-
-say-requires-2 : tie.Need-say-requires-2
-say-requires-2 c κs = search needs
-
-same-length-2 : tie.Need-same-length-2
-same-length-2 c = search needs
-
-returns-2 : tie.Need-returns-2
-returns-2 c = search needs
-
-same-length-3 : tie.Need-same-length-3
-same-length-3 c = search needs
-
-returns-3 : tie.Need-returns-3
-returns-3 c = search needs
 
 pub hear-some-spec : {M : Type 1} → statement M
 hear-some-spec =
@@ -50,11 +35,6 @@ hear-some-spec =
     slice-reshare-prefix-write-all
     slice-aggregate-write-all
     write-all-requires
-    say-requires
+    outcome-text-requires
     same-length
-    returns
-    say-requires-2
-    same-length-2
-    returns-2
-    same-length-3
-    returns-3)
+    returns)

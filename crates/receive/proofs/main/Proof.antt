@@ -8,10 +8,13 @@ use Rattle.receive.proofs.main.Statement.{statement}
 use Rattle.receive.proofs.main.Tie as tie
 
 abbrev Inv-loop : tie.InvT-loop
-Inv-loop receiving₀ lines₀ turns₀ receiving lines turns = length lines ≡ 794624
+Inv-loop turn₀ lines₀ turns₀ turn lines turns = length lines ≡ 794624
 
 abbrev μ-loop : tie.MeasureT-loop
-μ-loop receiving₀ lines₀ turns₀ receiving lines turns = turns
+μ-loop turn₀ lines₀ turns₀ turn lines turns = turns
+
+outcome-text-requires : tie.Need-outcome-text-requires Inv-loop μ-loop
+outcome-text-requires c κs = tt
 
 new-requires : tie.Need-new-requires Inv-loop μ-loop
 new-requires c κs = tt
@@ -25,9 +28,6 @@ slice-aggregate-read-some c = search needs
 read-some-requires : tie.Need-read-some-requires Inv-loop μ-loop
 read-some-requires c κs = tt
 
-returns : tie.Need-returns Inv-loop μ-loop
-returns c = tt
-
 sub-turns : tie.Need-sub-turns Inv-loop μ-loop
 sub-turns c = omega arith
 
@@ -37,8 +37,11 @@ loop-less c = omega arith
 loop-again : tie.Need-loop-again Inv-loop μ-loop
 loop-again c = search needs
 
-returns-2 : tie.Need-returns-2 Inv-loop μ-loop
-returns-2 c = tt
+tell-requires : tie.Need-tell-requires Inv-loop μ-loop
+tell-requires c κs = tt
+
+returns : tie.Need-returns Inv-loop μ-loop
+returns c = tt
 
 pub main-spec : {M : Type 1} → statement M
 main-spec =
@@ -46,12 +49,13 @@ main-spec =
     (tie.spec
     Inv-loop
     μ-loop
+    outcome-text-requires
     new-requires
     loop-holds
     slice-aggregate-read-some
     read-some-requires
-    returns
     sub-turns
     loop-less
     loop-again
-    returns-2)
+    tell-requires
+    returns)

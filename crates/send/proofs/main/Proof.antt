@@ -31,14 +31,11 @@ loop-less c = search needs
 loop-again : tie.Need-loop-again Inv-loop μ-loop
 loop-again c = search needs
 
-tell-last-requires : tie.Need-tell-last-requires Inv-loop μ-loop
-tell-last-requires c κs = search needs
+tell-requires : tie.Need-tell-requires Inv-loop μ-loop
+tell-requires c κs = search needs
 
 returns : tie.Need-returns Inv-loop μ-loop
 returns c = search needs
-
-returns-2 : tie.Need-returns-2 Inv-loop μ-loop
-returns-2 c = search needs
 
 pub main-spec : {M : Type 1} → statement M
 main-spec =
@@ -53,6 +50,5 @@ main-spec =
     sub-turns
     loop-less
     loop-again
-    tell-last-requires
-    returns
-    returns-2)
+    tell-requires
+    returns)

@@ -21,14 +21,17 @@ slice-aggregate-read-some c = sym (length-take-le {A = ℕ} (c .before .lacks .r
 read-some-requires : tie.Need-read-some-requires
 read-some-requires c κs = search needs
 
+last-words-requires : tie.Need-last-words-requires
+last-words-requires c κs = search needs
+
 returns : tie.Need-returns
 returns c = search needs
 
 turn-requires : tie.Need-turn-requires
 turn-requires c κs = search needs
 
-put-admitted-requires : tie.Need-put-admitted-requires
-put-admitted-requires c κs = turn-within _ _ _ (c .turn .ensures)
+put-requires : tie.Need-put-requires
+put-requires c κs = turn-within _ _ _ (c .turn .ensures)
 
 returns-2 : tie.Need-returns-2
 returns-2 c = search needs
@@ -41,7 +44,8 @@ next-turn-spec =
     array-borrow-prefix-bytes
     slice-aggregate-read-some
     read-some-requires
+    last-words-requires
     returns
     turn-requires
-    put-admitted-requires
+    put-requires
     returns-2)

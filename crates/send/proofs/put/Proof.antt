@@ -22,14 +22,14 @@ slice-aggregate-write-all c = sym (length-take-le _ _ (within (c .before .before
 write-all-requires : tie.Need-write-all-requires
 write-all-requires c κs = search needs
 
-say-requires : tie.Need-say-requires
-say-requires c κs = search needs
+last-words-requires : tie.Need-last-words-requires
+last-words-requires c κs = search needs
+
+is-admitted-requires : tie.Need-is-admitted-requires
+is-admitted-requires c κs = search needs
 
 returns : tie.Need-returns
 returns c = search needs
-
-returns-2 : tie.Need-returns-2
-returns-2 c = search needs
 
 pub put-spec : {M : Type 1} → statement M
 put-spec =
@@ -38,6 +38,6 @@ put-spec =
     array-share-prefix-bytes
     slice-aggregate-write-all
     write-all-requires
-    say-requires
-    returns
-    returns-2)
+    last-words-requires
+    is-admitted-requires
+    returns)

@@ -16,7 +16,7 @@ use Rattle.house.proofs.bad_line.bad_line_text.Tie as tie
 
 abbrev Inv-loop : tie.InvT-loop
 Inv-loop n bytes₀ weight₀ at₀ bytes weight at =
-    (9 ≤ at) × (at ≤ 10 + tens n) × (weight ≡ weightAt (tens n) at) × (length bytes ≡ 32) × (bytes ≡ written (byteAt n) at (empty 32))
+    (9 ≤ at) × (at ≤ 10 + tens n) × (weight ≡ weightAt (tens n) at) × (length bytes ≡ 40) × (bytes ≡ written (byteAt n) at (empty 40))
 
 abbrev μ-loop : tie.MeasureT-loop
 μ-loop n bytes₀ weight₀ at₀ bytes weight at = 10 + tens n - at
@@ -69,7 +69,7 @@ loop-again c =
       omega (arith, to-come c),
       ap (λ (w : ℕ). w / 10) weight ∙ ap (λ (k : ℕ). 10 ^ k / 10) next,
       simp length-set (l .inv .3),
-      rw (digit, l .inv .4, add-one (l .at)) (written-step (byteAt n) (l .at) (empty 32) 0 (omega (arith, to-come c, few (c .before)))),
+      rw (digit, l .inv .4, add-one (l .at)) (written-step (byteAt n) (l .at) (empty 40) 0 (omega (arith, to-come c, few (c .before)))),
     )
 
 -- and none after the loop

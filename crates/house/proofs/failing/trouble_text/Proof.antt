@@ -1,7 +1,7 @@
 -- `trouble_text` meets its contract.
 use borrow.Author.Needs.{needs}
 use Rattle.house.specs.BadLine.{inRoom}
-use Rattle.house.specs.Trouble.{troubleText}
+use Rattle.house.specs.Trouble.{programName, reason, troubleText}
 use Rattle.house.proofs.failing.trouble_text.Statement.{statement}
 use Rattle.house.proofs.failing.trouble_text.Tie as tie
 
@@ -14,17 +14,60 @@ enum-told-2 c = search needs
 enum-told-3 : tie.Need-enum-told-3
 enum-told-3 c = search needs
 
+enum-told-4 : tie.Need-enum-told-4
+enum-told-4 c = search needs
+
+enum-told-5 : tie.Need-enum-told-5
+enum-told-5 c = search needs
+
+enum-told-6 : tie.Need-enum-told-6
+enum-told-6 c = search needs
+
+enum-told-7 : tie.Need-enum-told-7
+enum-told-7 c = search needs
+
+enum-told-8 : tie.Need-enum-told-8
+enum-told-8 c = search needs
+
 returns : tie.Need-returns
-unfolding inRoom troubleText
-returns c = rw (c .enum-told .given .1)
+unfolding inRoom troubleText programName reason
+returns c = rw (c .before .before .enum-told .given .1, c .enum-told2 .given .1)
 
 returns-2 : tie.Need-returns-2
-unfolding inRoom troubleText
-returns-2 c = rw (c .enum-told2 .given .1)
+unfolding inRoom troubleText programName reason
+returns-2 c = rw (c .before .before .enum-told .given .1, c .enum-told3 .given .1)
 
 returns-3 : tie.Need-returns-3
-unfolding inRoom troubleText
-returns-3 c = rw (c .enum-told3 .given .1)
+unfolding inRoom troubleText programName reason
+returns-3 c = rw (c .before .before .enum-told .given .1, c .enum-told4 .given .1)
+
+returns-4 : tie.Need-returns-4
+unfolding inRoom troubleText programName reason
+returns-4 c = rw (c .before .before .enum-told5 .given .1, c .enum-told6 .given .1)
+
+returns-5 : tie.Need-returns-5
+unfolding inRoom troubleText programName reason
+returns-5 c = rw (c .before .before .enum-told5 .given .1, c .enum-told7 .given .1)
+
+returns-6 : tie.Need-returns-6
+unfolding inRoom troubleText programName reason
+returns-6 c = rw (c .before .before .enum-told5 .given .1, c .enum-told8 .given .1)
 
 pub trouble-text-spec : {M : Type 1} → statement M
-trouble-text-spec = tie.close (tie.spec enum-told enum-told-2 enum-told-3 returns returns-2 returns-3)
+trouble-text-spec =
+    tie.close
+    (tie.spec
+    enum-told
+    enum-told-2
+    enum-told-3
+    enum-told-4
+    enum-told-5
+    enum-told-6
+    enum-told-7
+    enum-told-8
+    returns
+    returns-2
+    returns-3
+    returns-4
+    returns-5
+    returns-6)

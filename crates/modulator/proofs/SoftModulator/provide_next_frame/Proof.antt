@@ -1,10 +1,12 @@
 -- `SoftModulator::provide_next_frame` meets its contract: each return is one case of the rules. Assumes nothing.
-use mathlib.Core.Path.{_≡_, sym, _∙_}
+use mathlib.Core.Path.{_≡_, sym, ap, _∙_}
 use mathlib.Core.Bool.{true}
 use Prim.Native.Nat.{_<_}
 use borrow.Author.Needs.{needs}
 use borrow.Author.Tests.{not-true, not-false}
 use Rattle.shaping.specs.Rate.{rateFit, samplesIn, rateOf, tapCount}
+use Rattle.protocol.specs.Refusals.{onPaper}
+use Rattle.given_symbols.specs.Offender.{verdictPaper}
 use Rattle.given_symbols.proofs.Judged.{fine-count}
 use Rattle.modulator.specs.Fit.{recordFit}
 use Rattle.modulator.proofs.Fitness.{record-facts}
@@ -63,8 +65,8 @@ returns-2 c =
     let t = j .before .before in
     let f = t .before .before in
     let a = f .before .before .before .args in
-    let wrong = sym (j .judge-frame .ensures) ∙ v .verdict .given .1 in
-    let e = frame-refused (rateOf (a .self .rate)) (a .self) (a .frame) (a .symbols .now) (fit f) (t .frame2 .given .0 .0) (t .frame2 .given .1) (v .verdict .given .0 .0) wrong in
+    let wrong = sym (j .judge-frame .ensures) ∙ ap verdictPaper (v .verdict .given .1) in
+    let e = frame-refused (rateOf (a .self .rate)) (a .self) (a .frame) (a .symbols .now) (fit f) (t .frame2 .given .0 .0) (t .frame2 .given .1) (onPaper (v .verdict .given .0 .0)) wrong in
     record { answers = rw e; leaves = rw e }
 
 enum-told-2 : tie.Need-enum-told-2
@@ -76,7 +78,7 @@ given-requires c κs =
     let t = j .before .before in
     let f = t .before .before in
     let a = f .before .before .before .args in
-    (rate f, cursor f, fine-count (t .frame2 .given .0 .0) (a .symbols .now) (sym (j .judge-frame .ensures) ∙ c .enum-told2 .given .1))
+    (rate f, cursor f, fine-count (t .frame2 .given .0 .0) (a .symbols .now) (sym (j .judge-frame .ensures) ∙ ap verdictPaper (c .enum-told2 .given .1)))
 
 enum-told-3 : tie.Need-enum-told-3
 enum-told-3 c = search needs
@@ -107,7 +109,7 @@ returns-5 c =
     let t = j .before .before in
     let f = t .before .before in
     let a = f .before .before .before .args in
-    let right = sym (j .judge-frame .ensures) ∙ v .enum-told2 .given .1 in
+    let right = sym (j .judge-frame .ensures) ∙ ap verdictPaper (v .enum-told2 .given .1) in
     let e = frame-given (rateOf (a .self .rate)) (a .self) (a .frame) (a .symbols .now) (fit f) (t .frame2 .given .0 .0) (t .frame2 .given .1) right in
     record { answers = rw e; leaves = rw (e, c .given .ensures) }
 

@@ -10,7 +10,7 @@ padding-limit-requires : tie.Need-padding-limit-requires
 padding-limit-requires c κs = search needs
 
 returns : tie.Need-returns
-returns c = rw (c .before .before .before .before .store-places .ensures, c .before .padding-limit .ensures)
+returns c = rw (c .before .before .before .before .before .store-places .ensures, c .before .before .padding-limit .ensures)
 
 pub progress-fit-spec : {M : Type 1} → statement M
 progress-fit-spec = tie.close (tie.spec store-places-requires padding-limit-requires returns)

@@ -1,4 +1,7 @@
 -- `age_or_take` meets its contract: the held candidate is older where its diff is below the match's, and else a new one is taken. Assumes nothing.
+use mathlib.Core.Bool.{true, false}
+use mathlib.Core.Path.{_≡_}
+use lib.Ieee.{lt}
 use Rattle.search.specs.Search.{matched}
 use borrow.Author.Needs.{needs}
 use Rattle.search.proofs.bursts.age_or_take.Statement.{statement}
@@ -15,14 +18,18 @@ older-requires c κs = search needs
 
 returns : tie.Need-returns
 unfolding matched
-returns c = rw (c .before .before .before .before .candidate .given .1, c .before .if1 .taken, c .older .ensures)
+returns c =
+    let above : lt _ _ ≡ true = c .before .if1 .taken in
+    rw (c .before .before .before .before .candidate .given .1, above, c .older .ensures)
 
 enum-told : tie.Need-enum-told
 enum-told c = search needs
 
 returns-2 : tie.Need-returns-2
 unfolding matched
-returns-2 c = rw (c .before .before .before .candidate .given .1, c .if1 .left, c .before .before .before .before .before .mark-wait .ensures)
+returns-2 c =
+    let not-above : lt _ _ ≡ false = c .if1 .left in
+    rw (c .before .before .before .candidate .given .1, not-above, c .before .before .before .before .before .mark-wait .ensures)
 
 returns-3 : tie.Need-returns-3
 unfolding matched
