@@ -25,6 +25,7 @@ fn told(refusal: u64, answer: u64) -> Words {
         taken_at: 0,
         age: 0,
         mark: 0,
+        gain: 0,
         carrier: 0,
         given: 0,
     }
@@ -39,6 +40,7 @@ fn of_samples(refusal: u64, answer: u64, carrier: u64, given: usize) -> Words {
         taken_at: 0,
         age: 0,
         mark: 0,
+        gain: 0,
         carrier,
         given,
     }
@@ -57,6 +59,7 @@ fn heard(answer: Heard, carrier: u64, given: usize) -> Words {
                 taken_at: offer.taken_at,
                 age: offer.age as u64,
                 mark: offer.replaced as u64,
+                gain: layout::pattern_of(offer.gain),
                 carrier,
                 given,
             }

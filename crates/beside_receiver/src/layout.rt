@@ -1,7 +1,7 @@
-// The receiver's record in bytes: 22 numbers; the candidate's diff, gain and shift and the newest filtered value; the ring's 1,920 values; the window's 162 places. The numbers are both
+// The receiver's record in bytes: 23 numbers; the candidate's diff, gain and shift and the newest filtered value; the ring's 1,920 values; the window's 162 places. The numbers are both
 // cursors, the count, the candidate's kind (4 for none), age and taken-at, whether a wait is held, what is left of it, its age and its mark, whether a timer is held and its end, whether a
-// reply is owed, the rate; then an answer: the refusal's number or 0, the offered kind or what the carrier query says, the offer's sample, taken-at, age and mark, the carrier after a sample, and how
-// many samples were given, by `feed` how many went in. The numbers end at byte 176, the four floats at 192, the ring at 7,872 and the window at 8,196.
+// reply is owed, the rate; then an answer: the refusal's number or 0, the offered kind or what the carrier query says, the offer's sample, taken-at, age, mark and gain (its bit pattern), the carrier after a
+// sample, and how many samples were given, by `feed` how many went in. The numbers end at byte 184, the four floats at 200, the ring at 7,880 and the window at 8,204.
 use demodulator::Candidate;
 use demodulator::Control;
 use demodulator::SoftDemodulator;
@@ -22,6 +22,7 @@ pub(crate) struct Words {
     pub taken_at: u64,
     pub age: u64,
     pub mark: u64,
+    pub gain: u64,
     pub carrier: u64,
     pub given: usize,
 }
@@ -49,7 +50,16 @@ pub(crate) fn number_of(kind: Kind) -> u64 {
     }
 }
 
-fn candidate_of(n: [u64; 22], four: [f32; 4]) -> Candidate {
+// A float's bit pattern.
+pub(crate) fn pattern_of(x: f32) -> u64 {
+    let mut bytes = [0u8; 8];
+    wire::put_floats(&mut bytes, &[x]);
+    let mut pattern = [0u64; 1];
+    wire::numbers(&bytes, &mut pattern);
+    pattern[0]
+}
+
+fn candidate_of(n: [u64; 23], four: [f32; 4]) -> Candidate {
     let kind = n[3];
     let age = n[4] % 256;
     if NO_KIND <= kind {
@@ -65,7 +75,7 @@ fn candidate_of(n: [u64; 22], four: [f32; 4]) -> Candidate {
     }
 }
 
-fn wait_of(n: [u64; 22]) -> Wait {
+fn wait_of(n: [u64; 23]) -> Wait {
     let left = n[7] % 65536;
     let age = n[8] % 256;
     if n[6] == 0 {
@@ -78,14 +88,14 @@ fn wait_of(n: [u64; 22]) -> Wait {
     })
 }
 
-fn timer_of(n: [u64; 22]) -> Timer {
+fn timer_of(n: [u64; 23]) -> Timer {
     if n[10] == 0 {
         return Timer::Off;
     }
     Timer::Until(n[11])
 }
 
-fn control_of(n: [u64; 22], four: [f32; 4]) -> Control {
+fn control_of(n: [u64; 23], four: [f32; 4]) -> Control {
     Control {
         candidate: candidate_of(n, four),
         wait: wait_of(n),
@@ -95,21 +105,21 @@ fn control_of(n: [u64; 22], four: [f32; 4]) -> Control {
     }
 }
 
-fn rate_of(n: [u64; 22]) -> u32 {
+fn rate_of(n: [u64; 23]) -> u32 {
     (n[13] % 0x1_0000_0000) as u32
 }
 
 pub(crate) fn record_of(from: &[u8]) -> SoftDemodulator
-    requires { ⌜ 8196 ≤ length (now from) ⌝ }
+    requires { ⌜ 8204 ≤ length (now from) ⌝ }
 {
-    let mut n = [0u64; 22];
+    let mut n = [0u64; 23];
     wire::numbers(from, &mut n);
     let mut four = [0.0f32; 4];
-    wire::floats(&from[176..], &mut four);
+    wire::floats(&from[184..], &mut four);
     let mut rx_win = [0.0f32; 1920];
-    wire::floats(&from[192..], &mut rx_win);
+    wire::floats(&from[200..], &mut rx_win);
     let mut filter_win = [0i16; 162];
-    wire::samples(&from[7872..], &mut filter_win);
+    wire::samples(&from[7880..], &mut filter_win);
     SoftDemodulator {
         rate: rate_of(n),
         filter_win,
@@ -224,7 +234,7 @@ fn numbers_of(
     rx_cursor: usize,
     control: Control,
     told: Words,
-) -> [u64; 22] {
+) -> [u64; 23] {
     let candidate = control.candidate;
     let wait = control.wait;
     let timer = control.dcd;
@@ -249,6 +259,7 @@ fn numbers_of(
         told.taken_at,
         told.age,
         told.mark,
+        told.gain,
         told.carrier,
         told.given as u64,
     ]
@@ -267,7 +278,7 @@ fn place_before(rate: u32, cursor: usize) -> usize
 
 // The record up to its rings.
 fn lay_front(to: &mut [u8], m: SoftDemodulator, told: Words)
-    requires { ⌜ 192 ≤ length (now to) ⌝ }
+    requires { ⌜ 200 ≤ length (now to) ⌝ }
     ensures { λ _. ⌜ length (now (to .exit)) ≡ length (now (to .entry)) ⌝ }
 {
     let control = m.control;
@@ -277,21 +288,21 @@ fn lay_front(to: &mut [u8], m: SoftDemodulator, told: Words)
     let newest = m.rx_win[last];
     let four = four_of(candidate, newest);
     wire::put_numbers(to, &numbers);
-    wire::put_floats(&mut to[176..], &four);
+    wire::put_floats(&mut to[184..], &four);
 }
 
 fn lay_rings(to: &mut [u8], rx_win: [f32; 1920], filter_win: [i16; 162])
-    requires { ⌜ 8196 ≤ length (now to) ⌝ }
+    requires { ⌜ 8204 ≤ length (now to) ⌝ }
     ensures { λ _. ⌜ length (now (to .exit)) ≡ length (now (to .entry)) ⌝ }
 {
-    wire::put_floats(&mut to[192..], &rx_win);
-    wire::put_samples(&mut to[7872..], &filter_win);
+    wire::put_floats(&mut to[200..], &rx_win);
+    wire::put_samples(&mut to[7880..], &filter_win);
 }
 
 pub(crate) fn put_record(m: SoftDemodulator, told: Words) {
     let rx_win = m.rx_win;
     let filter_win = m.filter_win;
-    let mut bytes = [0u8; 8196];
+    let mut bytes = [0u8; 8204];
     lay_front(&mut bytes, m, told);
     lay_rings(&mut bytes, rx_win, filter_win);
     io::write_all(STDOUT_FILENO, &bytes);
@@ -299,7 +310,7 @@ pub(crate) fn put_record(m: SoftDemodulator, told: Words) {
 
 // What is noted of a sample.
 pub(crate) fn put_front(m: SoftDemodulator, told: Words) {
-    let mut bytes = [0u8; 192];
+    let mut bytes = [0u8; 200];
     lay_front(&mut bytes, m, told);
     io::write_all(STDOUT_FILENO, &bytes);
 }

@@ -45,10 +45,10 @@ fn answer_one() -> bool {
     let mut asked = [0u64; 4];
     wire::numbers(&head, &mut asked);
     // The record, and after it the room.
-    let mut body = [0u8; 8996];
+    let mut body = [0u8; 9004];
     io::read_full(STDIN_FILENO, &mut body);
     let mut room = [0.0f32; 200];
-    wire::floats(&body[8196..], &mut room);
+    wire::floats(&body[8204..], &mut room);
     let given = count(asked[1], 4096);
     let mut bytes = [0u8; 8192];
     let mut samples = [0i16; 4096];

@@ -49,12 +49,13 @@ fn told(refusal: u32, action: u64, amount: usize) -> Words {
     }
 }
 
-// A refusal by its number, with its place or 0.
+// A refusal by its number, with its symbol's place, its line's number, or 0.
 fn refused(why: Refusal) -> Words {
     let place = why.place();
     match place {
         Place::Nothing => told(why.number(), 0, 0),
-        Place::At(at) => told(why.number(), 0, at),
+        Place::Symbol(at) => told(why.number(), 0, at),
+        Place::Line(line) => told(why.number(), 0, line),
     }
 }
 

@@ -55,6 +55,7 @@ pub(crate) fn put_offer(before: u64, offer: Offer, room: [f32; 192]) {
     cases_text::put_count(offer.taken_at);
     cases_text::put_count(offer.age as u64);
     cases_text::put_count(offer.replaced as u64);
+    cases_text::put_float(offer.gain);
     put_symbols(room);
 }
 

@@ -128,21 +128,32 @@ fn same_room(a: [i16; 16], b: [i16; 16]) -> bool {
 fn is_at(place: Place, at: usize) -> bool {
     match place {
         Place::Nothing => false,
-        Place::At(other) => other == at,
+        Place::Symbol(other) => other == at,
+        Place::Line(_) => false,
+    }
+}
+
+fn is_line(place: Place, line: usize) -> bool {
+    match place {
+        Place::Nothing => false,
+        Place::Symbol(_) => false,
+        Place::Line(other) => other == line,
     }
 }
 
 fn is_nothing(place: Place) -> bool {
     match place {
         Place::Nothing => true,
-        Place::At(_) => false,
+        Place::Symbol(_) => false,
+        Place::Line(_) => false,
     }
 }
 
 fn same_place(a: Place, b: Place) -> bool {
     match a {
         Place::Nothing => is_nothing(b),
-        Place::At(at) => is_at(b, at),
+        Place::Symbol(at) => is_at(b, at),
+        Place::Line(line) => is_line(b, line),
     }
 }
 
@@ -184,9 +195,16 @@ fn put_room(room: [i16; 16], size: usize)
 }
 
 fn put_place(place: Place) {
-    if let Place::At(at) = place {
-        io::write_all(1, b" at");
-        cases_text::put_count(at as u64);
+    match place {
+        Place::Nothing => (),
+        Place::Symbol(at) => {
+            io::write_all(1, b" at");
+            cases_text::put_count(at as u64);
+        }
+        Place::Line(line) => {
+            io::write_all(1, b" line");
+            cases_text::put_count(line as u64);
+        }
     }
 }
 

@@ -76,9 +76,9 @@ abbrev pub refused : ℕ → SoftDemodulator → List Float → Left
 refused number m room = record { answer = refusal (bare number); demodulator = m; room = room }
 
 -- ---- a sample
--- "the kind, the sample number d"; document 02 j): where it was taken, "the age at which the wait was set", and the mark
+-- "the kind, the sample number d"; document 02 j): where it was taken, "the age at which the wait was set", and the mark; l): "the offers' .. gain"
 abbrev pub offerOf : Shown → ℕ → Offer
-offerOf shown d = record { kind = shown .kind; sample = d; «taken_at» = shown .«taken_at»; age = shown .age; replaced = shown .replaced }
+offerOf shown d = record { kind = shown .kind; sample = d; «taken_at» = shown .«taken_at»; age = shown .age; replaced = shown .replaced; gain = shown .gain }
 
 -- ".. and symbol i": "Symbol room is written only by an offer, first 192 places only"
 abbrev pub finished : ℕ → SoftDemodulator → List Float → Outcome → Left

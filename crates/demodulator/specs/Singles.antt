@@ -1,7 +1,8 @@
 -- The single calls of a receiver as one type, and what each answers and leaves on a record. Assumes nothing.
 use mathlib.Core.List.{List, []}
 use lib.IntN.{ℤ}
-use lib.Ieee.{Float}
+use lib.ListN.{replicate}
+use lib.Ieee.{Float, binary32, ofBits}
 use Rattle.shaping.specs.Rate.{Rate, rateOf}
 use Rattle.search.specs.declared.Reply.{Reply}
 use Rattle.demodulator.specs.declared.SoftDemodulator.{SoftDemodulator}
@@ -12,6 +13,10 @@ pub data Single : Type 0 where
   sample : ℤ → List Float → Single
   reply : Reply → Single
   query : Single
+
+-- the room of a caller who lends 192 places with each sample
+unfoldable pub blank : List Float
+blank = replicate 192 (ofBits binary32 0)
 
 -- what a call is answered with, and what its room then holds
 pub record Said : Type 0 where

@@ -31,13 +31,14 @@ pub struct SoftDemodulator {
 
 // A frame that is due: its kind, and the number of the sample at which it is. Its symbols are in the caller's room.
 // It was taken at sample `taken_at`; `age` is the age at which its wait was set. The mark, `replaced`: on the sample that set the wait
-// a later-listed kind replaced the candidate, and the frame is that kind's.
+// a later-listed kind replaced the candidate, and the frame is that kind's. `gain` is what its symbols were divided by.
 pub struct Offer {
     pub kind: Kind,
     pub sample: u64,
     pub taken_at: u64,
     pub age: u8,
     pub replaced: bool,
+    pub gain: f32,
 }
 
 // What comes of asking for a fresh record.

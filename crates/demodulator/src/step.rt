@@ -68,6 +68,7 @@ fn advance(
                     taken_at: shown.taken_at,
                     age: shown.age,
                     replaced: shown.replaced,
+                    gain: shown.gain,
                 }),
                 places,
                 control: owing,

@@ -11,12 +11,13 @@ use Rattle.shaping.proofs.RateFacts.{facts24}
 use Rattle.protocol.specs.declared.Kind.the-variants.{Stream}
 use Rattle.demodulator.specs.declared.Offer.{Offer}
 use Rattle.demodulator.specs.Record.{fresh}
+use Rattle.demodulator_run.specs.Demands.{shownAt}
 use Rattle.demodulator_run.specs.Calls.{Call, one, receiver, Given, singlesFrom}
 use Rattle.demodulator_run.specs.CallerSees.{offersIn}
 use Rattle.demodulator_run.specs.OfferReports.{WaitSeen, CornerSeen, ReplacedSeen, OfferTaken}
 use Rattle.demodulator_run.proofs.AtEachRate.{offer-place-24, offer-taken-24}
 use Rattle.demodulator_examples.proofs.AsCalls.{as-given, as-offered}
-use Rattle.demodulator_examples.proofs.Sketch24.{Sketch24, calls24, sampled24}
+use Rattle.demodulator_examples.proofs.Sketch24.{Sketch24, calls24, sampled24, ear24}
 use Rattle.demodulator_examples.proofs.EarlierLarger24.{earlierLarger24, corner-due-24}
 use Rattle.demodulator_examples.proofs.LaterSmaller24.{laterSmaller24, marked-due-24}
 
@@ -32,10 +33,10 @@ module _ (S : Sketch24) where
   Waits o = WaitSeen at24 (singlesFrom (fresh 24000) seen) o
 
 abbrev cornered : Offer
-cornered = record { kind = Stream; sample = 955; «taken_at» = 36; age = 2; replaced = false }
+cornered = record { kind = Stream; sample = 955; «taken_at» = 36; age = 2; replaced = false; gain = shownAt (ear24 earlierLarger24) Stream 36 2 false .gain }
 
 abbrev marked : Offer
-marked = record { kind = Stream; sample = 956; «taken_at» = 37; age = 1; replaced = true }
+marked = record { kind = Stream; sample = 956; «taken_at» = 37; age = 1; replaced = true; gain = shownAt (ear24 laterSmaller24) Stream 37 1 true .gain }
 
 pub corner-offered-24 : List·Memᴰ cornered (offersIn (answers receiver (fresh 24000) (seen earlierLarger24)))
 corner-offered-24 = as-offered at24 facts24 (calls24 earlierLarger24) (sampled24 earlierLarger24) 955 _ corner-due-24

@@ -12,14 +12,15 @@ use lib.Ieee.Bits.{is-false}
 use Rattle.machine.specs.Runs.{run, Each}
 use Rattle.shaping.specs.Rate.{Rate}
 use Rattle.search.specs.declared.Reply.the-variants.{Accepted}
-use Rattle.search.specs.Turn.{Outcome, quiet, offer, controlOf, owing, sampled, replied}
+use Rattle.search.specs.Turn.{controlOf, owing, sampled, replied}
 use Rattle.demodulator.specs.Spans.{eight}
 use Rattle.demodulator.specs.Calls.{done}
 use Rattle.demodulator_run.specs.Filter.{ago}
-use Rattle.demodulator_run.specs.Rules.{Single, sample, reply, History, After, refused, settled, admitted, given, answered, single, singleRules}
+use Rattle.demodulator_run.specs.Rules.{Single, sample, reply, History, After, refused, admitted, given, answered, single, singleRules}
 use Rattle.demodulator_run.specs.Run.{Callable}
 use Rattle.demodulator_run.specs.Stretch.{Sixteen}
 use Rattle.demodulator_run.proofs.Count.{sampled-count}
+use Rattle.demodulator_run.proofs.RunFits.{settled-heard}
 use Rattle.demodulator_run.proofs.Worked.{room}
 
 -- ---- the calls
@@ -71,17 +72,12 @@ module _ (R : Rate) where
       go true e = refl
       go false e = ap (λ (b : Bool). record { samples = h .samples; control = owing b (h .control) }) e
 
-  pub settled-heard : (xs : List ℤ) (o : Outcome) → settled (R .taps) (R .p) xs room o .history ≡ record { samples = xs; control = controlOf o }
-  unfolding settled
-  settled-heard xs (quiet c) = refl
-  settled-heard xs (offer shown c) = refl
-
   pub next-is : (h : History) (x : ℤ) → h .control .owed ≡ false → h .control .sample < 2 ^ 63
       → next h x ≡ record { samples = h .samples ++ (x ∷ []); control = owing false (controlOf (sampled (R .p) (eightAt (h .samples ++ (x ∷ []))) (h .control))) }
   next-is h x o l =
       replied-in (single (R .taps) (R .p) h (sample x room) .history)
       ∙ ap (λ (g : History). record { samples = g .samples; control = owing false (g .control) })
-      (ap (λ (a : After). a .history) (taken-in h x o l) ∙ settled-heard (h .samples ++ (x ∷ [])) (sampled (R .p) (eightAt (h .samples ++ (x ∷ []))) (h .control)))
+      (ap (λ (a : After). a .history) (taken-in h x o l) ∙ settled-heard (R .taps) (R .p) (h .samples ++ (x ∷ [])) room (sampled (R .p) (eightAt (h .samples ++ (x ∷ []))) (h .control)))
 
   -- ---- all of them
   pub fed-heard : (xs : List ℤ) (h : History) → h .control .owed ≡ false → h .control .sample + length xs ≤ 2 ^ 63 → run (singleRules (R .taps) (R .p)) h (fed xs) .samples ≡ h .samples ++ xs

@@ -109,7 +109,7 @@ module _ {cs : List Single} {d : ℕ} {w : Shown} (O : OfferedAt taps 10 d w cs)
       ∙ filtered-taken taps 10 (taps-size at48 facts48) (length zs) (zs ++ m) (d - 1910) (omega arith)
       ∙ ap (λ (l : List ℤ). filtered taps 10 l (d - 1910)) (sym e))
 
-pub record-finds : left (recordAfter at48 (finds .before)) (sample (finds .value) (finds .room)) .answer ≡ frame (record { kind = Stream; sample = 1911; «taken_at» = 71; age = 1; replaced = false })
+pub record-finds : left (recordAfter at48 (finds .before)) (sample (finds .value) (finds .room)) .answer ≡ frame (record { kind = Stream; sample = 1911; «taken_at» = 71; age = 1; replaced = false; gain = shownAt (shaped oneBurst) Stream 71 1 false .gain })
 record-finds = record-answers finds (small oneBurst)
 
 -- the first symbol of each, by its table

@@ -34,12 +34,13 @@ use Rattle.demodulator_run.specs.Run.{Callable}
 use Rattle.demodulator_run.proofs.Pass.{Step, controlled, searchStep, passBy, search-pass, pass-hit}
 use Rattle.demodulator_run.proofs.Phase.{kept-past}
 use Rattle.demodulator_run.proofs.Run.{kept-all}
+use Rattle.demodulator_run.proofs.RunFits.{settled-heard}
 use Rattle.demodulator_run.proofs.Demand.{earAll}
 use Rattle.demodulator_run.proofs.DemandEachRate.{switch-earlier-48, switch-held-48}
 use Rattle.demodulator_run.proofs.DemandAt.{size-at, alone-at, again-at}
 use Rattle.demodulator_run.proofs.Worked.{room}
 use Rattle.demodulator_run.proofs.Sixteen.{sixteen-front}
-use Rattle.demodulator_examples.proofs.Fed.{fed, fed-split, fed-sampled, eightAt, taken-in, settled-heard}
+use Rattle.demodulator_examples.proofs.Fed.{fed, fed-split, fed-sampled, eightAt, taken-in}
 use Rattle.demodulator_examples.proofs.Steps.{standing, Hits, none, hears}
 use Rattle.demodulator_examples.proofs.Table.{sixteen-test, listed, hits-listed, at-listed, silent-listed}
 use Rattle.demodulator_examples.proofs.Take.{is-admitted, marked-after}
@@ -191,7 +192,7 @@ held-after =
       u,
       ap (λ (h : History). single taps 10 h (sample y room) .history .control) e
           ∙ ap (λ (a : After). a .history .control) (taken-in at48 (holding t) y refl (lit< tt))
-          ∙ ap (λ (h : History). h .control) (settled-heard at48 (before ++ (y ∷ [])) (turned 10 (eightAt at48 (before ++ (y ∷ []))) (holding t .control)))
+          ∙ ap (λ (h : History). h .control) (settled-heard taps 10 (before ++ (y ∷ [])) room (turned 10 (eightAt at48 (before ++ (y ∷ []))) (holding t .control)))
           ∙ ap (λ (v : ℕ → Float). searchStep 10 v (counted (holding t .control)) .control) (sym heard-72)
           ∙ ap (λ (s : Step). s .control) f,
     )

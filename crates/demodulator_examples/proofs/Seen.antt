@@ -16,12 +16,12 @@ use Rattle.demodulator.specs.declared.Offer.{Offer}
 use Rattle.demodulator.specs.Record.{fresh}
 use Rattle.demodulator.specs.Calls.{offerOf}
 use Rattle.demodulator_run.specs.Marks.{FellDue, logAll}
-use Rattle.demodulator_run.specs.Demands.{In}
+use Rattle.demodulator_run.specs.Demands.{In, shownAt}
 use Rattle.demodulator_run.specs.Calls.{Call, one, receiver, Given, singlesFrom}
 use Rattle.demodulator_run.specs.CallerSees.{TakenSeen, SomeDue, offersIn}
 use Rattle.demodulator_run.specs.OfferReports.{WaitSeen, CornerSeen, ReplacedSeen, OfferTaken}
 use Rattle.demodulator_run.proofs.AtEachRate.{demand-three-48, demand-three-sharp-48, offer-place-48, offer-age-48, offer-age-sharp-48, offer-taken-48}
-use Rattle.demodulator_examples.proofs.Sketch.{Sketch, calls, sampled, fed-number}
+use Rattle.demodulator_examples.proofs.Sketch.{Sketch, calls, sampled, shaped, fed-number}
 use Rattle.demodulator_examples.proofs.AsCalls.{as-given, as-counted, as-taken, as-offered}
 use Rattle.demodulator_examples.proofs.OneBurst.{oneBurst}
 use Rattle.demodulator_examples.proofs.EarlierLarger.{earlierLarger}
@@ -60,13 +60,13 @@ one-due-sharp = demand-three-sharp-48 (seen oneBurst) (seen-given oneBurst) .due
 
 -- ---- the offers: one taken at 71 that failed at 72; one that an earlier-listed kind's match made older there; one that a later-listed kind replaced there
 abbrev plain : Offer
-plain = record { kind = Stream; sample = 1911; «taken_at» = 71; age = 1; replaced = false }
+plain = record { kind = Stream; sample = 1911; «taken_at» = 71; age = 1; replaced = false; gain = shownAt (shaped oneBurst) Stream 71 1 false .gain }
 
 abbrev cornered : Offer
-cornered = record { kind = Stream; sample = 1910; «taken_at» = 71; age = 2; replaced = false }
+cornered = record { kind = Stream; sample = 1910; «taken_at» = 71; age = 2; replaced = false; gain = shownAt (shaped earlierLarger) Stream 71 2 false .gain }
 
 abbrev marked : Offer
-marked = record { kind = Stream; sample = 1911; «taken_at» = 72; age = 1; replaced = true }
+marked = record { kind = Stream; sample = 1911; «taken_at» = 72; age = 1; replaced = true; gain = shownAt (shaped laterSmaller) Stream 72 1 true .gain }
 
 pub plain-offered : List·Memᴰ plain (offersIn (answers receiver (fresh 48000) (seen oneBurst)))
 plain-offered = offered oneBurst 1911 _ one-burst-due

@@ -92,11 +92,11 @@ module _ (R : Rate) (F : Facts R) where
     due-in o s =
         let t = s .moment in
         let c = control-same t in
-        let h = subst (λ (e : Control). (t : TakenBurst) × HeldOf (o .kind) t (e .candidate) × (t .«taken_at» ≡ o .«taken_at»)) c (s .awaited) in
+        let h = subst (λ (e : Control). (t : TakenBurst) × HeldOf (o .kind) t (e .candidate) × (t .«taken_at» ≡ o .«taken_at») × (t .gain ≡ o .gain)) c (s .awaited) in
         let kinds : h .0 .kind ≡ o .kind = h .1 .1 in
         let x : Shown = shownOf (h .0) (o .age) (o .replaced) in (
           x,
-          rw (kinds, h .2),
+          rw (kinds, h .2, h .3),
           log-exact-at R F ss sampled (FellDue (o .sample) x) .1 (record {
             before = t .before;
             call = t .call;
@@ -123,6 +123,7 @@ module _ (R : Rate) (F : Facts R) where
             m .rules .5 .0,
             (ap (λ (e : Control). e .candidate) c ∙ m .rules .5 .1, ap (λ (y : Shown). y .kind) (m .rules .5 .2) ∙ ap (λ (q : Offer). q .kind) same),
             ap (λ (y : Shown). y .«taken_at») (m .rules .5 .2) ∙ ap (λ (q : Offer). q .«taken_at») same,
+            ap (λ (y : Shown). y .gain) (m .rules .5 .2) ∙ ap (λ (q : Offer). q .gain) same,
           );
           number = m .rules .3 ∙ sym (ap (λ (e : Control). e .sample + 1) c);
         }

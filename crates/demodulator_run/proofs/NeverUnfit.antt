@@ -11,7 +11,7 @@ use lib.Ieee.{Float}
 use Rattle.machine.specs.Runs.{answers, Each}
 use Rattle.shaping.specs.Rate.{Rate}
 use Rattle.shaping.proofs.RateFacts.{Facts}
-use Rattle.protocol.specs.Refusals.{bare, placed}
+use Rattle.protocol.specs.Refusals.{bare, placed, atLine}
 use Rattle.search.specs.Turn.{Outcome, quiet, offer, sampled}
 use Rattle.search.proofs.AgeInPass.{by-test}
 use Rattle.demodulator.specs.Spans.{eight}
@@ -29,6 +29,7 @@ use Rattle.demodulator_run.proofs.ReceiverRun.{receiver-run}
 abbrev unfit : Paper → Bool
 unfit (refusal (bare number)) = eqb number 1 || eqb number 15
 unfit (refusal (placed number place)) = false
+unfit (refusal (atLine number line)) = false
 unfit nothing = false
 unfit (frame o) = false
 unfit done = false

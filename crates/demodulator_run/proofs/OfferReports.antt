@@ -168,16 +168,19 @@ module _ (R : Rate) (F : Facts R) (ss : List Single) (sampled : Each Callable ss
           window-same (R .p) (size-at R F .0) (back (R .p) (leftThen R then .demodulator)) (ago (R .taps) (R .p) xs)
           (subst (λ (zs : List ℤ). (i : ℕ) → i < 192 * R .p → back (R .p) (leftThen R then .demodulator) i ≡ ago (R .taps) (R .p) zs i) more (a .rings .ring)) x
 
+      gains : x .gain ≡ correlated R (take .moment) (o .kind) .gain
+      gains = ap (λ (y : Shown). y .gain) e ∙ ap (λ (m : Correlation). m .gain) values
+
       taken-by : OfferTaken R ss o
       taken-by = record {
         take = take;
+        gain = sym (ap (λ (q : Offer). q .gain) same) ∙ gains;
         moment = then;
         value = P .value;
         room = P .room;
         is-sample = refl;
         answer = ap (λ (q : Said). q .answer) said ∙ ap frame same;
         symbols =
-            let gains : x .gain ≡ correlated R (take .moment) (o .kind) .gain = ap (λ (y : Shown). y .gain) e ∙ ap (λ (m : Correlation). m .gain) values in
             let shifts : x .shift ≡ correlated R (take .moment) (o .kind) .shift = ap (λ (y : Shown). y .shift) e ∙ ap (λ (m : Correlation). m .shift) values in
             let reads : ℕ → Float = λ i. back (R .p) (leftThen R then .demodulator) (R .p * (191 - i)) in
             ap (λ (q : Said). q .room) said ∙ ap (λ (f : ℕ → Float). written f 192 (P .room)) (sym window)

@@ -71,7 +71,7 @@ module _ (R : Rate) where
   module _ (m : SoftDemodulator) (x : ℤ) (room : List Float) (o : Offer) where
     pub record Offers : Type 0 where
       pub last : m .control .wait ≡ lastSample (o .age) (o .replaced)
-      pub awaited : (held : TakenBurst) × HeldOf (o .kind) held (m .control .candidate) × (held .«taken_at» ≡ o .«taken_at»)
+      pub awaited : (held : TakenBurst) × HeldOf (o .kind) held (m .control .candidate) × (held .«taken_at» ≡ o .«taken_at») × (held .gain ≡ o .gain)
       pub number : o .sample ≡ m .control .sample + 1
 
     abbrev Out : Left → Type 0
@@ -90,11 +90,12 @@ module _ (R : Rate) where
         let one : f .0 .left ≡ 1 = omega (arith, w .from, f .2) in
         let kinds : f .3 .0 .kind ≡ o .kind = ap (λ (s : Shown). s .kind) (f .3 .2) ∙ ap (λ (q : Offer). q .kind) same in
         let numbers : f .3 .0 .«taken_at» ≡ o .«taken_at» = ap (λ (s : Shown). s .«taken_at») (f .3 .2) ∙ ap (λ (q : Offer). q .«taken_at») same in
+        let gains : f .3 .0 .gain ≡ o .gain = ap (λ (s : Shown). s .gain) (f .3 .2) ∙ ap (λ (q : Offer). q .gain) same in
         let ages : f .0 .age ≡ o .age = ap (λ (s : Shown). s .age) (f .3 .2) ∙ ap (λ (q : Offer). q .age) same in
         let marks : f .0 .replaced ≡ o .replaced = ap (λ (s : Shown). s .replaced) (f .3 .2) ∙ ap (λ (q : Offer). q .replaced) same in
         record {
           last = f .1 ∙ ap (λ (n : ℕ). Due (record { left = n; age = f .0 .age; replaced = f .0 .replaced })) one ∙ ap (λ (n : ℕ). lastSample n (f .0 .replaced)) ages ∙ ap (lastSample (o .age)) marks;
-          awaited = (f .3 .0, (f .3 .1, kinds), numbers);
+          awaited = (f .3 .0, (f .3 .1, kinds), numbers, gains);
           number = sym (ap (λ (q : Offer). q .sample) same) ∙ f .4;
         }
 
@@ -125,12 +126,13 @@ module _ (R : Rate) where
         let held : TakenBurst = f .awaited .0 in
         let kinds : f .awaited .0 .kind ≡ o .kind = f .awaited .1 .1 in
         let numbers : f .awaited .0 .«taken_at» ≡ o .«taken_at» = f .awaited .2 in
+        let gains : f .awaited .0 .gain ≡ o .gain = f .awaited .3 in
         let s = sampled-in (m .control) (f .last) (f .awaited .0) (f .awaited .1 .0) (eight (R .p) (back (R .p) (stored R m x))) in
         by-test In (not (fitForSample (R .p) m)) _ _ (λ _. not-in (unfitNumber m))
         (λ _. by-test In (m .control .owed) _ _ (λ _. not-in 2)
         (λ _. by-test In (ltb (length room) 192) _ _ (λ _. not-in 4)
         (λ _. by-test In (eqb (m .control .sample) (2 ^ 63)) _ _ (λ _. not-in 5)
-        (λ _ _. rw (s, kinds, numbers, sym (f .number))))))
+        (λ _ _. rw (s, kinds, numbers, gains, sym (f .number))))))
 
   -- ---- a single call
   -- only a sample brings an offer

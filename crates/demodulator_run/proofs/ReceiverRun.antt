@@ -29,13 +29,13 @@ module _ (R : Rate) (F : Facts R) where
   stands-after-call m h s (stretch xs room) g = same-stretch R F xs m h room g s .stands
 
   -- at the rate that it says
-  follows : Simulates SoftDemodulator History Call Told receiver (rules R) (Stands R F) Given
+  pub follows : Simulates SoftDemodulator History Call Told receiver (rules R) (Stands R F) Given
   follows = record {
     alike = λ m h s c g. subst (λ (Q : Rate). toldBy Q m c ≡ toldTo (R .taps) (R .p) h c) (sym (stands-own R F m h s)) (told-alike m h s c g);
     related = λ m h s c g. subst (λ (Q : Rate). Stands R F (recordNext Q m c) (historyNext (R .taps) (R .p) h c)) (sym (stands-own R F m h s)) (stands-after-call m h s c g);
   }
 
-  stands : (cs : List Call) → Each Given cs → Stands R F (run receiver (freshAt R) cs) (run (rules R) start cs)
+  pub stands : (cs : List Call) → Each Given cs → Stands R F (run receiver (freshAt R) cs) (run (rules R) start cs)
   stands cs g = runs-related follows cs g (freshAt R) start (stands-start R F)
 
   -- ---- demand 2
@@ -51,6 +51,9 @@ module _ (R : Rate) (F : Facts R) where
   pub fit-throughout : (cs : List Call) → Each Given cs → FitForAll (R .p) (run receiver (freshAt R) cs)
   fit-throughout cs g = stands-fit R F _ _ (stands cs g)
 
-  -- and so it answers any next call as the rules do
+  -- and so it answers all further calls as the rules do, and any next one
+  pub goes-on : (cs ds : List Call) → Each Given cs → Each Given ds → answers receiver (run receiver (freshAt R) cs) ds ≡ answers (rules R) (run (rules R) start cs) ds
+  goes-on cs ds g further = answers-alike follows ds further _ _ (stands cs g)
+
   pub next-call : (cs : List Call) → Each Given cs → (c : Call) → Given c → receiver .says (run receiver (freshAt R) cs) c ≡ toldTo (R .taps) (R .p) (run (rules R) start cs) c
   next-call cs g c = follows .alike _ _ (stands cs g) c

@@ -48,7 +48,7 @@ not-outgrown p before after young (inr o) = absurd (omega (arith, o .was))
 
 module _ (table : List Float) (p : ℕ) where
   -- an admitted sample's outcome, read as what is heard
-  settled-heard : (xs : List ℤ) (room : List Float) (o : Outcome) → settled table p xs room o .history ≡ record { samples = xs; control = controlOf o }
+  pub settled-heard : (xs : List ℤ) (room : List Float) (o : Outcome) → settled table p xs room o .history ≡ record { samples = xs; control = controlOf o }
   unfolding settled
   settled-heard xs room (quiet c) = refl
   settled-heard xs room (offer shown c) = refl

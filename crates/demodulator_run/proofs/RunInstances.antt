@@ -42,7 +42,7 @@ use Rattle.demodulator_run.proofs.Causal.{filtered-old}
 use Rattle.demodulator_run.proofs.InRange.{small-none, small-more, in-range}
 use Rattle.demodulator_run.proofs.Sixteen.{taps-size, taps-bounded}
 use Rattle.demodulator_run.proofs.RecordFit.{FitForAll}
-use Rattle.demodulator_run.proofs.ReceiverRun.{fit-throughout}
+use Rattle.demodulator_run.proofs.ReceiverRun.{fit-throughout, goes-on}
 use Rattle.demodulator_run.proofs.LayoutsAlike.{even-alike}
 use Rattle.demodulator_run.proofs.AsBefore.{as-before, as-before-fresh}
 use Rattle.demodulator_run.proofs.Refused.{refused-nothing}
@@ -137,6 +137,10 @@ mixed-age-24 = demand-three-24 mixed mixed-given .ages
 
 mixed-fit : FitForAll 10 (run receiver (freshAt at48) mixed)
 mixed-fit = fit-throughout at48 facts48 mixed mixed-given
+
+-- and the same calls once more are answered as the rules do
+mixed-goes-on : answers receiver (run receiver (freshAt at48) mixed) mixed ≡ answers (rules at48) (run (rules at48) start mixed) mixed
+mixed-goes-on = goes-on at48 facts48 mixed mixed mixed-given mixed-given
 
 -- a refused sample is not heard, nor a refused stretch
 mixed-unheard : historyNext taps 10 start (one (sample (pos 32767) [])) ≡ start

@@ -2,12 +2,15 @@
 use mathlib.Core.Path.{sym, subst}
 use mathlib.Core.Bool.{not}
 use mathlib.Core.List.{List, [], _∷_, _++_}
-use Prim.Native.Nat.{ℕ, _+_, _*_, _^_, _≤_}
+use Prim.Native.Nat.{ℕ, suc, _+_, _*_, _^_, _≤_}
 use native.Mathlib.Omega.{arith}
 use lib.Dec.{T, eqb, ltb}
 use lib.IntN.{ℤ}
 use lib.ListN.{length}
 use lib.Ieee.{Float}
+use mir.Syntax.{w16}
+use mir.Val.{SFits}
+use Rattle.numbers.specs.Sixteen.{AllSixteen}
 use Rattle.machine.specs.Runs.{run, Each}
 use Rattle.shaping.specs.Rate.{Rate, tapCount}
 use Rattle.shaping.proofs.RateFacts.{Facts}
@@ -36,6 +39,20 @@ pub sixteen-back : (xs ys : List ℤ) → Sixteen (xs ++ ys) → Sixteen ys
 unfolding Sixteen
 sixteen-back [] ys s = s
 sixteen-back (x ∷ xs) ys s = sixteen-back xs ys (s .1)
+
+-- by their places, as a lent slice has them
+pub each-sixteen : (xs : List ℤ) → AllSixteen xs → Each (SFits w16) xs
+unfolding Each
+each-sixteen [] s = tt
+each-sixteen (x ∷ xs) s = (s 0 (omega arith), each-sixteen xs (λ k l. s (suc k) (omega arith)))
+
+as-given : (xs : List ℤ) → Each (SFits w16) xs → Sixteen xs
+unfolding Each Sixteen
+as-given [] e = tt
+as-given (x ∷ xs) e = (e .0, as-given xs (e .1))
+
+pub sixteen-list : (xs : List ℤ) → AllSixteen xs → Sixteen xs
+sixteen-list xs s = as-given xs (each-sixteen xs s)
 
 -- ---- what a run accepts
 module _ (table : List Float) (p : ℕ) where

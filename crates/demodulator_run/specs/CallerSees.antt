@@ -55,7 +55,7 @@ pub record DueSeen (R : Rate) (ss : List Single) (o : Offer) : Type 0 where
   pub is-sample : moment .call ≡ sample value room
   -- which keeps the age at which it was set, and the mark
   pub last : controlAt R moment .wait ≡ lastSample (o .age) (o .replaced)
-  pub awaited : (t : TakenBurst) × HeldOf (o .kind) t (controlAt R moment .candidate) × (t .«taken_at» ≡ o .«taken_at»)
+  pub awaited : (t : TakenBurst) × HeldOf (o .kind) t (controlAt R moment .candidate) × (t .«taken_at» ≡ o .«taken_at») × (t .gain ≡ o .gain)
   pub number : o .sample ≡ controlAt R moment .sample + 1
 
 -- a frame is due at sample d

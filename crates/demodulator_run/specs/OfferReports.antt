@@ -92,9 +92,11 @@ pub record OfferAge (R : Rate) (ss : List Single) (o : Offer) (limit : ℕ) : Ty
       ((o .replaced ≡ false) × ((CornerSeen R wait × (o .«taken_at» + o .age ≡ wait .s + 1)) ⊎ ((CornerSeen R wait → ⊥) × (o .«taken_at» + o .age ≡ wait .s))))
       ⊎ ((o .replaced ≡ true) × (o .«taken_at» ≡ wait .s) × (wait .failed .«taken_at» + o .age ≡ wait .s))
 
--- ---- taken-at is a sample where that kind matched and was taken, and kind, gain and shift are that sample's: the symbols in the caller's room are made with them
+-- ---- taken-at is a sample where that kind matched and was taken, and kind, gain and shift are that sample's: the offer tells the gain, and the symbols in the caller's
+-- room are made with both
 pub record OfferTaken (R : Rate) (ss : List Single) (o : Offer) : Type 0 where
   pub take : TakeSeen R ss (o .kind) (o .«taken_at»)
+  pub gain : o .gain ≡ correlated R (take .moment) (o .kind) .gain
   pub moment : Moment ss
   pub value : ℤ
   pub room : List Float

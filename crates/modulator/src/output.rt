@@ -157,7 +157,7 @@ impl SoftModulator {
         }
         if !count_fit(samples_to_play) | !count_fit(capacity) | !count_fit(output_latency) {
             return AfterUpdate {
-                answer: Updated::Refused(Refusal::BufferTooLarge),
+                answer: Updated::Refused(Refusal::CountTooLarge),
                 modulator: self,
             };
         }

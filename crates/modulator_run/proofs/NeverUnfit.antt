@@ -7,7 +7,7 @@ use lib.Dec.{T, eqb}
 use Rattle.machine.specs.Runs.{answers, Each}
 use Rattle.shaping.specs.Rate.{Rate}
 use Rattle.shaping.proofs.RateFacts.{Facts}
-use Rattle.protocol.specs.Refusals.{PaperRefusal, bare, placed}
+use Rattle.protocol.specs.Refusals.{PaperRefusal, bare, placed, atLine}
 use Rattle.modulator.specs.Paper.{Paper, refusal, done, wrote, transmitEnd, readOutput, idle, getFrame, nothing}
 use Rattle.modulator_run.specs.Rules.{Call, Sent, Said, After, start, drained, called, rules}
 use Rattle.modulator_run.specs.Run.{answersTo, Given}
@@ -18,6 +18,7 @@ use Rattle.modulator_run.proofs.SenderRun.{sender-run}
 abbrev unfit : Paper → Bool
 unfit (refusal (bare number)) = eqb number 1 || eqb number 15
 unfit (refusal (placed number place)) = false
+unfit (refusal (atLine number line)) = false
 unfit done = false
 unfit (wrote n) = false
 unfit (transmitEnd n) = false

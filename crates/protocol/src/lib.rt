@@ -45,7 +45,8 @@ impl SyncBurst {
     }
 }
 
-// Why a call is refused, with the place of the symbol that is wrong. Nothing else is given then, and record and buffers are as they were.
+// Why a call is refused, with the place of the symbol that is wrong or the number of the bad line. Nothing else is given then, and record
+// and buffers are as they were.
 pub enum Refusal {
     RecordUnfit,
     ReplyOwed,
@@ -57,17 +58,26 @@ pub enum Refusal {
     SymbolInfinite(usize),
     SymbolAboveOne(usize),
     SymbolBelowMinusOne(usize),
-    BufferTooLarge,
+    CountTooLarge,
     CapacityBelowFill,
     ValueOutside,
     WrongBurst,
     WrongRate,
+    RecordingTooLong,
+    ListRoomTooSmall,
+    NoSuchSample,
+    TotalTooLarge,
+    BadLine(usize),
+    NoSuchSeat,
+    SeatClosed,
+    SeatOpen,
 }
 
-// What a refusal tells beside its number: nothing, or a place, counted from 0.
+// What a refusal tells beside its number: nothing, a symbol's place, counted from 0, or a line's number, counted from 1.
 pub enum Place {
     Nothing,
-    At(usize),
+    Symbol(usize),
+    Line(usize),
 }
 
 impl Refusal {
@@ -86,11 +96,19 @@ impl Refusal {
             Refusal::SymbolInfinite(_) => 72,
             Refusal::SymbolAboveOne(_) => 73,
             Refusal::SymbolBelowMinusOne(_) => 74,
-            Refusal::BufferTooLarge => 8,
+            Refusal::CountTooLarge => 8,
             Refusal::CapacityBelowFill => 9,
             Refusal::ValueOutside => 10,
             Refusal::WrongBurst => 11,
             Refusal::WrongRate => 15,
+            Refusal::RecordingTooLong => 12,
+            Refusal::ListRoomTooSmall => 13,
+            Refusal::NoSuchSample => 14,
+            Refusal::TotalTooLarge => 16,
+            Refusal::BadLine(_) => 17,
+            Refusal::NoSuchSeat => 18,
+            Refusal::SeatClosed => 19,
+            Refusal::SeatOpen => 20,
         }
     }
 
@@ -98,10 +116,11 @@ impl Refusal {
         ensures { λ r. ⌜ place-says self r ⌝ }
     {
         match self {
-            Refusal::SymbolNotANumber(place) => Place::At(place),
-            Refusal::SymbolInfinite(place) => Place::At(place),
-            Refusal::SymbolAboveOne(place) => Place::At(place),
-            Refusal::SymbolBelowMinusOne(place) => Place::At(place),
+            Refusal::SymbolNotANumber(place) => Place::Symbol(place),
+            Refusal::SymbolInfinite(place) => Place::Symbol(place),
+            Refusal::SymbolAboveOne(place) => Place::Symbol(place),
+            Refusal::SymbolBelowMinusOne(place) => Place::Symbol(place),
+            Refusal::BadLine(line) => Place::Line(line),
             _ => Place::Nothing,
         }
     }

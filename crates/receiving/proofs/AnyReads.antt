@@ -11,11 +11,12 @@ use lib.Seq.{take-take}
 use Rattle.machine.specs.Runs.{run, answers}
 use Rattle.machine.proofs.Parts.{run-joined}
 use Rattle.demodulator.specs.declared.SoftDemodulator.{SoftDemodulator}
+use Rattle.listening.specs.Listener.{listener, ownRecord}
+use Rattle.listening.specs.Verdict.{verdict}
 use Rattle.receiving.specs.declared.Odd.{Odd}
 use Rattle.receiving.specs.declared.Receiving.{Receiving}
 use Rattle.receiving.specs.Pairs.{samplesOf, oddOf, waiting}
-use Rattle.receiving.specs.Listener.{listener, ownRecord}
-use Rattle.receiving.specs.Text.{verdict, linesOf, textFrom}
+use Rattle.receiving.specs.Text.{linesOf, textFrom}
 use Rattle.receiving.specs.Hear.{mostSamples, looked, samplesIn, emptyTold}
 use Rattle.receiving.specs.Caller.{Read, Caller, input, given, intakeAt, after, callerAfter, textOf, consumedBy}
 use Rattle.receiving.proofs.BytePairs.{samples-joined, odd-joined, no-samples, odd-alone}

@@ -17,11 +17,12 @@ use Rattle.search.proofs.AgeInPass.{by-test}
 use Rattle.demodulator.specs.Calls.{Paper, isRefusal}
 use Rattle.demodulator.specs.Singles.{Single, Said}
 use Rattle.house.specs.Samples.{sampleOf}
+use Rattle.listening.specs.Listener.{listener}
+use Rattle.listening.specs.Verdict.{verdict}
 use Rattle.receiving.specs.declared.Odd.{Odd}
 use Rattle.receiving.specs.declared.Odd.the-variants.{Nothing, Held}
 use Rattle.receiving.specs.Pairs.{samplesOf, oddOf, waiting}
-use Rattle.receiving.specs.Listener.{listener}
-use Rattle.receiving.specs.Text.{verdict, textFrom, goIn, batchOf, toldTo}
+use Rattle.receiving.specs.Text.{textFrom, goIn, batchOf, toldTo}
 use Rattle.receiving.specs.Hear.{samplesIn, Intake, intakeOf}
 use Rattle.receiving.proofs.BytePairs.{no-samples, odd-alone}
 use Rattle.receiving.proofs.FedCount.{in-most, told-none}

@@ -12,9 +12,11 @@ use lib.ListN.{length, take}
 use Rattle.machine.specs.Runs.{Machine, run, answers, Each}
 use Rattle.search.proofs.AgeInPass.{by-test}
 use Rattle.demodulator.specs.Calls.{Paper, nothing, isRefusal}
-use Rattle.demodulator.specs.Singles.{Single, sample, Said}
-use Rattle.receiving.specs.Listener.{listedIn, blank, callsAt, listener}
-use Rattle.receiving.specs.Text.{verdict, linesOf, textFrom, goIn, Batch, batchOf, refusalIn, toldTo}
+use Rattle.demodulator.specs.Singles.{Single, sample, Said, blank}
+use Rattle.listening.specs.Listener.{listedIn, callsAt, listener}
+use Rattle.listening.specs.Verdict.{verdict}
+use Rattle.listening.proofs.OwedReply.{NotRefused}
+use Rattle.receiving.specs.Text.{linesOf, textFrom, goIn, Batch, batchOf, refusalIn, toldTo}
 use Rattle.receiving.proofs.Lines.{lines-joined, line-short}
 
 refusal-kept : (a : Paper) → isRefusal (refusalIn a) ≡ isRefusal a
@@ -58,9 +60,6 @@ told-some empty (a ∷ said) places enough e l =
     rw (le-ltb places 97 enough, fine) (omega arith)
 
 -- ---- where none is refused
-abbrev pub NotRefused : Said → Type 0
-NotRefused a = isRefusal (a .answer) ≡ false
-
 pub told-nothing : (said : List Said) → Each NotRefused said → toldTo nothing said ≡ nothing
 unfolding toldTo Each
 told-nothing [] e = refl

@@ -2,7 +2,7 @@
 -- Assumes nothing.
 use mathlib.Core.Path.{_≡_, refl, sym, ap, subst, _∙_}
 use mathlib.Core.Bool.{Bool, true, false, cond, false≢true}
-use mathlib.Core.List.{List, [], _∷_, _++_, map, flatMap}
+use mathlib.Core.List.{List, [], _∷_, flatMap}
 use Prim.Native.Nat.{ℕ, suc, _+_, _-_, _*_, _≤_}
 use native.Mathlib.Omega.{arith}
 use borrow.Author.Tests.{ne-eqb}
@@ -15,29 +15,25 @@ use Rattle.shaping.specs.Rate.{Rate, rateOf}
 use Rattle.protocol.specs.Refusals.{bare}
 use Rattle.demodulator.specs.declared.SoftDemodulator.{SoftDemodulator}
 use Rattle.demodulator.specs.declared.Offer.{Offer}
-use Rattle.demodulator.specs.Calls.{Paper, refusal, nothing, frame, isRefusal, Left, refused, demodulated}
-use Rattle.demodulator.specs.Singles.{sample, leftAt}
+use Rattle.demodulator.specs.Calls.{Paper, refusal, nothing, frame, isRefusal, Left, refused}
+use Rattle.demodulator.specs.Singles.{leftAt, blank}
 use Rattle.demodulator.specs.Feed.{Stretch, stopsBefore, fedFrom}
 use Rattle.demodulator.proofs.FeedSteps.{restFrom}
 use Rattle.demodulator_laws.proofs.SampleComes.{Comes, silent, offering, stuck, comes, fed-silent, fed-offering, fed-stuck}
-use Rattle.demodulator_run.proofs.Refused.{rate-kept}
-use Rattle.receiving.specs.Listener.{listedOf, blank, replyTo, listener, offers, ownRecord}
-use Rattle.receiving.specs.Text.{verdict, linesOf, textFrom, goIn, Batch, refusalIn, toldTo}
+use Rattle.listening.specs.Listener.{listedOf, listener, ownRecord}
+use Rattle.listening.specs.Verdict.{verdict}
+use Rattle.listening.specs.Listen.{isOffer, leftByStretch}
+use Rattle.listening.proofs.FirstSample.{leftBySample, afterReply, same-rate, RefusesAll, offers-stuck}
+use Rattle.listening.proofs.Stretches.{stops-none, stops-offer}
+use Rattle.receiving.specs.Text.{linesOf, textFrom, goIn, Batch, refusalIn, toldTo}
 use Rattle.receiving.specs.Hear.{emptyTold}
-use Rattle.receiving.specs.Parts.{isOffer, lineOfStretch, leftByStretch, recordTold, recordBatch}
+use Rattle.receiving.specs.Parts.{lineOfStretch, recordTold, recordBatch}
 use Rattle.receiving.proofs.Lines.{line-short}
 use Rattle.receiving.proofs.FedCount.{told-none, none, ahead, ahead-ahead, batch-none, batch-first}
 
 -- ---- a list from its first sample on
--- what a sample comes to, at the rate that the record says
-abbrev pub leftBySample : SoftDemodulator → ℤ → Left
-leftBySample m x = demodulated (rateOf (m .rate)) m x blank
-
 abbrev pub lineAfter : Left → List ℕ
 lineAfter l = linesOf (listedOf verdict (l .answer) (l .room))
-
-abbrev pub afterReply : Left → SoftDemodulator
-afterReply l = run ownRecord (l .demodulator) (map replyTo (listedOf verdict (l .answer) (l .room)))
 
 module _ (m : SoftDemodulator) (x : ℤ) (xs : List ℤ) (l : Left) (e : leftBySample m x ≡ l) where
   pub batch-at : (places : ℕ) → 97 ≤ places → isRefusal (l .answer) ≡ false → recordBatch m (x ∷ xs) places ≡ ahead 1 (lineAfter l) (recordBatch (afterReply l) xs (places - length (lineAfter l)))
@@ -51,9 +47,6 @@ module _ (m : SoftDemodulator) (x : ℤ) (xs : List ℤ) (l : Left) (e : leftByS
   told-at = ap (λ (k : Left). refusalIn (k .answer)) e
 
 -- ---- a record that refuses each sample
-abbrev pub RefusesAll : ℕ → SoftDemodulator → Type 0
-RefusesAll number m = (y : ℤ) → leftBySample m y ≡ refused number m blank
-
 module _ (number : ℕ) (m : SoftDemodulator) (s : RefusesAll number m) where
   stuck-in : (xs : List ℤ) (places : ℕ) → goIn (answers (listener ownRecord verdict) m xs) places ≡ 0
   unfolding answers goIn
@@ -63,28 +56,12 @@ module _ (number : ℕ) (m : SoftDemodulator) (s : RefusesAll number m) where
   pub stuck-batch : (xs : List ℤ) (places : ℕ) → recordBatch m xs places ≡ none m
   stuck-batch xs places = batch-none ownRecord m xs places (stuck-in xs places)
 
-  pub stuck-after : (xs : List ℤ) → run (listener ownRecord verdict) m xs ≡ m
-  unfolding run leftAt listedOf
-  stuck-after [] = refl
-  stuck-after (x ∷ xs) = ap (λ (k : Left). run (listener ownRecord verdict) (afterReply k) xs) (s x) ∙ stuck-after xs
-
   pub stuck-text : (xs : List ℤ) → textFrom ownRecord m xs ≡ []
-  unfolding run answers leftAt listedOf linesOf flatMap
-  stuck-text [] = refl
-  stuck-text (x ∷ xs) = ap (λ (k : Left). linesOf (listedOf verdict (k .answer) (k .room) ++ offers ownRecord verdict (afterReply k) xs)) (s x) ∙ stuck-text xs
+  unfolding linesOf flatMap
+  stuck-text xs = ap linesOf (offers-stuck number m s xs)
 
--- ---- where a stretch stops before a sample: no offer, and the refusal only at its start
+-- ---- where a stretch stops before a sample: the refusal only at its start
 module _ (number : ℕ) where
-  stops-none : (window : List Float) (b : Bool) → listedOf verdict (cond b (refusal (bare number)) nothing) window ≡ []
-  unfolding listedOf
-  stops-none window true = refl
-  stops-none window false = refl
-
-  stops-offer : (b : Bool) → isOffer (cond b (refusal (bare number)) nothing) ≡ false
-  unfolding isOffer
-  stops-offer true = refl
-  stops-offer false = refl
-
   stops-told : (b : Bool) → cond b (refusal (bare number)) nothing ≡ refusalIn (cond b (refusal (bare number)) nothing)
   stops-told true = refl
   stops-told false = refl
@@ -166,15 +143,10 @@ module _ (n : ℕ) (m : SoftDemodulator) (x : ℤ) (xs : List ℤ) (places : ℕ
         told = λ _. ap (λ (a : Paper). cond (eqb n 0) a nothing) (told-at m x xs (refused number m blank) (all x)) ∙ stops-told number (eqb n 0);
       }
 
-  -- the rest goes on at the same rate
-  kept : (l : Left) → leftBySample m x ≡ l → l .demodulator .rate ≡ m .rate
-  unfolding leftAt
-  kept l e = ap (λ (k : Left). k .demodulator .rate) (sym e) ∙ rate-kept R m (sample x blank)
-
   goes-by : ((m′ : SoftDemodulator) → m′ .rate ≡ m .rate → Goes (n + 1) m′ xs places (restFrom R (n + 1) m′ xs blank))
       → Comes m blank (leftBySample m) (leftBySample m x)
       → Here (restFrom R n m (x ∷ xs) blank)
-  goes-by rest (silent m′ e) = subst Here (sym (fed-silent R m x xs blank n m′ e)) (goes-silent m′ (rest m′ (kept _ e)) e)
+  goes-by rest (silent m′ e) = subst Here (sym (fed-silent R m x xs blank n m′ e)) (goes-silent m′ (rest m′ (same-rate m x _ e)) e)
   goes-by rest (offering o m′ window e) = subst Here (sym (fed-offering R m x xs blank n o m′ window e)) (goes-offering o m′ window e)
   goes-by rest (stuck number e all) = subst Here (sym (fed-stuck R m x xs blank n number e)) (goes-stuck number all)
 

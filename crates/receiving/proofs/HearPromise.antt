@@ -15,6 +15,7 @@ use Rattle.search.proofs.AgeInPass.{by-test}
 use Rattle.demodulator.specs.declared.SoftDemodulator.{SoftDemodulator}
 use Rattle.demodulator.specs.Calls.{isRefusal}
 use Rattle.demodulator_laws.proofs.SampleFits.{either}
+use Rattle.listening.specs.Listener.{ownRecord}
 use Rattle.receiving.specs.declared.Odd.{Odd}
 use Rattle.receiving.specs.declared.Receiving.{Receiving}
 use Rattle.receiving.specs.declared.Receipt.{Receipt}
@@ -24,7 +25,6 @@ use Rattle.receiving.specs.declared.pairs.Paired.{Paired}
 use Rattle.receiving.specs.declared.pairs.Part.{Part}
 use Rattle.receiving.specs.declared.windows.AfterSamples.{AfterSamples}
 use Rattle.receiving.specs.Pairs.{oddOf, waiting}
-use Rattle.receiving.specs.Listener.{ownRecord}
 use Rattle.receiving.specs.Text.{Batch, batchOf}
 use Rattle.receiving.specs.Hear.{mostSamples, looked, samplesIn, consumedOf, intakeOf, emptyTold, recordIntake, receiptPaper, hear-says}
 use Rattle.receiving.specs.Parts.{isAdmitted, looksAt, PairsUp, ConsumesPart, recordTold, recordBatch, HearsAll}

@@ -13,14 +13,15 @@ use Rattle.demodulator.specs.Record.{fresh}
 use Rattle.demodulator.specs.Calls.{nothing}
 use Rattle.demodulator_run.specs.Rules.{start}
 use Rattle.house.specs.Samples.{numberOf, sampleOf}
+use Rattle.listening.specs.Listener.{listener, offers, ownRecord}
+use Rattle.listening.specs.Verdict.{verdict}
+use Rattle.listening.specs.Rules.{rulesAt}
+use Rattle.listening.proofs.Agreement.{same-offers}
 use Rattle.receiving.specs.declared.Odd.the-variants.{Held}
 use Rattle.receiving.specs.Pairs.{samplesOf, oddOf}
-use Rattle.receiving.specs.Listener.{listener, offers, ownRecord}
-use Rattle.receiving.specs.Text.{verdict}
 use Rattle.receiving.specs.Hear.{looked}
 use Rattle.receiving.specs.Caller.{Bytes, Read, Short, freshCaller, input, given, intakeAt, callerAfter, textOf, consumedBy}
-use Rattle.receiving.specs.Rules.{rulesAt, rules48, rulesIntake, receivedText}
-use Rattle.receiving.proofs.Agreement.{same-offers}
+use Rattle.receiving.specs.Rules.{rules48, rulesIntake, receivedText}
 use Rattle.receiving.proofs.NextCall.{bytes-fit, SameIntake, hear-run, next-taken}
 use Rattle.receiving.proofs.ReceiveRun.{Receives, ReceivesWhole, receive-run, receive-whole, all-taken, sizes-alike, output-prefix, failed-write}
 

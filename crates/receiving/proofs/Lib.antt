@@ -1,6 +1,4 @@
 -- The laws of receiving.
--- the list of offers
-pub mod Listener
 -- bytes in pairs
 pub mod BytePairs
 -- lines in a room
@@ -9,7 +7,7 @@ pub mod Lines
 pub mod FedCount
 -- a stretch of samples
 pub mod FedStretch
--- an offer, a stretch and an empty call as the code settles them
+-- a stretch and an empty call as the code settles them
 pub mod Settlement
 -- all samples, stretch by stretch
 pub mod Progress
@@ -23,10 +21,6 @@ pub mod RefusedHear
 pub mod AnyReads
 -- reads of the program's sizes
 pub mod WholeReads
--- the record and the rules
-pub mod Agreement
--- no reply is owed between samples
-pub mod OwedReply
 -- the next call, by the rules
 pub mod NextCall
 -- the whole input

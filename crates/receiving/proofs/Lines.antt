@@ -17,9 +17,10 @@ use Rattle.search.specs.declared.Reply.the-variants.{Accepted, Rejected}
 use Rattle.demodulator.specs.Calls.{Paper, refusal, nothing, frame, done, carrier}
 use Rattle.demodulator.specs.Singles.{Single, Said}
 use Rattle.house.specs.Line.{lineOf}
-use Rattle.receiving.specs.Listener.{Listed, listedOf, listener, offers}
-use Rattle.receiving.specs.Text.{verdict, ifAccepted, linesOf, textFrom}
-use Rattle.receiving.proofs.Listener.{offers-joined}
+use Rattle.listening.specs.Listener.{Listed, listedOf, listener, offers}
+use Rattle.listening.specs.Verdict.{verdict}
+use Rattle.listening.proofs.Listener.{offers-joined}
+use Rattle.receiving.specs.Text.{ifAccepted, linesOf, textFrom}
 
 -- ---- a line
 pub length-line : (window : List Float) → length (lineOf window) ≡ 97

@@ -1,6 +1,6 @@
 -- The next call after any reads since a fresh start: it is answered as the rules say, and leaves what they say. Assumes nothing.
 use mathlib.Core.Path.{_≡_, sym, ap, subst, _∙_}
-use mathlib.Core.Bool.{cond}
+use mathlib.Core.Bool.{true, cond}
 use mathlib.Core.List.{List, [], _∷_, _++_, append-assoc}
 use Prim.Native.Nat.{ℕ, _+_, _*_, _^_, _≤_}
 use native.Mathlib.Omega.{arith}
@@ -14,30 +14,32 @@ use mir.Val.{SFits}
 use Rattle.machine.specs.Runs.{run, answers, Each}
 use Rattle.machine.proofs.Parts.{answers-long, each-front, each-back}
 use Rattle.machine.proofs.Simulation.{runs-related, answers-alike}
-use Rattle.shaping.specs.Rate.{at48}
+use Rattle.shaping.specs.Rate.{Rate, rateOf, at48}
 use Rattle.shaping.proofs.RateFacts.{facts48}
 use Rattle.demodulator.specs.declared.SoftDemodulator.{SoftDemodulator}
 use Rattle.demodulator.specs.Record.{fresh}
+use Rattle.demodulator.specs.Fit.{recordFit}
 use Rattle.demodulator.specs.Calls.{nothing}
 use Rattle.demodulator.specs.Singles.{Said}
 use Rattle.demodulator_run.specs.Rules.{History, start}
 use Rattle.demodulator_run.specs.Represents.{Represents}
-use Rattle.demodulator_run.proofs.Whole.{Stands, stands-start}
+use Rattle.demodulator_run.proofs.Whole.{Stands, stands-fit, stands-own, stands-start}
 use Rattle.house.proofs.Samples.{sample-fits}
+use Rattle.listening.specs.Listener.{listener, ownRecord}
+use Rattle.listening.specs.Verdict.{verdict}
+use Rattle.listening.proofs.Agreement.{listens, offers-agree}
+use Rattle.listening.proofs.OwedReply.{NotRefused, untroubled, between-start}
 use Rattle.receiving.specs.declared.Odd.{Odd}
 use Rattle.receiving.specs.declared.Receiving.{Receiving}
 use Rattle.receiving.specs.Pairs.{samplesOf, oddOf, waiting}
-use Rattle.receiving.specs.Listener.{listener, ownRecord}
-use Rattle.receiving.specs.Text.{verdict, linesOf, textFrom, goIn, batchOf, toldTo}
+use Rattle.receiving.specs.Text.{linesOf, textFrom, goIn, batchOf, toldTo}
 use Rattle.receiving.specs.Hear.{mostSamples, looked, samplesIn, consumedOf, Intake, intakeOf, emptyTold}
 use Rattle.receiving.specs.Caller.{Bytes, Read, Caller, freshCaller, input, given, intakeAt, callerAfter, consumedBy}
 use Rattle.receiving.specs.Rules.{rules48, rulesIntake}
 use Rattle.receiving.proofs.BytePairs.{samples-joined}
-use Rattle.receiving.proofs.FedCount.{NotRefused, told-nothing, all-in}
+use Rattle.receiving.proofs.FedCount.{told-nothing, all-in}
 use Rattle.receiving.proofs.AnyReads.{samples-cut, any-reads}
 use Rattle.receiving.proofs.WholeReads.{few-samples, looked-all}
-use Rattle.receiving.proofs.Agreement.{empty-alike, listens, offers-agree}
-use Rattle.receiving.proofs.OwedReply.{untroubled, between-start}
 
 -- ---- bytes make samples that a caller can give
 abbrev pub SixteenBits : List ℤ → Type 0
@@ -50,6 +52,13 @@ bytes-fit (x ∷ []) b = tt
 bytes-fit (low ∷ high ∷ bytes) b = (sfits-of (sample-fits low high (b .0) (b .1 .0)), bytes-fit bytes (b .1 .1))
 
 -- ---- a call of the record and one of the rules
+-- a call with no sample is not refused
+empty-alike : (m : SoftDemodulator) (h : History) → Stands at48 facts48 m h → emptyTold m ≡ nothing
+empty-alike m h s =
+    let fit : recordFit (rateOf (m .rate) .p) m ≡ true =
+    subst (λ (Q : Rate). recordFit (Q .p) m ≡ true) (sym (stands-own at48 facts48 m h s)) (stands-fit at48 facts48 m h s .for-query) in
+    rw fit
+
 pub record SameIntake (f : Intake SoftDemodulator) (g : Intake History) : Type 0 where
   pub answers : f .answer ≡ g .answer
   pub consumes : f .consumed ≡ g .consumed
@@ -64,7 +73,7 @@ unfolding intakeOf batchOf
 same-intake m h odd bytes places s g =
     let xs : List ℤ = samplesIn odd bytes in
     let said = answers-alike (listens at48 facts48 verdict) xs g m h s in
-    let empty = empty-alike at48 facts48 m h s in
+    let empty = empty-alike m h s in
     let n : ℕ = goIn (answers (listener ownRecord verdict) m xs) places in
     let front = each-front (SFits w16) (take n xs) (drop n xs) (subst SixteenBits (sym (take-append-drop n xs)) g) in
     let counted = ap (λ (l : List Said). goIn l places) said in

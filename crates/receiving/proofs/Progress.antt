@@ -17,14 +17,16 @@ use Rattle.shaping.specs.Rate.{rateOf}
 use Rattle.demodulator.specs.declared.SoftDemodulator.{SoftDemodulator}
 use Rattle.demodulator.specs.Calls.{Paper, refusal, nothing, frame, done, carrier, heardPaper}
 use Rattle.demodulator.specs.Feed.{fedInto, Stretch as FedStretch}
+use Rattle.demodulator.specs.Singles.{blank}
 use Rattle.demodulator.proofs.FeedSteps.{fed-some}
+use Rattle.listening.specs.Listener.{ownRecord}
+use Rattle.listening.specs.Listen.{isOffer, leftByStretch}
 use Rattle.receiving.specs.declared.Receipt.{Receipt}
 use Rattle.receiving.specs.declared.Receipt.the-variants.{Admitted}
 use Rattle.receiving.specs.declared.windows.Stretch.{Stretch}
-use Rattle.receiving.specs.Listener.{blank, ownRecord}
 use Rattle.receiving.specs.Text.{goIn, Batch, refusalIn}
 use Rattle.receiving.specs.Hear.{receiptPaper}
-use Rattle.receiving.specs.Parts.{isOffer, refusedAfter, inFront, lineOfStretch, leftByStretch, HearsStretch, recordTold, recordBatch, HearsAll}
+use Rattle.receiving.specs.Parts.{refusedAfter, inFront, lineOfStretch, HearsStretch, recordTold, recordBatch, HearsAll}
 use Rattle.receiving.proofs.Lines.{line-short, tail-back}
 use Rattle.receiving.proofs.FedCount.{cramped-in, none, ahead, ahead-ahead, batch-none}
 use Rattle.receiving.proofs.FedStretch.{Goes, stretch-goes, restOf, either-way}

@@ -21,19 +21,21 @@ use Rattle.demodulator.specs.Singles.{reply, Said}
 use Rattle.demodulator_run.specs.Rules.{History, After, start, answered, single, saidAll}
 use Rattle.demodulator_run.specs.Represents.{Represents}
 use Rattle.demodulator_run.proofs.Whole.{stands-start}
+use Rattle.listening.specs.Listener.{Rule, listedOf, listedIn, listener, calls, ownRecord}
+use Rattle.listening.specs.Verdict.{verdict}
+use Rattle.listening.specs.Rules.{rulesAt}
+use Rattle.listening.proofs.Listener.{calls-offers}
+use Rattle.listening.proofs.Agreement.{listens, same-offers}
 use Rattle.receiving.specs.declared.Receiving.{Receiving}
 use Rattle.receiving.specs.Pairs.{samplesOf, oddOf, waiting}
-use Rattle.receiving.specs.Listener.{Rule, listedOf, listedIn, listener, calls, ownRecord}
-use Rattle.receiving.specs.Text.{verdict, linesOf, textFrom}
+use Rattle.receiving.specs.Text.{linesOf, textFrom}
 use Rattle.receiving.specs.Hear.{mostSamples}
 use Rattle.receiving.specs.Caller.{Bytes, Read, Caller, Short, freshCaller, input, given, intakeAt, calling, callerAfter, textOf, consumedBy}
-use Rattle.receiving.specs.Rules.{rulesAt, rules48, receivedText}
-use Rattle.receiving.proofs.Listener.{calls-offers}
+use Rattle.receiving.specs.Rules.{rules48, receivedText}
 use Rattle.receiving.proofs.BytePairs.{samples-joined}
 use Rattle.receiving.proofs.Lines.{text-joined}
 use Rattle.receiving.proofs.AnyReads.{any-reads}
 use Rattle.receiving.proofs.WholeReads.{whole-reads}
-use Rattle.receiving.proofs.Agreement.{listens, same-offers}
 use Rattle.receiving.proofs.NextCall.{SixteenBits, bytes-fit, next-taken}
 
 abbrev rulesListener : Machine History ℤ Said

@@ -21,15 +21,17 @@ use Rattle.demodulator.specs.declared.SoftDemodulator.{SoftDemodulator}
 use Rattle.demodulator.specs.Record.{freshControl, fresh, withControl}
 use Rattle.demodulator.specs.Fit.{halvesAgree, ringsFit, recordFit, fitForSample}
 use Rattle.demodulator.specs.Calls.{refusal, nothing, refused}
+use Rattle.demodulator.specs.Singles.{blank}
 use Rattle.demodulator.proofs.CallCases.{sample-unfit, sample-last}
+use Rattle.listening.specs.Listener.{ownRecord}
+use Rattle.listening.proofs.FirstSample.{RefusesAll}
 use Rattle.receiving.specs.declared.Odd.the-variants.{Nothing, Held}
 use Rattle.receiving.specs.declared.Receiving.{Receiving}
 use Rattle.receiving.specs.declared.Receipt.the-variants.{Refused}
 use Rattle.receiving.specs.Pairs.{samplesOf, oddOf}
-use Rattle.receiving.specs.Listener.{blank, ownRecord}
 use Rattle.receiving.specs.Text.{linesOf, textFrom, goIn, batchOf, toldTo}
 use Rattle.receiving.specs.Hear.{Intake, intakeOf, emptyTold, recordIntake, freshReceiving}
-use Rattle.receiving.proofs.FedStretch.{RefusesAll, told-at, stuck-text}
+use Rattle.receiving.proofs.FedStretch.{told-at, stuck-text}
 use Rattle.receiving.proofs.RefusedHear.{Unmoved, refused-hear, refused-says, other-rate, takes-some}
 
 abbrev line : List ℕ

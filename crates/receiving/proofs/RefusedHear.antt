@@ -18,14 +18,15 @@ use Rattle.search.proofs.AgeInPass.{by-test}
 use Rattle.demodulator.specs.declared.SoftDemodulator.{SoftDemodulator}
 use Rattle.demodulator.specs.Fit.{recordFit}
 use Rattle.demodulator.specs.Calls.{Paper, refusal, isRefusal, refused}
-use Rattle.demodulator.specs.Singles.{Single, Said}
+use Rattle.demodulator.specs.Singles.{Single, Said, blank}
 use Rattle.demodulator.proofs.CallCases.{sample-other-rate}
+use Rattle.listening.specs.Listener.{listener, ownRecord}
+use Rattle.listening.specs.Verdict.{verdict}
 use Rattle.receiving.specs.declared.Odd.{Odd}
 use Rattle.receiving.specs.declared.Receiving.{Receiving}
 use Rattle.receiving.specs.declared.Receipt.the-variants.{Refused}
 use Rattle.receiving.specs.declared.AfterBytes.{AfterBytes}
-use Rattle.receiving.specs.Listener.{blank, listener, ownRecord}
-use Rattle.receiving.specs.Text.{verdict, linesOf, goIn, batchOf, toldTo}
+use Rattle.receiving.specs.Text.{linesOf, goIn, batchOf, toldTo}
 use Rattle.receiving.specs.Hear.{looked, samplesIn, Intake, intakeOf, emptyTold, recordIntake, receiptPaper, hear-says}
 use Rattle.receiving.specs.Parts.{recordTold}
 use Rattle.receiving.proofs.BytePairs.{odd-alone, one-waits}

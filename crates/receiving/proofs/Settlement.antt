@@ -1,7 +1,7 @@
--- An offer, a stretch, and a call that gives no sample, as the code settles them. Assumes nothing.
-use mathlib.Core.Path.{_≡_, refl, _∙_}
-use mathlib.Core.Bool.{Bool, true, false, not, cond}
-use mathlib.Core.List.{List, [], _∷_, _++_, map, flatMap}
+-- A stretch with its line, and a call that gives no sample, as the code settles them. Assumes nothing.
+use mathlib.Core.Path.{_≡_, refl, ap, _∙_}
+use mathlib.Core.Bool.{Bool, true, false, cond, false≢true, true≢false}
+use mathlib.Core.List.{List, [], _∷_, _++_, append-nil, flatMap}
 use Prim.Native.Nat.{ℕ}
 use native.Mathlib.Omega.{arith}
 use lib.IntN.{ℤ}
@@ -9,99 +9,88 @@ use lib.ListN.{length, drop}
 use lib.Ieee.{Float}
 use Rattle.machine.specs.Runs.{run, answers}
 use Rattle.shaping.specs.Rate.{samplesIn}
-use Rattle.protocol.specs.declared.Kind.{Kind}
-use Rattle.protocol.specs.declared.Refusal.{Refusal}
 use Rattle.protocol.specs.Refusals.{bare}
+use Rattle.search.specs.declared.Reply.{Reply}
 use Rattle.search.specs.declared.Reply.the-variants.{Accepted, Rejected}
 use Rattle.demodulator.specs.declared.SoftDemodulator.{SoftDemodulator}
-use Rattle.demodulator.specs.declared.Heard.the-variants.{Refused, Quiet, Offered}
-use Rattle.demodulator.specs.declared.Offer.{Offer}
-use Rattle.demodulator.specs.declared.AfterStretch.{AfterStretch}
 use Rattle.demodulator.specs.Fit.{unfitNumber, recordFit}
-use Rattle.demodulator.specs.Calls.{Paper, refusal, nothing, carrier, heardPaper, answered, timerHeld, detected}
-use Rattle.demodulator.specs.Singles.{leftAt}
-use Rattle.demodulator.specs.Feed.{feed-says}
+use Rattle.demodulator.specs.Calls.{Paper, refusal, nothing, frame, done, carrier}
+use Rattle.demodulator.specs.Feed.{fed}
 use Rattle.house.specs.Line.{lineOf}
-use Rattle.house.specs.Accept.{accepted, symbolAt}
+use Rattle.listening.specs.declared.Settled.{Settled}
+use Rattle.listening.specs.declared.Settled.the-variants.{Nothing, By}
+use Rattle.listening.specs.declared.Listened.{Listened}
+use Rattle.listening.specs.Listener.{listedOf}
+use Rattle.listening.specs.Verdict.{verdict}
+use Rattle.listening.specs.Listen.{stretchOf, repliesIn, settledPaper, listen-says}
 use Rattle.receiving.specs.declared.Receipt.{Receipt}
-use Rattle.receiving.specs.declared.windows.Settled.{Settled}
-use Rattle.receiving.specs.declared.windows.Stretch.{Stretch}
-use Rattle.receiving.specs.Listener.{listedOf, blank, replyTo, ownRecord}
-use Rattle.receiving.specs.Text.{verdict, ifAccepted, linesOf, goIn, batchOf, refusalIn, toldTo}
+use Rattle.receiving.specs.Text.{ifAccepted, linesOf, goIn, batchOf, refusalIn, toldTo}
 use Rattle.receiving.specs.Hear.{receiptPaper}
-use Rattle.receiving.specs.Parts.{inFront, Settles, HearsStretch, recordTold, HearsAll}
-use Rattle.receiving.proofs.Lines.{length-line, line-alone}
+use Rattle.receiving.specs.Parts.{inFront, isAccepted, lineFor, PutsLine, lineOfStretch, HearsStretch, HearsAll}
+use Rattle.receiving.proofs.Lines.{length-line}
 
--- ---- an offer
-module _ (m : SoftDemodulator) (kind : Kind) (window : List Float) (room : List ℕ) (next : SoftDemodulator) where
-  pub settles-accepted : (after : List ℕ) → accepted kind (symbolAt window) ≡ true
-      → next ≡ answered (samplesIn (m .rate)) m Accepted [] .demodulator → after ≡ lineOf window ++ drop 97 room
-      → Settles m kind window room (record { written = 97; demodulator = next }) after
-  unfolding verdict ifAccepted
-  settles-accepted after good l w = record {
-    counts = rw (good, length-line window) refl;
-    leaves = rw good l;
-    writes = rw (good, length-line window) w;
-  }
+-- ---- an offer: its line by what it was settled with
+module _ (window : List Float) where
+  line-accepted : (s : Settled) → isAccepted s ≡ true → lineFor s window ≡ lineOf window
+  unfolding ifAccepted flatMap
+  line-accepted Nothing e = absurd (false≢true e)
+  line-accepted (By Accepted) e = append-nil (lineOf window)
+  line-accepted (By Rejected) e = absurd (false≢true e)
 
-  pub settles-rejected : accepted kind (symbolAt window) ≡ false
-      → next ≡ answered (samplesIn (m .rate)) m Rejected [] .demodulator
-      → Settles m kind window room (record { written = 0; demodulator = next }) room
-  unfolding verdict ifAccepted
-  settles-rejected bad l = record {
-    counts = rw bad refl;
-    leaves = rw bad l;
-    writes = rw bad refl;
-  }
+  line-none : (s : Settled) → isAccepted s ≡ false → lineFor s window ≡ []
+  unfolding ifAccepted flatMap
+  line-none Nothing e = refl
+  line-none (By Accepted) e = absurd (true≢false e)
+  line-none (By Rejected) e = refl
+
+  module _ (s : Settled) (room : List ℕ) where
+    pub puts-accepted : (after : List ℕ) → isAccepted s ≡ true → after ≡ lineOf window ++ drop 97 room → PutsLine s window room 97 after
+    puts-accepted after good w = record {
+      counts = rw (line-accepted s good, length-line window) refl;
+      writes = rw (line-accepted s good, length-line window) w;
+    }
+
+    pub puts-nothing : isAccepted s ≡ false → PutsLine s window room 0 room
+    puts-nothing bad = record { counts = rw (line-none s bad) refl; writes = rw (line-none s bad) refl }
 
 -- ---- a stretch
--- its answer and room, in the promise's words
-module _ (m : SoftDemodulator) (xs : List ℤ) (room : List ℕ) (r : AfterStretch) (window : List Float) (says : feed-says m xs blank r window) where
-  abbrev line : Paper → List ℕ
-  line a = linesOf (listedOf verdict a window)
+-- the line by the replies is the line by the list
+line-listed : (a : Paper) (window : List Float) → flatMap (λ (reply : Reply). ifAccepted reply (lineOf window)) (repliesIn (listedOf verdict a window)) ≡ linesOf (listedOf verdict a window)
+unfolding listedOf linesOf flatMap
+line-listed (frame o) window = refl
+line-listed (refusal number) window = refl
+line-listed nothing window = refl
+line-listed done window = refl
+line-listed (carrier there) window = refl
 
-  abbrev settled : Paper → SoftDemodulator
-  settled a = run ownRecord (r .demodulator) (map replyTo (listedOf verdict a window))
+module _ (m : SoftDemodulator) (xs : List ℤ) (r : Listened) (says : listen-says m xs r) where
+  line-heard : lineFor (r .settled) (r .window) ≡ lineOfStretch (stretchOf m xs)
+  line-heard = rw (says .settles, says .shows) (line-listed (stretchOf m xs .answer) (stretchOf m xs .room))
 
-  in-words : (a : Paper) → heardPaper (r .answer) ≡ a → (written : ℕ) (next : SoftDemodulator) (after : List ℕ) → written ≡ length (line a) → next ≡ settled a → after ≡ inFront (line a) room
-      → HearsStretch m xs room (record { answer = r .answer; fed = r .fed; written = written; demodulator = next }) after
-  in-words a e written next after c l w = record {
+  pub hears-stretch : (room : List ℕ) (written : ℕ) (after : List ℕ) → PutsLine (r .settled) (r .window) room written after
+      → HearsStretch m xs room (record { answer = r .answer; fed = r .fed; written = written; demodulator = r .demodulator }) after
+  hears-stretch room written after puts = record {
     answers = says .answers;
-    feeds = says .counts;
-    counts = c ∙ rw (← e, says .answers, says .writes);
-    leaves = l ∙ rw (← e, says .answers, says .leaves, says .writes);
-    writes = w ∙ rw (← e, says .answers, says .writes);
+    feeds = says .feeds;
+    counts = puts .counts ∙ ap length line-heard;
+    leaves = says .leaves;
+    writes = puts .writes ∙ ap (λ (l : List ℕ). inFront l room) line-heard;
   }
 
-  abbrev plain : Stretch
-  plain = record { answer = r .answer; fed = r .fed; written = 0; demodulator = r .demodulator }
-
-  pub stretch-refused : (why : Refusal) → r .answer ≡ Refused why → HearsStretch m xs room plain room
-  unfolding listedOf linesOf flatMap run
-  stretch-refused why e = in-words (heardPaper (Refused why)) (rw e refl) 0 (r .demodulator) room refl refl refl
-
-  pub stretch-quiet : r .answer ≡ Quiet → HearsStretch m xs room plain room
-  unfolding listedOf linesOf flatMap run
-  stretch-quiet e = in-words (heardPaper Quiet) (rw e refl) 0 (r .demodulator) room refl refl refl
-
-  pub stretch-offered : (o : Offer) → r .answer ≡ Offered o → (s : Settled) (after : List ℕ) → Settles (r .demodulator) (o .kind) window room s after
-      → HearsStretch m xs room (record { answer = r .answer; fed = r .fed; written = s .written; demodulator = s .demodulator }) after
-  unfolding listedOf run leftAt
-  stretch-offered o e s after settles =
-      in-words (heardPaper (Offered o)) (rw e refl) (s .written) (s .demodulator) after (rw line-alone (settles .counts)) (settles .leaves) (rw line-alone (settles .writes))
-
 -- ---- no sample: the call is refused where the record is unfit, and leaves all as it was
-by-fitness : (b there : Bool) (number : ℕ) → refusalIn (cond (not b) (refusal (bare number)) (carrier there)) ≡ cond b nothing (refusal (bare number))
-by-fitness true there number = refl
-by-fitness false there number = refl
+by-fitness : (b : Bool) (number : ℕ) → refusalIn (cond b nothing (refusal (bare number))) ≡ cond b nothing (refusal (bare number))
+by-fitness true number = refl
+by-fitness false number = refl
 
--- a question for the carrier is refused as an empty stretch is
-pub tests-record : (m : SoftDemodulator) → refusalIn (detected (samplesIn (m .rate)) m) ≡ recordTold m []
-unfolding detected answers toldTo
-tests-record m = by-fitness (recordFit (samplesIn (m .rate)) m) (timerHeld (m .control .dcd)) (unfitNumber m)
-
-pub hears-nothing : (m : SoftDemodulator) (xs : List ℤ) (lines : List ℕ) (answer : Receipt) → length xs ≡ 0 → receiptPaper answer ≡ recordTold m []
+pub hears-nothing : (m : SoftDemodulator) (xs : List ℤ) (lines : List ℕ) (answer : Receipt) → length xs ≡ 0
+    → receiptPaper answer ≡ refusalIn (stretchOf m xs .answer)
     → HearsAll m xs lines (record { answer = answer; fed = 0; written = 0; demodulator = m }) lines
-unfolding batchOf run answers goIn linesOf flatMap
-hears-nothing m [] lines answer e tells = record { answers = tells; feeds = refl; counts = refl; leaves = refl; writes = refl }
+unfolding fed batchOf run answers goIn linesOf flatMap toldTo
+hears-nothing m [] lines answer e tells = record {
+  answers = tells ∙ by-fitness (recordFit (samplesIn (m .rate)) m) (unfitNumber m);
+  feeds = refl;
+  counts = refl;
+  leaves = refl;
+  writes = refl;
+}
 hears-nothing m (x ∷ xs) lines answer e tells = absurd (omega arith)

@@ -16,12 +16,14 @@ use Rattle.protocol.specs.Refusals.{bare}
 use Rattle.demodulator.specs.declared.SoftDemodulator.{SoftDemodulator}
 use Rattle.demodulator.specs.Fit.{unfitNumber, recordFit, fitForSample}
 use Rattle.demodulator.specs.Calls.{refusal, nothing, isRefusal, Left, demodulated}
+use Rattle.demodulator.specs.Singles.{blank}
 use Rattle.demodulator_laws.proofs.SampleFits.{either}
 use Rattle.demodulator_laws.proofs.SampleComes.{silent, offering, stuck, comes}
+use Rattle.listening.specs.Listener.{ownRecord}
+use Rattle.listening.proofs.FirstSample.{leftBySample, afterReply, RefusesAll, Stuck, run-stuck}
 use Rattle.receiving.specs.declared.Odd.{Odd}
 use Rattle.receiving.specs.declared.Receiving.{Receiving}
 use Rattle.receiving.specs.Pairs.{waiting}
-use Rattle.receiving.specs.Listener.{blank, ownRecord}
 use Rattle.receiving.specs.Text.{goIn, Batch, toldTo}
 use Rattle.receiving.specs.Hear.{mostSamples, looked, samplesIn, intakeOf, emptyTold}
 use Rattle.receiving.specs.Parts.{recordTold, recordBatch}
@@ -29,13 +31,13 @@ use Rattle.receiving.specs.Caller.{Read, Caller, Short, input, given, af
 use Rattle.receiving.proofs.BytePairs.{one-waits}
 use Rattle.receiving.proofs.Lines.{line-short}
 use Rattle.receiving.proofs.FedCount.{told-none, none, batch-none}
-use Rattle.receiving.proofs.FedStretch.{leftBySample, RefusesAll, lineAfter, afterReply, batch-at, stuck-batch, stuck-text, stuck-after}
+use Rattle.receiving.proofs.FedStretch.{lineAfter, batch-at, stuck-batch, stuck-text}
 use Rattle.receiving.proofs.ConsumedBytes.{samples-long}
 use Rattle.receiving.proofs.AnyReads.{textBy, madeOf, text-cut, made-cut, any-reads}
 
 -- ---- with room for a line of each sample: all go in, or the record then refuses each
 abbrev AllIn : List ℤ → Batch SoftDemodulator → Type 0
-AllIn xs b = (b .count ≡ length xs) ⊎ ((number : ℕ) × RefusesAll number (b .state))
+AllIn xs b = (b .count ≡ length xs) ⊎ Stuck (b .state)
 
 all-in : (xs : List ℤ) (m : SoftDemodulator) (places : ℕ) → 97 * length xs ≤ places → AllIn xs (recordBatch m xs places)
 unfolding answers goIn
@@ -70,7 +72,7 @@ unfit-told m (x ∷ xs) none = absurd (omega arith)
 
 module _ (m : SoftDemodulator) (odd : Odd) (bytes : List ℕ) (places : ℕ) (enough : 97 * length (samplesIn odd bytes) ≤ places) where
   call-whole : (intakeOf ownRecord emptyTold m odd bytes places .consumed ≡ length bytes)
-      ⊎ ((number : ℕ) × RefusesAll number (intakeOf ownRecord emptyTold m odd bytes places .state))
+      ⊎ Stuck (intakeOf ownRecord emptyTold m odd bytes places .state)
   unfolding intakeOf
   call-whole =
       let xs : List ℤ = samplesIn odd bytes in
@@ -94,7 +96,7 @@ pub looked-all : (bytes : List ℕ) (places : ℕ) → length bytes ≤ 2 * most
 looked-all bytes places few enough = rw (le-ltb places 97 enough) (take-all (2 * mostSamples) bytes few)
 
 abbrev pub WholeOrStuck : Caller → Type 0
-WholeOrStuck c = (c .unused ≡ []) ⊎ ((number : ℕ) × RefusesAll number (c .receiving .demodulator))
+WholeOrStuck c = (c .unused ≡ []) ⊎ Stuck (c .receiving .demodulator)
 
 read-whole : (c : Caller) (r : Read) → c .unused ≡ [] → length (r .bytes) ≤ 2 * mostSamples → 97 * mostSamples ≤ r .places → WholeOrStuck (after c r)
 read-whole c r none few enough =
@@ -112,7 +114,7 @@ read-whole c r none few enough =
 stuck-on : (reads : List Read) (c : Caller) (number : ℕ) → RefusesAll number (c .receiving .demodulator) → RefusesAll number (callerAfter c reads .receiving .demodulator)
 stuck-on reads c number s =
     let same : callerAfter c reads .receiving .demodulator ≡ c .receiving .demodulator =
-    ap (λ (q : Receiving). q .demodulator) (any-reads reads c .leaves) ∙ stuck-after number (c .receiving .demodulator) s (samplesIn (c .receiving .odd) (consumedBy c reads)) in
+    ap (λ (q : Receiving). q .demodulator) (any-reads reads c .leaves) ∙ run-stuck number (c .receiving .demodulator) s (samplesIn (c .receiving .odd) (consumedBy c reads)) in
     subst (RefusesAll number) (sym same) s
 
 pub reads-end : (reads : List Read) (c : Caller) → c .unused ≡ [] → Short reads → WholeOrStuck (callerAfter c reads)
@@ -144,7 +146,7 @@ whole-reads reads c none short =
           let there : SoftDemodulator = madeOf q first .demodulator in
           let refuses : RefusesAll (s .0) there = subst (RefusesAll (s .0)) (ap (λ (p : Receiving). p .demodulator) (made .leaves)) (s .1) in
           let silent-on : textBy (madeOf q first) later ≡ [] = stuck-text (s .0) there refuses (samplesIn (madeOf q first .odd) later) in
-          let stays : madeOf (madeOf q first) later .demodulator ≡ there = stuck-after (s .0) there refuses (samplesIn (madeOf q first .odd) later) in
+          let stays : madeOf (madeOf q first) later .demodulator ≡ there = run-stuck (s .0) there refuses (samplesIn (madeOf q first .odd) later) in
           record {
             text = made .text ∙ sym (ap (textBy q) (sym cut) ∙ text-cut q first later ∙ ap (λ (l : List ℕ). textBy q first ++ l) silent-on ∙ append-nil (textBy q first));
             leaves = ap (λ (p : Receiving). p .demodulator) (made .leaves) ∙ sym (ap (λ (p : Receiving). p .demodulator) (ap (madeOf q) (sym cut) ∙ made-cut q first later) ∙ stays);

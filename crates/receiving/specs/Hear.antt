@@ -14,6 +14,8 @@ use Rattle.demodulator.specs.Record.{fresh}
 use Rattle.demodulator.specs.Calls.{Paper, refusal, nothing, isRefusal}
 use Rattle.demodulator.specs.Feed.{emptySaid}
 use Rattle.demodulator.specs.Singles.{Single, Said}
+use Rattle.listening.specs.Listener.{listener, ownRecord}
+use Rattle.listening.specs.Verdict.{verdict}
 use Rattle.receiving.specs.declared.Odd.{Odd}
 use Rattle.receiving.specs.declared.Odd.the-variants.{Nothing}
 use Rattle.receiving.specs.declared.Receiving.{Receiving}
@@ -21,8 +23,7 @@ use Rattle.receiving.specs.declared.Receipt.{Receipt}
 use Rattle.receiving.specs.declared.Receipt.the-variants.{Refused, Admitted}
 use Rattle.receiving.specs.declared.AfterBytes.{AfterBytes}
 use Rattle.receiving.specs.Pairs.{samplesOf, oddOf, waiting}
-use Rattle.receiving.specs.Listener.{listener, ownRecord}
-use Rattle.receiving.specs.Text.{verdict, Batch, batchOf, toldTo}
+use Rattle.receiving.specs.Text.{Batch, batchOf, toldTo}
 
 -- ---- the bytes
 -- the most samples of a call

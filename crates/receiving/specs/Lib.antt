@@ -1,6 +1,5 @@
 -- What receive does with the bytes that it reads: samples, offers, lines, and what its functions promise.
 pub mod Pairs
-pub mod Listener
 pub mod Text
 pub mod Hear
 pub mod Parts

@@ -1,44 +1,40 @@
 -- What the functions inside ask and promise. Assumes nothing.
 use mathlib.Core.Path.{_≡_}
 use mathlib.Core.Bool.{Bool, true, false, cond}
-use mathlib.Core.List.{List, [], _++_, map}
+use mathlib.Core.List.{List, _++_, flatMap}
 use Prim.Native.Nat.{ℕ, _-_, _*_, _≤_}
 use lib.Dec.{eqb, ltb}
 use lib.IntN.{ℤ}
 use lib.ListN.{length, take, drop}
 use lib.Ieee.{Float}
-use Rattle.machine.specs.Runs.{run, answers}
-use Rattle.shaping.specs.Rate.{samplesIn, rateOf}
-use Rattle.protocol.specs.declared.Kind.{Kind}
+use Rattle.machine.specs.Runs.{answers}
+use Rattle.search.specs.declared.Reply.{Reply}
+use Rattle.search.specs.declared.Reply.the-variants.{Accepted, Rejected}
 use Rattle.demodulator.specs.declared.SoftDemodulator.{SoftDemodulator}
-use Rattle.demodulator.specs.Calls.{Paper, refusal, nothing, frame, done, carrier, heardPaper, answered}
-use Rattle.demodulator.specs.Feed.{fedInto, Stretch as FedStretch}
+use Rattle.demodulator.specs.Calls.{Paper, nothing, heardPaper}
+use Rattle.demodulator.specs.Feed.{Stretch as FedStretch}
 use Rattle.house.specs.Line.{lineOf}
+use Rattle.listening.specs.declared.Settled.{Settled}
+use Rattle.listening.specs.declared.Settled.the-variants.{Nothing as NoOffer, By}
+use Rattle.listening.specs.Listener.{listener, ownRecord}
+use Rattle.listening.specs.Verdict.{verdict}
+use Rattle.listening.specs.Listen.{stretchOf, listedAtEnd, leftByStretch, settledPaper}
 use Rattle.receiving.specs.declared.Odd.{Odd}
 use Rattle.receiving.specs.declared.Odd.the-variants.{Nothing}
 use Rattle.receiving.specs.declared.Receipt.{Receipt}
 use Rattle.receiving.specs.declared.Receipt.the-variants.{Refused, Admitted}
 use Rattle.receiving.specs.declared.pairs.Paired.{Paired}
 use Rattle.receiving.specs.declared.pairs.Part.{Part}
-use Rattle.receiving.specs.declared.windows.Settled.{Settled}
 use Rattle.receiving.specs.declared.windows.Stretch.{Stretch}
 use Rattle.receiving.specs.declared.windows.AfterSamples.{AfterSamples}
 use Rattle.receiving.specs.Pairs.{samplesOf, oddOf, waiting}
-use Rattle.receiving.specs.Listener.{Listed, listedOf, blank, replyTo, listener, ownRecord}
-use Rattle.receiving.specs.Text.{verdict, ifAccepted, linesOf, Batch, batchOf, refusalIn, toldTo}
+use Rattle.receiving.specs.Text.{ifAccepted, linesOf, Batch, batchOf, refusalIn, toldTo}
 use Rattle.receiving.specs.Hear.{mostSamples, emptyTold, receiptPaper}
 
 -- ---- an answer, as the code looks at it
 abbrev pub isAdmitted : Receipt → Bool
 isAdmitted (Refused why) = false
 isAdmitted Admitted = true
-
-unfoldable pub isOffer : Paper → Bool
-isOffer (frame o) = true
-isOffer (refusal number) = false
-isOffer nothing = false
-isOffer done = false
-isOffer (carrier there) = false
 
 -- a refusal counts only where no sample went in before
 abbrev pub refusedAfter : ℕ → Paper → Paper
@@ -68,33 +64,30 @@ pub record ConsumesPart (odd : Odd) (fed : ℕ) (r : Part) : Type 0 where
 abbrev pub inFront : List ℕ → List ℕ → List ℕ
 inFront text room = text ++ drop (length text) room
 
--- the line of an offer that is accepted
-abbrev pub lineFor : Kind → List Float → List ℕ
-lineFor kind window = ifAccepted (verdict kind window) (lineOf window)
+-- the line of an offer that was accepted
+abbrev pub isAccepted : Settled → Bool
+isAccepted NoOffer = false
+isAccepted (By Accepted) = true
+isAccepted (By Rejected) = false
 
--- an offer, settled by the rule of acceptance
-pub record Settles (m : SoftDemodulator) (kind : Kind) (window : List Float) (room : List ℕ) (r : Settled) (after : List ℕ) : Type 0 where
-  pub counts : r .written ≡ length (lineFor kind window)
-  pub leaves : r .demodulator ≡ answered (samplesIn (m .rate)) m (verdict kind window) [] .demodulator
-  pub writes : after ≡ inFront (lineFor kind window) room
+abbrev pub lineFor : Settled → List Float → List ℕ
+lineFor settled window = flatMap (λ (reply : Reply). ifAccepted reply (lineOf window)) (settledPaper settled)
 
--- the offer that a stretch ends with, if there is one: its line, and the record after its reply
-abbrev pub listedAtEnd : FedStretch SoftDemodulator → List Listed
-listedAtEnd f = listedOf verdict (f .answer) (f .room)
+pub record PutsLine (settled : Settled) (window : List Float) (room : List ℕ) (r : ℕ) (after : List ℕ) : Type 0 where
+  pub counts : r ≡ length (lineFor settled window)
+  pub writes : after ≡ inFront (lineFor settled window) room
 
+-- the line of the offer that a stretch ends with, if there is one
 abbrev pub lineOfStretch : FedStretch SoftDemodulator → List ℕ
 lineOfStretch f = linesOf (listedAtEnd f)
 
-abbrev pub leftByStretch : FedStretch SoftDemodulator → SoftDemodulator
-leftByStretch f = run ownRecord (f .state) (map replyTo (listedAtEnd f))
-
 -- a stretch of samples, and what its answer leads to
 pub record HearsStretch (m : SoftDemodulator) (xs : List ℤ) (room : List ℕ) (r : Stretch) (after : List ℕ) : Type 0 where
-  pub answers : heardPaper (r .answer) ≡ fedInto (rateOf (m .rate)) m xs blank .answer
-  pub feeds : r .fed ≡ fedInto (rateOf (m .rate)) m xs blank .fed
-  pub counts : r .written ≡ length (lineOfStretch (fedInto (rateOf (m .rate)) m xs blank))
-  pub leaves : r .demodulator ≡ leftByStretch (fedInto (rateOf (m .rate)) m xs blank)
-  pub writes : after ≡ inFront (lineOfStretch (fedInto (rateOf (m .rate)) m xs blank)) room
+  pub answers : heardPaper (r .answer) ≡ stretchOf m xs .answer
+  pub feeds : r .fed ≡ stretchOf m xs .fed
+  pub counts : r .written ≡ length (lineOfStretch (stretchOf m xs))
+  pub leaves : r .demodulator ≡ leftByStretch (stretchOf m xs)
+  pub writes : after ≡ inFront (lineOfStretch (stretchOf m xs)) room
 
 -- ---- all samples: what the call is told, and what they come to
 abbrev pub recordTold : SoftDemodulator → List ℤ → Paper

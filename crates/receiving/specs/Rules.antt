@@ -2,17 +2,15 @@
 use mathlib.Core.List.{List}
 use Prim.Native.Nat.{ℕ}
 use Rattle.machine.specs.Runs.{Machine}
-use Rattle.shaping.specs.Rate.{Rate, at48}
+use Rattle.shaping.specs.Rate.{at48}
 use Rattle.demodulator.specs.Calls.{nothing}
 use Rattle.demodulator.specs.Singles.{Single, Said}
-use Rattle.demodulator_run.specs.Rules.{History, start, singleRules}
+use Rattle.demodulator_run.specs.Rules.{History, start}
+use Rattle.listening.specs.Rules.{rulesAt}
 use Rattle.receiving.specs.declared.Odd.{Odd}
 use Rattle.receiving.specs.Pairs.{samplesOf}
 use Rattle.receiving.specs.Text.{textFrom}
 use Rattle.receiving.specs.Hear.{Intake, intakeOf}
-
-abbrev pub rulesAt : Rate → Machine History Single Said
-rulesAt R = singleRules (R .taps) (R .p)
 
 abbrev pub rules48 : Machine History Single Said
 rules48 = rulesAt at48

@@ -5,20 +5,14 @@ use Prim.Native.Nat.{ℕ, _+_, _-_}
 use lib.Dec.{ltb}
 use lib.IntN.{ℤ}
 use lib.ListN.{length, take}
-use lib.Ieee.{Float}
 use Rattle.machine.specs.Runs.{Machine, run, answers}
-use Rattle.protocol.specs.declared.Kind.{Kind}
 use Rattle.search.specs.declared.Reply.{Reply}
 use Rattle.search.specs.declared.Reply.the-variants.{Accepted, Rejected}
 use Rattle.demodulator.specs.Calls.{Paper, nothing, isRefusal}
 use Rattle.demodulator.specs.Singles.{Single, Said}
 use Rattle.house.specs.Line.{lineOf}
-use Rattle.house.specs.Accept.{accepted, symbolAt}
-use Rattle.receiving.specs.Listener.{Listed, listedIn, listener, offers}
-
--- "accepts an offer exactly if its first two sliced bytes are the burst's word"
-unfoldable pub verdict : Kind → List Float → Reply
-verdict kind symbols = cond (accepted kind (symbolAt symbols)) Accepted Rejected
+use Rattle.listening.specs.Listener.{Listed, listedIn, listener, offers}
+use Rattle.listening.specs.Verdict.{verdict}
 
 -- "and writes accepted windows": one line each
 unfoldable pub ifAccepted : Reply → List ℕ → List ℕ

@@ -1,28 +1,20 @@
 // Samples in, lines out: each offer is answered by the accept rule before the next sample.
 use crate::Receipt;
-use demodulator::Carrier;
 use demodulator::Heard;
 use demodulator::Reply;
 use demodulator::SoftDemodulator;
-use protocol::Kind;
+use listening::Settled;
 ghost use mathlib.Core.Path.{_≡_};
-ghost use mathlib.Core.List.{[], _++_};
+ghost use mathlib.Core.List.{_++_};
 ghost use Prim.Native.Nat.{_≤_};
 ghost use lib.ListN.{length, drop};
 ghost use Rattle.house.specs.Line.{lineOf};
-ghost use Rattle.house.specs.Accept.{accepted, symbolAt};
 ghost use Rattle.demodulator.specs.Calls.{heardPaper};
 ghost use Rattle.receiving.specs.Hear.{receiptPaper};
-ghost use Rattle.receiving.specs.Parts.{isOffer, refusedAfter, recordTold, Roomy, Settles, HearsStretch, HearsAll};
+ghost use Rattle.receiving.specs.Parts.{refusedAfter, isAccepted, PutsLine, Roomy, HearsStretch, HearsAll};
 
 // A line and its line feed.
 pub(crate) const LINE: usize = 97;
-
-// What comes of an offer: how many places were written, and the record after the reply.
-pub(crate) struct Settled {
-    pub written: usize,
-    pub demodulator: SoftDemodulator,
-}
 
 // What comes of a stretch of samples, the last of which may bring an offer.
 pub(crate) struct Stretch {
@@ -40,16 +32,6 @@ pub(crate) struct AfterSamples {
     pub demodulator: SoftDemodulator,
 }
 
-fn is_offered(answer: Heard) -> bool
-    ensures { λ r. ⌜ r ≡ isOffer (heardPaper answer) ⌝ }
-{
-    match answer {
-        Heard::Refused(_) => false,
-        Heard::Quiet => false,
-        Heard::Offered(_) => true,
-    }
-}
-
 // Once samples went in, a refusal is left to the call that gives the rest.
 fn give_receipt(answer: Heard, fed: usize) -> Receipt
     ensures { λ r. ⌜ receiptPaper r ≡ refusedAfter fed (heardPaper answer) ⌝ }
@@ -65,27 +47,16 @@ fn give_receipt(answer: Heard, fed: usize) -> Receipt
     }
 }
 
-// Where no sample is given: a call that tests no filtered value.
-fn test_record(demodulator: SoftDemodulator) -> Receipt
-    ensures { λ r. ⌜ receiptPaper r ≡ recordTold demodulator [] ⌝ }
+fn is_accepted(settled: Settled) -> bool
+    ensures { λ r. ⌜ r ≡ isAccepted settled ⌝ }
 {
-    let carrier = demodulator.data_carrier_detect();
-    match carrier {
-        Carrier::Refused(why) => Receipt::Refused(why),
-        Carrier::Detected(_) => Receipt::Admitted,
+    match settled {
+        Settled::Nothing => false,
+        Settled::By(reply) => match reply {
+            Reply::Accepted => true,
+            Reply::Rejected => false,
+        },
     }
-}
-
-fn is_accepted(kind: Kind, window: [f32; 192]) -> bool
-    ensures { λ r. ⌜ r ≡ accepted kind (symbolAt window) ⌝ }
-{
-    let mut first = [0.0f32; 8];
-    let mut i: usize = 0;
-    while i < 8 {
-        first[i] = window[i];
-        i += 1;
-    }
-    house::accepts(kind, first)
 }
 
 fn put_line(window: [f32; 192], room: &mut [u8])
@@ -100,25 +71,16 @@ fn put_line(window: [f32; 192], room: &mut [u8])
     }
 }
 
-fn settle(demodulator: SoftDemodulator, kind: Kind, window: [f32; 192], room: &mut [u8]) -> Settled
+// The line of a window that was accepted, and how many places it takes.
+fn put_settled(settled: Settled, window: [f32; 192], room: &mut [u8]) -> usize
     requires { ⌜ 97 ≤ length (now room) ⌝ }
-    ensures { λ r. ⌜ Settles demodulator kind window (now (room .entry)) r (now (room .exit)) ⌝ }
+    ensures { λ r. ⌜ PutsLine settled window (now (room .entry)) r (now (room .exit)) ⌝ }
 {
-    if is_accepted(kind, window) {
+    if is_accepted(settled) {
         put_line(window, room);
-        let after = demodulator.reply(Reply::Accepted);
-        let left = after.demodulator;
-        return Settled {
-            written: LINE,
-            demodulator: left,
-        };
+        return LINE;
     }
-    let after = demodulator.reply(Reply::Rejected);
-    let left = after.demodulator;
-    Settled {
-        written: 0,
-        demodulator: left,
-    }
+    0
 }
 
 // The samples up to the first offer, which is settled, or up to one that would be refused.
@@ -126,36 +88,17 @@ fn hear_stretch(demodulator: SoftDemodulator, samples: &[i16], room: &mut [u8]) 
     requires { ⌜ 97 ≤ length (now room) ⌝ }
     ensures { λ r. ⌜ HearsStretch demodulator (now (samples .entry)) (now (room .entry)) r (now (room .exit)) ⌝ }
 {
-    let mut window = [0.0f32; 192];
-    let after = demodulator.feed(samples, &mut window);
-    let answer = after.answer;
-    let fed = after.fed;
-    let left = after.demodulator;
-    match answer {
-        Heard::Refused(_) => Stretch {
-            answer,
-            fed,
-            written: 0,
-            demodulator: left,
-        },
-        Heard::Quiet => Stretch {
-            answer,
-            fed,
-            written: 0,
-            demodulator: left,
-        },
-        Heard::Offered(offer) => {
-            let kind = offer.kind;
-            let settled = settle(left, kind, window, room);
-            let written = settled.written;
-            let next = settled.demodulator;
-            Stretch {
-                answer,
-                fed,
-                written,
-                demodulator: next,
-            }
-        }
+    let heard = listening::listen(demodulator, samples);
+    let settled = heard.settled;
+    let window = heard.window;
+    let written = put_settled(settled, window, room);
+    let answer = heard.answer;
+    let left = heard.demodulator;
+    Stretch {
+        answer,
+        fed: heard.fed,
+        written,
+        demodulator: left,
     }
 }
 
@@ -169,8 +112,10 @@ pub(crate) fn hear_samples(
     ensures { λ r. ⌜ HearsAll demodulator (now (samples .entry)) (now (lines .entry)) r (now (lines .exit)) ⌝ }
 {
     if samples.len() == 0 {
+        let heard = listening::listen(demodulator, samples);
+        let answer = heard.answer;
         return AfterSamples {
-            answer: test_record(demodulator),
+            answer: give_receipt(answer, 0),
             fed: 0,
             written: 0,
             demodulator,
@@ -186,7 +131,7 @@ pub(crate) fn hear_samples(
         left = heard.demodulator;
         written += heard.written;
         fed += heard.fed;
-        if !is_offered(answer) {
+        if !listening::is_offered(answer) {
             return AfterSamples {
                 answer: told,
                 fed,

@@ -66,6 +66,22 @@ searched-sample p v c =
     tried-sample p v Packet _ ∙ tried-sample p v Stream _ ∙ tried-sample p v Bert _ ∙ tried-sample p v Lsf _
     ∙ carried-sample p EndOfTransmission v _ ∙ carried-sample p Preamble v c
 
+pub carried-owed : (p : ℕ) (burst : SyncBurst) (v : ℕ → Float) (c : Control) → carried p burst v c .owed ≡ c .owed
+unfolding carried
+carried-owed p burst v c = by-test (λ (d : Control). d .owed ≡ c .owed) (matches burst v) _ _ (λ e. refl) (λ e. refl)
+
+pub tried-owed : (p : ℕ) (v : ℕ → Float) (kind : Kind) (c : Control) → tried p v kind c .owed ≡ c .owed
+unfolding tried
+tried-owed p v kind c =
+    by-test (λ (d : Control). d .owed ≡ c .owed) (matches (Frame kind) v) _ _
+    (λ e. matched-keeps (heldIn (c .candidate)) _ c .owed) (λ e. missed-keeps p kind (heldIn (c .candidate)) c .owed)
+
+pub searched-owed : (p : ℕ) (v : ℕ → Float) (c : Control) → searched p v c .owed ≡ c .owed
+unfolding searched passed
+searched-owed p v c =
+    tried-owed p v Packet _ ∙ tried-owed p v Stream _ ∙ tried-owed p v Bert _ ∙ tried-owed p v Lsf _
+    ∙ carried-owed p EndOfTransmission v _ ∙ carried-owed p Preamble v c
+
 -- ---- one match at most
 matched-age : (n : ℕ) {candidate : Candidate} → HeldOrNot candidate → (new : TakenBurst) → new .age ≡ 1 → ageOf candidate ≤ n → (c : Control) → ageOf (matched (heldIn candidate) new c .candidate) ≤ n + 1
 unfolding matched

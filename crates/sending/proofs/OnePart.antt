@@ -98,7 +98,7 @@ module _ (s : Sending) (cs : List Call) (xs : List Float) (sits : Sits (s .modul
   unfolding answers leftAt
   each-said = both said
 
-  frame-said : taken .answer ≡ done
+  pub frame-said : taken .answer ≡ done
   frame-said = ap (λ (x : Said). x .answer) (each-said .0 ∙ ap (λ (a : After). a .said) frame-called)
 
   read-said : saidBy out ≡ drained at48 emptyRoom next .said
@@ -107,10 +107,10 @@ module _ (s : Sending) (cs : List Call) (xs : List Float) (sits : Sits (s .modul
       ∙ ap (λ (a : After). called at48 (a .sent) (read emptyRoom) .said) frame-called
       ∙ ap (λ (a : After). a .said) (read-called next emptyRoom)
 
-  count-said : out .answer ≡ wrote (10 * f .count)
+  pub count-said : out .answer ≡ wrote (10 * f .count)
   count-said = ap (λ (x : Said). x .answer) read-said ∙ all-read before f (gives .few) pending
 
-  room-said : out .room ≡ samplesBehind xs new ++ drop (10 * f .count) emptyRoom
+  pub room-said : out .room ≡ samplesBehind xs new ++ drop (10 * f .count) emptyRoom
   room-said =
       ap (λ (x : Said). x .room) read-said
       ∙ room-read before f (gives .few) pending
@@ -124,7 +124,7 @@ module _ (s : Sending) (cs : List Call) (xs : List Float) (sits : Sits (s .modul
       ∙ ap (λ (a : After). called at48 (a .sent) (read emptyRoom) .sent) frame-called
       ∙ ap (λ (a : After). a .sent) (read-called next emptyRoom)
 
-  sits-next : Sits (out .modulator) (cs ++ partCalls frame symbols) (xs ++ new)
+  pub sits-next : Sits (out .modulator) (cs ++ partCalls frame symbols) (xs ++ new)
   unfolding run leftAt
   sits-next = record {
     by = rw (sits .by) (sym (run-joined sender cs (partCalls frame symbols) (freshAt at48)));

@@ -30,9 +30,10 @@ pub const OFFERED_AT: usize = 16;
 pub const OFFER_TAKEN: usize = 17;
 pub const OFFER_AGE: usize = 18;
 pub const OFFER_MARK: usize = 19;
-pub const CARRIER: usize = 20;
-pub const GIVEN: usize = 21;
-pub const NUMBERS: usize = 22;
+pub const OFFER_GAIN: usize = 20;
+pub const CARRIER: usize = 21;
+pub const GIVEN: usize = 22;
+pub const NUMBERS: usize = 23;
 
 /// What stands for no kind.
 pub const NO_KIND: u64 = 4;
@@ -252,19 +253,22 @@ pub fn scalars_differ(
         .map(|i| say(names[i], pattern(ours[i]), pattern(values[i])))
 }
 
-/// What differs between an offer's own report and what was kept for it.
-pub fn reports_differ(found: Found, port: &[u64]) -> Option<String> {
+/// What differs between an offer's own report and what was kept for it, its gain being that of the candidate before the sample.
+pub fn reports_differ(found: Found, before: Control, port: &[u64]) -> Option<String> {
     let names = [
         "the offer's taken-at",
         "the offer's age",
         "the offer's mark",
+        "the offer's gain, by its pattern",
     ];
+    let gain = before.candidate.expect("an offer has a candidate").gain;
     let ours = [
         found.taken_at,
         u64::from(found.age),
         u64::from(found.replaced),
+        u64::from(gain.to_bits()),
     ];
-    (0..3)
+    (0..4)
         .find(|&i| ours[i] != port[OFFER_TAKEN + i])
         .map(|i| say(names[i], ours[i], port[OFFER_TAKEN + i]))
 }

@@ -171,7 +171,7 @@ impl<'a> Sides<'a> {
         self.found = kept.next(before, after, accepted);
         count(before, after, offer.as_ref(), tally);
         if let Some(offer) = offer {
-            self.offer(i, &offer, kept)?;
+            self.offer(i, &offer, kept, before)?;
             tally.marked += u64::from(kept.replaced);
             return self.reply(i, offer.accepted, tally);
         }
@@ -207,7 +207,7 @@ impl<'a> Sides<'a> {
         ))
     }
 
-    fn offer(&self, i: usize, offer: &Offer, kept: Found) -> Result<(), String> {
+    fn offer(&self, i: usize, offer: &Offer, kept: Found, before: Control) -> Result<(), String> {
         let numbers = &self.notes[i].numbers;
         let kind = KINDS
             .get(numbers[ANSWER] as usize)
@@ -219,7 +219,7 @@ impl<'a> Sides<'a> {
         if numbers[OFFERED_AT] != count {
             return Err(say("the offer's sample number", count, numbers[OFFERED_AT]));
         }
-        unequal(flat::reports_differ(kept, numbers))?;
+        unequal(flat::reports_differ(kept, before, numbers))?;
         unequal(floats_differ("symbol", &offer.symbols, &self.room[..192]))
     }
 

@@ -1,7 +1,7 @@
 //! A recording's stretch by `feed`, in one call or in pieces, beside the port's own single calls.
 
 use super::flat::{floats_differ, numbers_differ, receivers_differ, room_after, Receiver};
-use super::flat::{ANSWER, GIVEN, NO_KIND, OFFER_MARK, REFUSAL};
+use super::flat::{ANSWER, GIVEN, NO_KIND, OFFER_GAIN, REFUSAL};
 use super::port::{Hearing, Note, Program};
 use super::values::numbered;
 
@@ -61,7 +61,7 @@ fn piece(
     program.hear(Hearing::Feed(&singly.samples[places]), record, &mut room);
     let fed = record.numbers[GIVEN] as usize;
     let noted = &singly.notes[due - 1].numbers;
-    let [answer, expected] = [&record.numbers, noted].map(|numbers| &numbers[REFUSAL..=OFFER_MARK]);
+    let [answer, expected] = [&record.numbers, noted].map(|numbers| &numbers[REFUSAL..=OFFER_GAIN]);
     if fed != wanted || answer != expected {
         return Err(format!(
             "refusal and offer are {answer:?} and {fed} of its samples go in, by the single calls {expected:?} and {wanted}"

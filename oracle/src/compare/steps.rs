@@ -138,7 +138,7 @@ fn fed(
 ) -> Result<(), String> {
     let (mut record, mut lent) = (case.record.clone(), numbered(case.room.len()));
     program.hear(Hearing::Feed(&[sample]), &mut record, &mut lent);
-    if record.numbers[REFUSAL..=OFFER_MARK] != port.numbers[REFUSAL..=OFFER_MARK] {
+    if record.numbers[REFUSAL..=OFFER_GAIN] != port.numbers[REFUSAL..=OFFER_GAIN] {
         return Err("`feed` answers otherwise than `demod`".to_string());
     }
     if record.numbers[GIVEN] != u64::from(record.numbers[REFUSAL] == 0) {
@@ -195,7 +195,7 @@ fn sampled(
                 port.numbers[OFFERED_AT],
             ));
         }
-        same(reports_differ(kept, &port.numbers))?;
+        same(reports_differ(kept, start, &port.numbers))?;
         program.hear(Hearing::Reply(accepted), &mut port, &mut []);
         if port.numbers[REFUSAL] != 0 {
             return Err(say("refusal of the reply", 0, port.numbers[REFUSAL]));

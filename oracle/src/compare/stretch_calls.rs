@@ -91,23 +91,23 @@ fn by_documents(
 }
 
 /// Refusal and offer, and how many samples went in. Once some did, a refusal is left to the next call.
-fn told_by(last: &Note, went_in: usize) -> [u64; 7] {
-    let mut told = [0, NO_KIND, 0, 0, 0, 0, went_in as u64];
+fn told_by(last: &Note, went_in: usize) -> [u64; 8] {
+    let mut told = [0, NO_KIND, 0, 0, 0, 0, 0, went_in as u64];
     if went_in == 0 || last.numbers[REFUSAL] == 0 {
-        told[..6].copy_from_slice(&last.numbers[REFUSAL..=OFFER_MARK]);
+        told[..7].copy_from_slice(&last.numbers[REFUSAL..=OFFER_GAIN]);
     }
     told
 }
 
 /// What `feed` answers and leaves, beside what the single calls do.
 fn same(
-    expected: &[u64; 7],
+    expected: &[u64; 8],
     left: (&Receiver, &[f32]),
     fed: (&Receiver, &[f32]),
 ) -> Result<(), String> {
     let n = &fed.0.numbers;
-    let mut answer = [n[GIVEN]; 7];
-    answer[..6].copy_from_slice(&n[REFUSAL..=OFFER_MARK]);
+    let mut answer = [n[GIVEN]; 8];
+    answer[..7].copy_from_slice(&n[REFUSAL..=OFFER_GAIN]);
     if answer != *expected {
         return Err(format!(
             "refusal, offer and samples fed by `feed` are {answer:?}, by the single calls {expected:?}"

@@ -72,8 +72,8 @@ fn feed(list: &mut String, receiver: &mut SoftDemodulator, sample: i16, found: F
     let due = before.candidate.filter(|_| before.wait == Some(1));
     let offer = take_offer();
     match (due, &offer) {
-        (Some(_), Some(offer)) => {
-            say(offer_event(offer, after.count, found));
+        (Some(held), Some(offer)) => {
+            say(offer_event(offer, after.count, found, held.gain));
         }
         (Some(_), None) => panic!("a due frame that was not offered"),
         (None, offer) => assert!(offer.is_none(), "an offer that was not due"),
@@ -106,15 +106,16 @@ fn feed(list: &mut String, receiver: &mut SoftDemodulator, sample: i16, found: F
     now
 }
 
-pub fn offer_event(offer: &Offer, count: u64, found: Found) -> String {
+pub fn offer_event(offer: &Offer, count: u64, found: Found, gain: f32) -> String {
     let reply = if offer.accepted { "accept" } else { "reject" };
     let symbols = row(&offer.symbols);
     format!(
-        "offer {} {count} {} {} {} {symbols} {reply}",
+        "offer {} {count} {} {} {} {} {symbols} {reply}",
         offer.kind,
         found.taken_at,
         found.age,
-        u8::from(found.replaced)
+        u8::from(found.replaced),
+        hex(gain)
     )
 }
 

@@ -82,11 +82,9 @@ fn hear(list: &mut String, receiver: &mut SoftDemodulator, sample: i16, found: F
     let after = control(receiver);
     let offer = take_offer();
     if let Some(offer) = &offer {
-        list.push_str(&format!(
-            "{} {}\n",
-            after.count,
-            offer_event(offer, after.count, found)
-        ));
+        let held = before.candidate.expect("a due frame has its candidate");
+        let event = offer_event(offer, after.count, found, held.gain);
+        list.push_str(&format!("{} {event}\n", after.count));
     }
     found.next(before, after, offer.is_some_and(|offer| offer.accepted))
 }

@@ -1,5 +1,5 @@
 -- `windows::hear_samples` meets its contract: at each turn the samples that are left go on from the record by now. Assumes nothing.
-use mathlib.Core.Path.{sym, _∙_}
+use mathlib.Core.Path.{sym, ap, _∙_}
 use mathlib.Core.List.{List}
 use Prim.Native.Nat.{_+_, _-_, _*_, _≤_, _<_}
 use native.Mathlib.Omega.{arith}
@@ -7,6 +7,7 @@ use borrow.Author.Tests.{leb-true, leb-false, not-true, not-false}
 use borrow.Author.Needs.{needs}
 use lib.IntN.{ℤ}
 use lib.ListN.{length, take, drop, length-drop}
+use Rattle.receiving.specs.Text.{refusalIn}
 use Rattle.receiving.specs.Hear.{mostSamples}
 use Rattle.receiving.specs.Parts.{HearsStretch, Roomy}
 use Rattle.receiving.proofs.Lines.{tail-is}
@@ -51,11 +52,16 @@ stretched h =
     rw (tail-is (samples-of (loop-of h)) (l .fed), tail-is (l .lines) (l .written)) at (h .hear-stretch .ensures)
 
 -- ---- the needs
-test-record-requires : tie.Need-test-record-requires Inv-loop μ-loop
-test-record-requires c κs = search needs
+listen-requires : tie.Need-listen-requires Inv-loop μ-loop
+listen-requires c κs = search needs
+
+give-receipt-requires : tie.Need-give-receipt-requires Inv-loop μ-loop
+give-receipt-requires c κs = search needs
 
 returns : tie.Need-returns Inv-loop μ-loop
-returns c = hears-nothing _ _ _ _ (c .before .if1 .taken) (c .test-record .ensures)
+returns c =
+    let h = c .before in
+    hears-nothing _ _ _ _ (h .before .if1 .taken) (c .give-receipt .ensures ∙ ap refusalIn (h .listen .ensures .answers))
 
 loop-holds : tie.Need-loop-holds Inv-loop μ-loop
 loop-holds c = (search needs, c .before .before .pre, starts _ _, all-to-come _ _ (c .before .before .args .lines .now))
@@ -90,8 +96,8 @@ hear-stretch-requires c κs =
     let l = t .before .before .loop in
     rw (tail-is (l .lines) (l .written)) (simp length-drop (omega (arith, turn-of t .enough, l .inv .2 .same-room)))
 
-give-receipt-requires : tie.Need-give-receipt-requires Inv-loop μ-loop
-give-receipt-requires c κs = search needs
+give-receipt-requires-2 : tie.Need-give-receipt-requires-2 Inv-loop μ-loop
+give-receipt-requires-2 c κs = search needs
 
 -- where the work is after the stretch
 stands : (h : tie.After-hear-stretch Inv-loop μ-loop) → let l = loop-of h .loop in let r = h .hear-stretch .result in (l .written + r .written ≤ 97 * (l .fed + r .fed)) × (l .fed + r .fed ≤ length (samples-of (loop-of h))) × (length (samples-of (loop-of h)) ≤ mostSamples)
@@ -125,7 +131,7 @@ returns-2 c =
     let h = p .before .before .before in
     let l = loop-of h .loop in
     let t = turn-of (then-of h) in
-    hears-to-here _ _ _ _ _ _ _ (l .inv .2) (l .inv .3) (t .more) (t .enough) _ _ (stretched h) _ (sym (o .is-offered .ensures) ∙ not-true _ (c .if3 .taken)) (p .give-receipt .ensures)
+    hears-to-here _ _ _ _ _ _ _ (l .inv .2) (l .inv .3) (t .more) (t .enough) _ _ (stretched h) _ (sym (o .is-offered .ensures) ∙ not-true _ (c .if3 .taken)) (p .give-receipt2 .ensures)
 
 loop-less : tie.Need-loop-less Inv-loop μ-loop
 loop-less c =
@@ -172,7 +178,8 @@ hear-samples-spec =
     (tie.spec
     Inv-loop
     μ-loop
-    test-record-requires
+    listen-requires
+    give-receipt-requires
     returns
     loop-holds
     sub-if2
@@ -184,7 +191,7 @@ hear-samples-spec =
     part-hear-stretch-start-2
     part-hear-stretch-end-2
     hear-stretch-requires
-    give-receipt-requires
+    give-receipt-requires-2
     add-written
     add-fed
     is-offered-requires

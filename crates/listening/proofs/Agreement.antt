@@ -1,37 +1,25 @@
 -- The record and the rules over single calls, as two machines of which one simulates the other at either rate: listening lists
 -- the same offers. Assumes nothing.
-use mathlib.Core.Path.{_≡_, sym, subst}
-use mathlib.Core.Bool.{true}
+use mathlib.Core.Path.{_≡_}
 use mathlib.Core.List.{List}
 use lib.IntN.{ℤ}
 use mir.Syntax.{w16}
 use mir.Val.{SFits}
 use Rattle.machine.specs.Runs.{Each, Simulates}
-use Rattle.shaping.specs.Rate.{Rate, rateOf}
+use Rattle.shaping.specs.Rate.{Rate}
 use Rattle.shaping.proofs.RateFacts.{Facts}
 use Rattle.search.specs.declared.Reply.{Reply}
 use Rattle.demodulator.specs.declared.SoftDemodulator.{SoftDemodulator}
-use Rattle.demodulator.specs.Fit.{recordFit}
-use Rattle.demodulator.specs.Calls.{nothing}
 use Rattle.demodulator.specs.Singles.{reply, Said}
 use Rattle.demodulator_run.specs.Rules.{History, start}
 use Rattle.demodulator_run.specs.Run.{freshAt, Callable}
-use Rattle.demodulator_run.proofs.Whole.{Stands, stands-fit, stands-own, stands-start}
+use Rattle.demodulator_run.proofs.Whole.{Stands, stands-start}
 use Rattle.demodulator_run.proofs.SinglesRun.{follows}
-use Rattle.receiving.specs.Listener.{Rule, listener, offers, ownRecord}
-use Rattle.receiving.specs.Hear.{emptyTold}
-use Rattle.receiving.specs.Rules.{rulesAt}
-use Rattle.receiving.proofs.Listener.{listening-alike, offers-alike}
+use Rattle.listening.specs.Listener.{Rule, listener, offers, ownRecord}
+use Rattle.listening.specs.Rules.{rulesAt}
+use Rattle.listening.proofs.Listener.{listening-alike, offers-alike}
 
 module _ (R : Rate) (F : Facts R) where
-  module _ (m : SoftDemodulator) (h : History) (s : Stands R F m h) where
-    -- and a call with no sample is not refused
-    pub empty-alike : emptyTold m ≡ nothing
-    empty-alike =
-        let fit : recordFit (rateOf (m .rate) .p) m ≡ true =
-        subst (λ (Q : Rate). recordFit (Q .p) m ≡ true) (sym (stands-own R F m h s)) (stands-fit R F m h s .for-query) in
-        rw fit
-
   free : (r : Reply) → Callable (reply r)
   unfolding Callable
   free r = tt

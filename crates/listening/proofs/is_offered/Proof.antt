@@ -1,12 +1,12 @@
--- `windows::is_offered` meets its contract. Assumes nothing.
+-- `is_offered` meets its contract. Assumes nothing.
 use mathlib.Core.Path.{sym, ap}
 use mathlib.Core.Bool.{Bool}
 use borrow.Author.Needs.{needs}
 use Rattle.demodulator.specs.declared.Heard.{Heard}
 use Rattle.demodulator.specs.Calls.{heardPaper}
-use Rattle.receiving.specs.Parts.{isOffer}
-use Rattle.receiving.proofs.windows.is_offered.Statement.{statement}
-use Rattle.receiving.proofs.windows.is_offered.Tie as tie
+use Rattle.listening.specs.Listen.{isOffer}
+use Rattle.listening.proofs.is_offered.Statement.{statement}
+use Rattle.listening.proofs.is_offered.Tie as tie
 
 abbrev offered : Heard → Bool
 offered a = isOffer (heardPaper a)

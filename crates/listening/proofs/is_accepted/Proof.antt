@@ -1,4 +1,4 @@
--- `windows::is_accepted` meets its contract: the first i symbols are copied. Assumes nothing.
+-- `is_accepted` meets its contract: the first i symbols are copied. Assumes nothing.
 use mathlib.Core.Path.{_≡_, refl, ap, _∙_}
 use mathlib.Core.List.{List}
 use Prim.Native.Nat.{_≤_, _-_}
@@ -11,8 +11,8 @@ use Rattle.numbers.specs.Firsts.{firsts, written}
 use Rattle.numbers.proofs.Firsts.{written-step}
 use Rattle.protocol.specs.declared.Kind.{Kind}
 use Rattle.house.specs.Accept.{readBits, symbolAt, accepted}
-use Rattle.receiving.proofs.windows.is_accepted.Statement.{statement}
-use Rattle.receiving.proofs.windows.is_accepted.Tie as tie
+use Rattle.listening.proofs.is_accepted.Statement.{statement}
+use Rattle.listening.proofs.is_accepted.Tie as tie
 
 abbrev eightZeros : List Float
 eightZeros = replicate 8 (ofBits binary32 0)

@@ -2,15 +2,14 @@
 -- Over any receiver of single calls and any rule of reply. Assumes nothing.
 use mathlib.Core.List.{List, [], _∷_, _++_, map, flatMap}
 use lib.IntN.{ℤ}
-use lib.ListN.{replicate}
-use lib.Ieee.{Float, binary32, ofBits}
+use lib.Ieee.{Float}
 use Rattle.machine.specs.Runs.{Machine, run, answers}
 use Rattle.protocol.specs.declared.Kind.{Kind}
 use Rattle.search.specs.declared.Reply.{Reply}
 use Rattle.demodulator.specs.declared.SoftDemodulator.{SoftDemodulator}
 use Rattle.demodulator.specs.declared.Offer.{Offer}
 use Rattle.demodulator.specs.Calls.{Paper, refusal, nothing, frame, done, carrier}
-use Rattle.demodulator.specs.Singles.{Single, sample, reply, Said, left, saidBy}
+use Rattle.demodulator.specs.Singles.{Single, sample, reply, blank, Said, left, saidBy}
 
 -- "is offered: the kind, the sample number d, and symbol i .. for i = 0 to 191. The caller replies."
 pub record Listed : Type 0 where
@@ -32,10 +31,6 @@ listedOf rule (carrier there) room = []
 
 abbrev pub listedIn : Rule → Said → List Listed
 listedIn rule a = listedOf rule (a .answer) (a .room)
-
--- the room that is lent with each sample
-unfoldable pub blank : List Float
-blank = replicate 192 (ofBits binary32 0)
 
 abbrev pub replyTo : Listed → Single
 replyTo o = reply (o .reply)

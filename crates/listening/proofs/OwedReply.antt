@@ -1,4 +1,4 @@
--- By the rules, receive owes no reply between samples, so each sample goes in until the count is at its end. Assumes nothing.
+-- By the rules, who listens owes no reply between samples, so each sample goes in until the count is at its end. Assumes nothing.
 use mathlib.Core.Path.{_≡_, refl, sym, ap, _∙_}
 use mathlib.Core.Bool.{Bool, true, false, not, cond, true≢false}
 use mathlib.Core.List.{List, [], _∷_, _++_, map}
@@ -12,11 +12,6 @@ use lib.ListN.{length}
 use lib.Ieee.{Float}
 use Rattle.machine.specs.Runs.{run, answers, Each}
 use Rattle.shaping.specs.Rate.{Rate}
-use Rattle.protocol.specs.declared.Kind.{Kind}
-use Rattle.protocol.specs.declared.Kind.the-variants.{Lsf, Bert, Stream, Packet}
-use Rattle.protocol.specs.declared.SyncBurst.{SyncBurst}
-use Rattle.protocol.specs.declared.SyncBurst.the-variants.{Frame, Preamble, EndOfTransmission}
-use Rattle.decode.specs.Correlator.{matches}
 use Rattle.search.specs.declared.Waiting.{Waiting}
 use Rattle.search.specs.declared.Wait.{Wait}
 use Rattle.search.specs.declared.Wait.the-variants.{Free, Due}
@@ -26,33 +21,19 @@ use Rattle.search.specs.declared.Turn.the-variants.{Rest}
 use Rattle.search.specs.declared.Reply.{Reply}
 use Rattle.search.specs.declared.Reply.the-variants.{Accepted, Rejected}
 use Rattle.search.specs.TakenBurst.{TakenBurst, heldIn}
-use Rattle.search.specs.Search.{carried, tried, passed, searched}
 use Rattle.search.specs.Turn.{Outcome, quiet, offer, counted, freed, owing, dueTurn, waitedTurn, comesTo, controlOf, sampled, replied as settledBy}
-use Rattle.search.proofs.AgeInPass.{by-test, missed-keeps, matched-keeps}
+use Rattle.search.proofs.AgeInPass.{by-test, searched-owed}
 use Rattle.demodulator.specs.Spans.{eight}
 use Rattle.demodulator.specs.Calls.{isRefusal}
-use Rattle.demodulator.specs.Singles.{sample, reply}
+use Rattle.demodulator.specs.Singles.{sample, reply, blank, Said}
 use Rattle.demodulator_run.specs.Filter.{ago}
 use Rattle.demodulator_run.specs.Rules.{History, After, start, settled, given, answered, single}
 use Rattle.demodulator_run.proofs.Count.{sampled-count, replied-count}
-use Rattle.receiving.specs.Listener.{Rule, listedOf, listedIn, blank, replyTo, callsAt, listener}
-use Rattle.receiving.specs.Rules.{rulesAt}
-use Rattle.receiving.proofs.FedCount.{NotRefused}
+use Rattle.listening.specs.Listener.{Rule, listedOf, listedIn, replyTo, callsAt, listener}
+use Rattle.listening.specs.Rules.{rulesAt}
 
 -- ---- what is owed, through a search and a sample
 module _ (p : ℕ) (v : ℕ → Float) where
-  carried-owed : (burst : SyncBurst) (c : Control) → carried p burst v c .owed ≡ c .owed
-  unfolding carried
-  carried-owed burst c = by-test (λ (d : Control). d .owed ≡ c .owed) (matches burst v) _ _ (λ e. refl) (λ e. refl)
-
-  tried-owed : (kind : Kind) (c : Control) → tried p v kind c .owed ≡ c .owed
-  unfolding tried
-  tried-owed kind c = by-test (λ (d : Control). d .owed ≡ c .owed) (matches (Frame kind) v) _ _ (λ e. matched-keeps (heldIn (c .candidate)) _ c .owed) (λ e. missed-keeps p kind (heldIn (c .candidate)) c .owed)
-
-  searched-owed : (c : Control) → searched p v c .owed ≡ c .owed
-  unfolding searched passed
-  searched-owed c = tried-owed Packet _ ∙ tried-owed Stream _ ∙ tried-owed Bert _ ∙ tried-owed Lsf _ ∙ carried-owed EndOfTransmission _ ∙ carried-owed Preamble c
-
   -- a reply is owed by an offer, and by nothing else
   Owes : Outcome → Type 0
   Owes (quiet c) = c .owed ≡ false
@@ -64,12 +45,12 @@ module _ (p : ℕ) (v : ℕ → Float) where
 
   due-owes : (o : Option TakenBurst) (w : Waiting) (c : Control) → c .owed ≡ false → Owes (comesTo p v (dueTurn o w c))
   unfolding dueTurn Owes
-  due-owes none w c e = searched-owed c ∙ e
+  due-owes none w c e = searched-owed p v c ∙ e
   due-owes (some t) w c e = refl
 
   waited-owes : (wait : Wait) (c : Control) → c .owed ≡ false → Owes (comesTo p v (waitedTurn wait c))
   unfolding waitedTurn Owes
-  waited-owes Free c e = searched-owed c ∙ e
+  waited-owes Free c e = searched-owed p v c ∙ e
   waited-owes (Due w) c e = pick-owes (ltb 1 (w .left)) (Rest _) (dueTurn (heldIn (c .candidate)) w (freed c)) e (due-owes (heldIn (c .candidate)) w (freed c) e)
 
   sampled-owes : (c : Control) → c .owed ≡ false → Owes (sampled p v c)
@@ -79,9 +60,12 @@ module _ (p : ℕ) (v : ℕ → Float) where
   replied-owes : (r : Reply) (c : Control) → settledBy p v r c .owed ≡ false
   unfolding settledBy
   replied-owes Accepted c = refl
-  replied-owes Rejected c = searched-owed (owing false c)
+  replied-owes Rejected c = searched-owed p v (owing false c)
 
 -- ---- between samples
+abbrev pub NotRefused : Said → Type 0
+NotRefused a = isRefusal (a .answer) ≡ false
+
 pub record Between (h : History) (n : ℕ) : Type 0 where
   pub owed : h .control .owed ≡ false
   pub count : h .control .sample ≡ n

@@ -7,8 +7,8 @@ use Rattle.machine.specs.Runs.{Machine, run, answers, Each, Simulates}
 use Rattle.machine.proofs.Parts.{run-joined, answers-joined, given-joined}
 use Rattle.machine.proofs.Simulation.{runs-related, answers-alike}
 use Rattle.search.specs.declared.Reply.{Reply}
-use Rattle.demodulator.specs.Singles.{Single, sample, reply, Said}
-use Rattle.receiving.specs.Listener.{Listed, Rule, listedIn, blank, replyTo, callsAt, listener, offers, calls}
+use Rattle.demodulator.specs.Singles.{Single, sample, reply, blank, Said}
+use Rattle.listening.specs.Listener.{Listed, Rule, listedIn, replyTo, callsAt, listener, offers, calls}
 
 module _ {S : Type 0} (m : Machine S Single Said) (rule : Rule) where
   -- ---- two lists of samples: the second goes on from where the first left the receiver
