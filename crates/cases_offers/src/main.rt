@@ -1,4 +1,4 @@
-// Replays the lists `offers` and `stretches` of both rates: reads their streams of samples with their scripts of replies, feeds them to the receiver, and writes each line again with what it led to.
+// Replays the lists `offers`, `stretches` and `carry-over` of both rates: reads their streams of samples with their scripts of replies, feeds them to the receiver, and writes each line again with what it led to.
 mod changes;
 mod stream;
 mod stretch;
@@ -137,10 +137,10 @@ fn replay(text: &[u8]) {
 }
 
 // Room for the streams. Only its length is told, which lending it as a slice needs.
-fn room() -> [u8; 393_216]
-    ensures { λ r. ⌜ 393216 ≡ length r ⌝ }
+fn room() -> [u8; 524_288]
+    ensures { λ r. ⌜ 524288 ≡ length r ⌝ }
 {
-    [0; 393_216]
+    [0; 524_288]
 }
 
 fn main() {

@@ -74,7 +74,7 @@ module _ (S : Sketch) where
   pub number : length samples ≡ 1972
   number = length-append (S .front) (S .x ∷ S .y ∷ pause 1900) ∙ (let a = S .facts .long in let b = pause-length 1900 in omega arith)
 
-  few : length samples ≤ 2 ^ 63
+  pub few : length samples ≤ 2 ^ 63
   few = let e = number in omega arith
 
   pub heard-samples : historyAll taps 10 calls .samples ≡ samples
@@ -103,10 +103,10 @@ module _ (S : Sketch) where
   pub correlates : (k : ℕ) → k ≤ 73 → (j : Kind) → at shaped j k ≡ correlation (Frame j) (listed 10 (S .table) k)
   correlates = at-listed at48 facts48 samples (S .front ++ (S .x ∷ S .y ∷ pos 0 ∷ [])) (pause 1899) part 73 long (S .table) (S .tabled)
 
-  none-before : (n : ℕ) → n ≤ 70 → Hits (shaped n) none
+  pub none-before : (n : ℕ) → n ≤ 70 → Hits (shaped n) none
   none-before = silent-listed at48 facts48 samples (S .front ++ (S .x ∷ S .y ∷ pos 0 ∷ [])) (pause 1899) part 73 long (S .table) (S .tabled) 70 (lit≤ tt) (S .facts .quiet)
 
-  at-71 : Hits (shaped 71) (sameKind (S .kind))
+  pub at-71 : Hits (shaped 71) (sameKind (S .kind))
   at-71 = hits 71 (lit≤ tt) (sameKind (S .kind)) (S .facts .first)
 
   pub at-72 : Hits (shaped 72) (S .hit)

@@ -36,6 +36,20 @@ fn steps(samples: &[i16], replies: &str) -> Vec<Control> {
     kept
 }
 
+/// Every offer, its kind and sample.
+pub fn offered(samples: &[i16], replies: &str) -> Vec<(&'static str, usize)> {
+    lay_replies(replies);
+    let mut receiver = SoftDemodulator::new();
+    let mut hear = |sample: i16| {
+        receiver.demod(sample);
+        take_offer().map(|offer| offer.kind)
+    };
+    (1..)
+        .zip(samples)
+        .filter_map(|(number, &sample)| hear(sample).map(|kind| (kind, number)))
+        .collect()
+}
+
 /// What the receiver keeps before the last sample of a signal, and after it.
 pub fn last_step(samples: &[i16]) -> (Control, Control) {
     let kept = steps(samples, "");

@@ -2,6 +2,7 @@
 
 mod bit_errors;
 mod bursts;
+mod carry_over;
 mod corners;
 mod correlations;
 mod examples;
@@ -26,7 +27,14 @@ pub struct List {
 }
 
 /// The lists that follow the rate; the others are those of 48 kHz.
-const OF_EACH_RATE: [&str; 5] = ["taps", "filters", "offers", "stretches", "sender"];
+const OF_EACH_RATE: [&str; 6] = [
+    "taps",
+    "filters",
+    "offers",
+    "stretches",
+    "carry-over",
+    "sender",
+];
 
 /// The lists of the rate that this build is for.
 pub fn lists() -> impl Iterator<Item = List> {
@@ -34,7 +42,7 @@ pub fn lists() -> impl Iterator<Item = List> {
         .filter(|list| RATE == 48_000 || OF_EACH_RATE.contains(&list.name))
 }
 
-const ALL: [List; 15] = [
+const ALL: [List; 16] = [
     List {
         name: "bit-errors",
         write: bit_errors::write,
@@ -78,6 +86,10 @@ const ALL: [List; 15] = [
     List {
         name: "stretches",
         write: stretches::write,
+    },
+    List {
+        name: "carry-over",
+        write: carry_over::write,
     },
     List {
         name: "sender",

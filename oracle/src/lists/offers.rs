@@ -12,15 +12,19 @@ use crate::modem::{Demodulator, SoftDemodulator};
 use crate::rate::RATE;
 
 pub fn write() -> String {
+    written(&streams())
+}
+
+pub fn written(streams: &[Script]) -> String {
     let mut list = String::new();
-    for stream in streams() {
+    for stream in streams {
         let replies = if stream.replies.is_empty() {
             "-"
         } else {
             &stream.replies
         };
         list.push_str(&format!("stream {} {RATE} {replies}\n", stream.name));
-        run(&mut list, &stream);
+        run(&mut list, stream);
     }
     list
 }

@@ -37,7 +37,11 @@ pub(crate) fn matching(burst: SyncBurst, at: usize, gain: f64, slack: f64) -> [W
 /// Samples that come as near to the wishes as whole samples can: those of least energy, rounded. None
 /// where a sample would have to lie outside i16.
 pub fn samples(wishes: &[Wish]) -> Option<Vec<i16>> {
-    let length = wishes.iter().map(|wish| wish.at).max()?;
+    samples_up_to(wishes, wishes.iter().map(|wish| wish.at).max()?)
+}
+
+/// The same with so many samples, and zeros after them.
+pub fn samples_up_to(wishes: &[Wish], length: usize) -> Option<Vec<i16>> {
     let rows: Vec<Vec<f64>> = wishes.iter().map(|wish| heard(wish.at, length)).collect();
     let product = |a: &[f64], b: &[f64]| a.iter().zip(b).map(|(a, b)| a * b).sum();
     let gram: Vec<Vec<f64>> = rows
