@@ -25,6 +25,8 @@ mod random;
 #[path = "../rate.rs"]
 #[allow(dead_code)]
 mod rate;
+#[path = "../speed/replays.rs"]
+mod replays;
 /// shaping.rs, whole.
 mod shaping {
     include!(concat!(env!("OUT_DIR"), "/shaping.rs"));
@@ -75,6 +77,9 @@ fn main() {
     ] {
         receiver(&mut port, name, &samples);
     }
+    println!();
+    println!("replay      samples           over feed");
+    replays::replays(&mut port, &mut random);
     println!();
     println!("sender      samples            by value");
     sender(&mut port, &mut random);

@@ -13,6 +13,7 @@ mod numbers;
 mod offers;
 mod offsets;
 mod programs;
+mod replays;
 mod sender;
 mod slices;
 mod streams;
@@ -27,12 +28,13 @@ pub struct List {
 }
 
 /// The lists that follow the rate; the others are those of 48 kHz.
-const OF_EACH_RATE: [&str; 6] = [
+const OF_EACH_RATE: [&str; 7] = [
     "taps",
     "filters",
     "offers",
     "stretches",
     "carry-over",
+    "replays",
     "sender",
 ];
 
@@ -42,7 +44,7 @@ pub fn lists() -> impl Iterator<Item = List> {
         .filter(|list| RATE == 48_000 || OF_EACH_RATE.contains(&list.name))
 }
 
-const ALL: [List; 16] = [
+const ALL: [List; 17] = [
     List {
         name: "bit-errors",
         write: bit_errors::write,
@@ -90,6 +92,10 @@ const ALL: [List; 16] = [
     List {
         name: "carry-over",
         write: carry_over::write,
+    },
+    List {
+        name: "replays",
+        write: replays::write,
     },
     List {
         name: "sender",

@@ -53,7 +53,7 @@ fn run(list: &mut String, stream: &Script) {
 }
 
 /// The next line of samples: a stretch of zeros by its length, or up to 64 samples by their bits.
-fn portion(rest: &[i16]) -> (String, &[i16]) {
+pub(super) fn portion(rest: &[i16]) -> (String, &[i16]) {
     let zeros = rest.iter().take_while(|&&sample| sample == 0).count();
     if zeros >= 64 {
         return (format!("zeros {zeros}\n"), &rest[..zeros]);
