@@ -1,7 +1,8 @@
 // The receiver as tools/compare asks it, beside the old one: a call for each request on standard input, on the record that comes with it, and on standard output what the call left. All is
 // laid as the library wire lays it, so that whoever asks sees the whole record and can make one up.
 // A request is four numbers: the call, how many samples there are, how many places of the room are lent, and whether a reply accepts; then the record, the room's 200 floats, and the
-// samples, 4,096 at most. An answer is the record, with what the call told, and the room. Where samples are heard one by one, a note of each comes before it.
+// samples, 4,096 at most. An answer is the record, with what the call told, and the room. Where samples are heard one by one, a note of each comes before it. A request that lists is
+// another: src/listing.rt has it.
 use libc::STDIN_FILENO;
 use libc::STDOUT_FILENO;
 ghost use Prim.Native.Nat.{_*_, _≤_};
@@ -9,6 +10,10 @@ ghost use lib.ListN.{length};
 
 mod calls;
 mod layout;
+mod listing;
+
+// The call that is on no record.
+const LIST: u64 = 5;
 
 // A number of the request, within what there is.
 fn count(number: u64, most: usize) -> usize
@@ -28,7 +33,7 @@ fn put_room(room: [f32; 200]) {
 }
 
 // The bytes are room to read into.
-fn read_samples(count: usize, bytes: &mut [u8], samples: &mut [i16])
+pub(crate) fn read_samples(count: usize, bytes: &mut [u8], samples: &mut [i16])
     requires { ⌜ (2 * count ≤ length (now bytes)) × (count ≤ length (now samples)) ⌝ }
 {
     let end = 2 * count;
@@ -44,6 +49,14 @@ fn answer_one() -> bool {
     }
     let mut asked = [0u64; 4];
     wire::numbers(&head, &mut asked);
+    if asked[0] == LIST {
+        listing::answer(
+            count(asked[1], listing::SAMPLES),
+            count(asked[2], listing::OFFERS),
+            count(asked[3], listing::OFFERS),
+        );
+        return true;
+    }
     // The record, and after it the room.
     let mut body = [0u8; 9004];
     io::read_full(STDIN_FILENO, &mut body);

@@ -1,12 +1,15 @@
-// What tools/speed measures. A request on standard input is a letter, a number in four bytes, the low one first, and data: `d` and `f` are followed by so many samples, two bytes each, which
-// are heard by a call for each or in stretches; `o` by so many samples too, a recording that is opened at its last; `s` by a line of the house format, whose symbols are sent as so many frames. `D`, `F`, `O` and `S` are the same for 24 kHz. When all of it is read, one byte is written, and after one byte
-// more of input the job is done and its checksum written, eight bytes, the low one first. So whoever asks can time the job alone, and hold the checksum to the Rust's. The end of the input
-// ends it, and so does a request that is none.
+// What tools/speed measures. A request on standard input is a letter, a number in four bytes, the low one first, and data: `d` and `f` are
+// followed by so many samples, two bytes each, which are heard by a call for each or in stretches, `l` by as many for the slow engine to
+// list, and `o` by a recording of so many, opened at its last; `s` by a line of the house format, whose symbols are sent as so many frames.
+// `D`, `F`, `L`, `O` and `S` are the same for 24 kHz. When all of it is read, one byte is written, and after one byte more of input the job
+// is done and its checksum written, eight bytes, the low one first. So whoever asks can time the job alone, and hold the checksum to the
+// Rust's. The end of the input ends it, and so does a request that is none.
 use libc::STDIN_FILENO;
 use libc::STDOUT_FILENO;
 ghost use Prim.Native.Nat.{_≤_};
 ghost use lib.ListN.{length};
 
+mod listing;
 mod reading;
 mod receiver;
 mod replayed;
@@ -47,7 +50,14 @@ fn tell(sum: u64) -> bool {
     io::write_all(STDOUT_FILENO, &bytes)
 }
 
-fn hear_into(rate: u32, job: u8, samples: &mut [i16]) -> bool
+enum Way {
+    Singly,
+    InStretches,
+    Listed,
+    Opened,
+}
+
+fn hear_into(rate: u32, way: Way, samples: &mut [i16]) -> bool
     requires { ⌜ length (now samples) ≤ 192000 ⌝ }
 {
     if !reading::read_samples(samples) {
@@ -56,21 +66,20 @@ fn hear_into(rate: u32, job: u8, samples: &mut [i16]) -> bool
     if !begin() {
         return false;
     }
-    if job == b'o' {
-        tell(replayed::at_its_last(rate, samples))
-    } else if job == b'f' {
-        tell(receiver::by_stretch(rate, samples))
-    } else {
-        tell(receiver::by_sample(rate, samples))
+    match way {
+        Way::Singly => tell(receiver::by_sample(rate, samples)),
+        Way::InStretches => tell(receiver::by_stretch(rate, samples)),
+        Way::Listed => tell(listing::of_recording(rate, samples)),
+        Way::Opened => tell(replayed::at_its_last(rate, samples)),
     }
 }
 
-fn hear(rate: u32, job: u8, count: usize) -> bool {
+fn hear(rate: u32, way: Way, count: usize) -> bool {
     let mut room = reading::sample_room();
     if room.len() < count {
         return false;
     }
-    hear_into(rate, job, &mut room[..count])
+    hear_into(rate, way, &mut room[..count])
 }
 
 fn send(rate: u32, frames: u32) -> bool {
@@ -94,13 +103,15 @@ fn answer() -> bool {
     }
     let count = number(header[1], header[2], header[3], header[4]);
     match header[0] {
-        b'd' => hear(48_000, b'd', count as usize),
-        b'f' => hear(48_000, b'f', count as usize),
-        b'o' => hear(48_000, b'o', count as usize),
+        b'd' => hear(48_000, Way::Singly, count as usize),
+        b'f' => hear(48_000, Way::InStretches, count as usize),
+        b'l' => hear(48_000, Way::Listed, count as usize),
+        b'o' => hear(48_000, Way::Opened, count as usize),
         b's' => send(48_000, count),
-        b'D' => hear(24_000, b'd', count as usize),
-        b'F' => hear(24_000, b'f', count as usize),
-        b'O' => hear(24_000, b'o', count as usize),
+        b'D' => hear(24_000, Way::Singly, count as usize),
+        b'F' => hear(24_000, Way::InStretches, count as usize),
+        b'L' => hear(24_000, Way::Listed, count as usize),
+        b'O' => hear(24_000, Way::Opened, count as usize),
         b'S' => send(24_000, count),
         _ => false,
     }

@@ -56,6 +56,9 @@ const RUNS: usize = 11;
 const FRAMES: usize = 100;
 const SAMPLES: usize = FRAMES * FRAME;
 
+/// The longest recording that the slow engine takes.
+const LONGEST: usize = 65_536;
+
 fn main() {
     let path = |name| PathBuf::from(env::var_os(name).expect("tools/speed names it"));
     let sides = Sides {
@@ -69,13 +72,19 @@ fn main() {
     println!("receiver    samples  offers  by value  in bulk");
     let mut random = Random::new(21);
     let noise = (0..SAMPLES).map(|_| random.sample()).collect();
-    for (name, samples) in [
+    let inputs = [
         ("silence", vec![0; SAMPLES]),
         ("noise", noise),
         ("preamble", preamble()),
         ("frames", frames(&mut random)),
-    ] {
-        receiver(&mut port, name, &samples);
+    ];
+    for (name, samples) in &inputs {
+        receiver(&mut port, name, samples);
+    }
+    println!();
+    println!("slow engine samples  offers  over the port's receiver, by value");
+    for (name, samples) in &inputs {
+        slow_engine(&mut port, name, &samples[..LONGEST]);
     }
     println!();
     println!("replay      samples           over feed");
@@ -136,6 +145,43 @@ fn receiver(port: &mut Port, name: &str, samples: &[i16]) {
         by_value / old,
         in_bulk / old
     );
+}
+
+/// The slow engine beside the port's own receiver, a call a sample.
+fn slow_engine(port: &mut Port, name: &str, samples: &[i16]) {
+    let data = house::bytes(samples);
+    let (offers, count) = old_offers(samples);
+    let mut times: [Vec<Duration>; 2] = Default::default();
+    for _ in 0..RUNS {
+        times[0].push(port.run(Job::Demod, samples.len(), &data).1);
+        let (sum, time) = port.run(Job::List, samples.len(), &data);
+        assert_eq!(
+            offers, sum,
+            "{name}: the slow engine does not list what the old modem offers"
+        );
+        times[1].push(time);
+    }
+    let [by_value, slow] = times.map(median);
+    println!(
+        "{name:<9} {:>9} {count:>7} {:>9.2}",
+        samples.len(),
+        slow / by_value
+    );
+}
+
+/// The checksum of the old modem's offers, as crates/speed takes it (its listing.rt), and how many there are.
+fn old_offers(samples: &[i16]) -> (u64, usize) {
+    lay_replies(&"a".repeat(samples.len() / (100 * P) + 1));
+    let mut receiver = SoftDemodulator::new();
+    let (mut sum, mut count) = (0, 0);
+    for (i, &sample) in samples.iter().enumerate() {
+        receiver.demod(sample);
+        if let Some(offer) = take_offer() {
+            sum = sums::with_floats(sums::with(sum, i as u64 + 1), &offer.symbols);
+            count += 1;
+        }
+    }
+    (sum, count)
 }
 
 /// The checksum, as crates/speed takes it (its receiver.rt), the time, and how many offers there were.

@@ -3,6 +3,7 @@
 use super::flat::{self, floats_differ, receivers_differ, say, Receiver};
 use super::flat::{ANSWER, CARRIER, GIVEN, NO_KIND, OFFERED_AT, REFUSAL};
 use super::lengths::length;
+use super::listings::{self, Offered};
 use super::pieces::{self, Singly};
 use super::port::{Hearing, Note, Program};
 use super::recordings::{recording, Recording};
@@ -88,7 +89,16 @@ fn difference(
             Err((i, what)) => return Some((at + i, what)),
         }
     }
-    None
+    let Sides {
+        program,
+        offers,
+        mut lengths,
+        ..
+    } = sides;
+    let replies = &recording.replies;
+    listings::compared(program, samples, replies, &offers, &mut lengths, tally)
+        .err()
+        .map(|what| (samples.len().saturating_sub(1), what))
 }
 
 struct Sides<'a> {
@@ -103,6 +113,8 @@ struct Sides<'a> {
     accepted: bool,
     /// Where the pieces' lengths come from.
     lengths: Random,
+    /// All that the old modem offered.
+    offers: Vec<Offered>,
 }
 
 impl<'a> Sides<'a> {
@@ -119,6 +131,7 @@ impl<'a> Sides<'a> {
             notes: vec![],
             accepted: false,
             lengths: Random::new(pieces),
+            offers: vec![],
         }
     }
 
@@ -172,6 +185,7 @@ impl<'a> Sides<'a> {
         count(before, after, offer.as_ref(), tally);
         if let Some(offer) = offer {
             self.offer(i, &offer, kept, before)?;
+            self.note_offer(&offer, kept, after);
             tally.marked += u64::from(kept.replaced);
             return self.reply(i, offer.accepted, tally);
         }
@@ -221,6 +235,20 @@ impl<'a> Sides<'a> {
         }
         unequal(flat::reports_differ(kept, before, numbers))?;
         unequal(floats_differ("symbol", &offer.symbols, &self.room[..192]))
+    }
+
+    fn note_offer(&mut self, offer: &Offer, kept: Found, after: Control) {
+        let kind = KINDS.iter().position(|&kind| name(kind) == offer.kind);
+        self.offers.push(Offered {
+            numbers: [
+                kind.expect("one of the four") as u64,
+                after.count,
+                kept.taken_at,
+                u64::from(kept.age),
+                u64::from(kept.replaced),
+            ],
+            symbols: offer.symbols,
+        });
     }
 
     /// The same stretch by `feed`, in one call and in pieces, with the reply: the port with itself.

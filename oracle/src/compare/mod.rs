@@ -4,6 +4,7 @@ pub mod calls;
 pub mod flat;
 pub mod lengths;
 pub mod listening;
+pub mod listings;
 pub mod pieces;
 pub mod port;
 pub mod receivers;

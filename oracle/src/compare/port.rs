@@ -11,6 +11,9 @@ use std::process::{Child, ChildStdin, ChildStdout, Command, Stdio};
 /// The places of a receiver's room as they go over; fewer may be lent.
 const ROOM: usize = 200;
 
+/// The offers that the rooms of a listing are for, and the most replies.
+pub const LISTED: usize = 32;
+
 pub struct Program {
     child: Child,
     requests: BufWriter<ChildStdin>,
@@ -40,6 +43,14 @@ pub enum Sending<'a> {
     /// Fill, capacity, latency.
     Update([u64; 3]),
     Run,
+}
+
+/// The offers of a recording as the slow engine lists them: its refusal or 0, how many, and both rooms, which are for 32.
+pub struct Listing {
+    pub refusal: u64,
+    pub count: u64,
+    pub numbers: [u64; 5 * LISTED],
+    pub symbols: [f32; 192 * LISTED],
 }
 
 /// What the port holds after a sample: the record's numbers, the candidate's three floats, and the new
@@ -151,6 +162,32 @@ impl Program {
             }
         }
         notes
+    }
+
+    /// Lists a recording, with a letter for each reply and room for so many offers.
+    pub fn list(&mut self, rate: u64, samples: &[i16], replies: &str, room: usize) -> Listing {
+        let mut head = [0; 8 + LISTED];
+        wire::put_numbers(&mut head, &[rate]);
+        for (byte, letter) in head[8..].iter_mut().zip(replies.bytes()) {
+            *byte = u8::from(letter == b'a');
+        }
+        let mut given = vec![0; 2 * samples.len()];
+        wire::put_samples(&mut given, samples);
+        let [samples, replies, room] = [samples.len(), replies.len(), room].map(|n| n as u64);
+        self.ask([5, samples, replies, room], &[&head, &given]);
+        let mut bytes = vec![0; 16 + 8 * 5 * LISTED + 4 * 192 * LISTED];
+        self.answer(&mut bytes);
+        let mut told = [0; 2];
+        wire::numbers(&bytes, &mut told);
+        let mut listing = Listing {
+            refusal: told[0],
+            count: told[1],
+            numbers: [0; 5 * LISTED],
+            symbols: [0.0; 192 * LISTED],
+        };
+        wire::numbers(&bytes[16..], &mut listing.numbers);
+        wire::floats(&bytes[16 + 8 * 5 * LISTED..], &mut listing.symbols);
+        listing
     }
 
     /// The record is as the call left it, and so is the room, which is read into.

@@ -9,6 +9,7 @@ mod examples;
 mod filters;
 mod frames;
 mod judge;
+mod listings;
 mod numbers;
 mod offers;
 mod offsets;
@@ -28,13 +29,14 @@ pub struct List {
 }
 
 /// The lists that follow the rate; the others are those of 48 kHz.
-const OF_EACH_RATE: [&str; 7] = [
+const OF_EACH_RATE: [&str; 8] = [
     "taps",
     "filters",
     "offers",
     "stretches",
     "carry-over",
     "replays",
+    "listings",
     "sender",
 ];
 
@@ -44,7 +46,7 @@ pub fn lists() -> impl Iterator<Item = List> {
         .filter(|list| RATE == 48_000 || OF_EACH_RATE.contains(&list.name))
 }
 
-const ALL: [List; 17] = [
+const ALL: [List; 18] = [
     List {
         name: "bit-errors",
         write: bit_errors::write,
@@ -96,6 +98,10 @@ const ALL: [List; 17] = [
     List {
         name: "replays",
         write: replays::write,
+    },
+    List {
+        name: "listings",
+        write: listings::write,
     },
     List {
         name: "sender",

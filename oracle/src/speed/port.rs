@@ -12,6 +12,7 @@ use std::time::{Duration, Instant};
 pub enum Job {
     Demod = b'd' as isize,
     Feed = b'f' as isize,
+    List = b'l' as isize,
     Open = b'o' as isize,
     Send = b's' as isize,
 }
