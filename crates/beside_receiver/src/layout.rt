@@ -1,7 +1,9 @@
-// The receiver's record in bytes: 23 numbers; the candidate's diff, gain and shift and the newest filtered value; the ring's 1,920 values; the window's 162 places. The numbers are both
-// cursors, the count, the candidate's kind (4 for none), age and taken-at, whether a wait is held, what is left of it, its age and its mark, whether a timer is held and its end, whether a
-// reply is owed, the rate; then an answer: the refusal's number or 0, the offered kind or what the carrier query says, the offer's sample, taken-at, age, mark and gain (its bit pattern), the carrier after a
-// sample, and how many samples were given, by `feed` how many went in. The numbers end at byte 184, the four floats at 200, the ring at 7,880 and the window at 8,204.
+// The receiver's record in bytes: 23 numbers; the candidate's diff, gain and shift and the newest filtered value; the ring's 1,920 values;
+// the window's 162 places. The numbers are both cursors, the count, the candidate's kind (4 for none), age and taken-at, whether a wait is
+// held, what is left of it, its age and its mark, whether a timer is held and its end, whether a reply is owed, the rate; then an answer:
+// the refusal's number or 0, the offered kind or what the carrier query says, the offer's sample, taken-at, age, mark and gain (its bit
+// pattern), the carrier after a sample, and how many samples were given, by `feed` how many went in. The numbers end at byte 184, the four
+// floats at 200, the ring at 7,880 and the window at 8,204.
 use demodulator::Candidate;
 use demodulator::Control;
 use demodulator::SoftDemodulator;

@@ -1,4 +1,5 @@
-// Replays the lists `offers`, `stretches` and `carry-over` of both rates: reads their streams of samples with their scripts of replies, feeds them to the receiver, and writes each line again with what it led to.
+// Replays the lists `offers`, `stretches` and `carry-over` of both rates: reads their streams of samples with their scripts of replies,
+// feeds them to the receiver, and writes each line again with what it led to.
 mod changes;
 mod stream;
 mod stretch;

@@ -35,7 +35,7 @@ use Rattle.sending.proofs.AnyText.{asks-some, output-prefix, failed-wri
 use Rattle.sending.proofs.GoodLines.{lines-back, good-lines, send-good, send-good-tells, samples-sent, bytes-sent}
 
 -- ---- "No input lines give 4,640 samples."
-no-text-samples : length (samplesSent []) ≡ 4640
+pub no-text-samples : length (samplesSent []) ≡ 4640
 unfolding linesOf goodFront
 no-text-samples = samples-sent []
 
@@ -48,14 +48,14 @@ unfolding flatten Fitting
 no-reads = send-run [] tt .written
 
 -- ---- "Whole case: the input is one line, 55F7 and 92 digits 0. Send writes 6,560 samples, 13,120 bytes."
-wholeCase : List ℕ
+pub wholeCase : List ℕ
 wholeCase = 0x35 ∷ 0x35 ∷ 0x46 ∷ 0x37 ∷ (replicate 92 0x30 ++ (lineFeed ∷ []))
 
-whole-case-good : AllGood (wholeCase ∷ [])
+pub whole-case-good : AllGood (wholeCase ∷ [])
 unfolding wholeCase AllGood goodLine allBelow valueOf placeIn capitals
 whole-case-good = (refl, tt)
 
-whole-case-lines : linesOf (flatten (wholeCase ∷ [])) ≡ wholeCase ∷ []
+pub whole-case-lines : linesOf (flatten (wholeCase ∷ [])) ≡ wholeCase ∷ []
 whole-case-lines = lines-back (wholeCase ∷ []) whole-case-good
 
 whole-case-samples : length (samplesSent (flatten (wholeCase ∷ []))) ≡ 6560
@@ -65,7 +65,7 @@ whole-case-bytes : length (bytesSent (flatten (wholeCase ∷ []))) ≡ 13120
 whole-case-bytes = bytes-sent (flatten (wholeCase ∷ [])) ∙ ap (λ (lines : List (List ℕ)). 9280 + 3840 * length lines) (good-lines (wholeCase ∷ []) whole-case-good)
 
 -- in one read
-whole-case-fits : Fitting (opened .sending) (wholeCase ∷ [])
+pub whole-case-fits : Fitting (opened .sending) (wholeCase ∷ [])
 unfolding Fitting opened partOf starting wholeCase
 whole-case-fits = (lit< tt, (lit≤ tt, λ _. tt))
 

@@ -58,10 +58,7 @@ pub record Done (l : Left) (cs : List Call) (xs : List Float) (new : List Float)
   pub written : output l ≡ sampleBytes (samplesBehind xs new)
   pub sits : Sits (l .sending .modulator) (cs ++ partCalls frame symbols) (xs ++ new)
 
-module _ (s : Sending) (cs : List Call) (xs : List Float) (sits : Sits (s .modulator) cs xs) (frame : ModulatorFrame) (symbols : List Float) (f : Symbols) (gives : Gives frame symbols f) where
-  abbrev m : SoftModulator
-  m = s .modulator
-
+module _ (m : SoftModulator) (cs : List Call) (xs : List Float) (sits : Sits m cs xs) (frame : ModulatorFrame) (symbols : List Float) (f : Symbols) (gives : Gives frame symbols f) where
   -- the two calls, at the rate that the record says
   abbrev taken : SenderLeft
   taken = provided (rateOf (m .rate)) m frame symbols
@@ -140,6 +137,11 @@ module _ (s : Sending) (cs : List Call) (xs : List Float) (sits : Sits (s .modul
       bytes-length (samplesBehind xs new) ∙ ap (λ (n : ℕ). 2 * n) (samples-number xs new ∙ ap (λ (n : ℕ). 10 * n) (length-firsts (f .symbol) (f .count))) in
       ap (take (2 * (10 * f .count))) (bytes-two (samplesBehind xs new) (drop (10 * f .count) emptyRoom)) ∙ take-at (sampleBytes (samplesBehind xs new)) _ (2 * (10 * f .count)) size
 
-  pub part-done : (bad last : Bool) → Done (partOf s frame symbols bad last) cs xs new frame symbols
+module _ (s : Sending) (cs : List Call) (xs : List Float) (sits : Sits (s .modulator) cs xs) (frame : ModulatorFrame) (symbols : List Float) (f : Symbols) (gives : Gives frame symbols f) where
+  pub part-done : (bad last : Bool) → Done (partOf s frame symbols bad last) cs xs (firsts (f .symbol) (f .count)) frame symbols
   unfolding partOf counted
-  part-done bad last = record { answer = frame-said; written = rw (count-said, room-said) all-written; sits = sits-next }
+  part-done bad last = record {
+    answer = frame-said (s .modulator) cs xs sits frame symbols f gives;
+    written = rw (count-said (s .modulator) cs xs sits frame symbols f gives, room-said (s .modulator) cs xs sits frame symbols f gives) (all-written (s .modulator) cs xs sits frame symbols f gives);
+    sits = sits-next (s .modulator) cs xs sits frame symbols f gives;
+  }

@@ -1,14 +1,16 @@
 // What tools/speed measures. A request on standard input is a letter, a number in four bytes, the low one first, and data: `d` and `f` are
 // followed by so many samples, two bytes each, which are heard by a call for each or in stretches, `l` by as many for the slow engine to
-// list, and `o` by a recording of so many, opened at its last; `s` by a line of the house format, whose symbols are sent as so many frames.
-// `D`, `F`, `L`, `O` and `S` are the same for 24 kHz. When all of it is read, one byte is written, and after one byte more of input the job
-// is done and its checksum written, eight bytes, the low one first. So whoever asks can time the job alone, and hold the checksum to the
-// Rust's. The end of the input ends it, and so does a request that is none.
+// list, and `o` by a recording of so many, opened at its last; `s` by a line of the house format, whose symbols are sent as so many frames;
+// `c` by so many samples, to be checked, and a line that each of their frames has. `D`, `F`, `L`, `O` and `S` are the same for 24 kHz. When
+// all of it is read, one byte is written, and after one byte more of input the job is done and its checksum written, eight bytes, the low
+// one first. So whoever asks can time the job alone, and hold the checksum to the Rust's; that of `c` is
+// whether the checker says yes. The end of the input ends it, and so does a request that is none.
 use libc::STDIN_FILENO;
 use libc::STDOUT_FILENO;
 ghost use Prim.Native.Nat.{_≤_};
 ghost use lib.ListN.{length};
 
+mod checker;
 mod listing;
 mod reading;
 mod receiver;
@@ -95,6 +97,32 @@ fn send(rate: u32, frames: u32) -> bool {
     tell(sender::frames(rate, frames, symbols))
 }
 
+fn check_into(samples: &mut [i16]) -> bool
+    requires { ⌜ length (now samples) ≤ 192000 ⌝ }
+{
+    let mut line = [0u8; 97];
+    let mut text = checker::text_room();
+    if !reading::read_samples(samples) {
+        return false;
+    }
+    if io::read_full(STDIN_FILENO, &mut line) < 97 {
+        return false;
+    }
+    checker::put_lines(&mut text, line);
+    if !begin() {
+        return false;
+    }
+    tell(checker::is_sent(&text, samples))
+}
+
+fn check(count: usize) -> bool {
+    let mut room = reading::sample_room();
+    if room.len() < count {
+        return false;
+    }
+    check_into(&mut room[..count])
+}
+
 // Whether to go on.
 fn answer() -> bool {
     let mut header = [0u8; 5];
@@ -108,6 +136,7 @@ fn answer() -> bool {
         b'l' => hear(48_000, Way::Listed, count as usize),
         b'o' => hear(48_000, Way::Opened, count as usize),
         b's' => send(48_000, count),
+        b'c' => check(count as usize),
         b'D' => hear(24_000, Way::Singly, count as usize),
         b'F' => hear(24_000, Way::InStretches, count as usize),
         b'L' => hear(24_000, Way::Listed, count as usize),

@@ -92,6 +92,12 @@ fn main() {
     println!();
     println!("sender      samples            by value");
     sender(&mut port, &mut random);
+    // The checker stays at 48 kHz.
+    if RATE == 48_000 {
+        println!();
+        println!("checker     samples     over the sender");
+        checker(&mut port, &mut random);
+    }
     port.end();
     println!();
     // The programs stay at 48 kHz.
@@ -217,6 +223,24 @@ fn sender(port: &mut Port, random: &mut Random) {
     }
     let ratio = median(new_times) / median(old_times);
     println!("frames    {SAMPLES:>9}         {ratio:>9.2}");
+}
+
+/// The port alone: what the checker takes for a sample over what the sender takes for one. The samples are the old
+/// modem's, of one line many times, as many as a request has room for.
+fn checker(port: &mut Port, random: &mut Random) {
+    let line = house::line(&signal::frame(random, SyncBurst::Stream));
+    let samples = house::sent(line.repeat(FRAMES - 3).as_bytes()).samples;
+    let data = [house::bytes(&samples), line.clone().into_bytes()].concat();
+    let (mut check_times, mut send_times) = (vec![], vec![]);
+    for _ in 0..RUNS {
+        let (yes, time) = port.run(Job::Check, samples.len(), &data);
+        check_times.push(time);
+        assert_eq!(yes, 1, "the checker does not say yes");
+        send_times.push(port.run(Job::Send, FRAMES, line.as_bytes()).1);
+    }
+    let each = |times, samples: usize| median(times) / samples as f64;
+    let ratio = each(check_times, samples.len()) / each(send_times, SAMPLES);
+    println!("frames    {:>9}         {ratio:>9.2}", samples.len());
 }
 
 /// The checksum, as crates/speed takes it (its sender.rt), and the time.

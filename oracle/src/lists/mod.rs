@@ -19,6 +19,7 @@ mod sender;
 mod slices;
 mod streams;
 mod stretches;
+mod supplier;
 mod taps;
 
 use crate::rate::RATE;
@@ -46,7 +47,7 @@ pub fn lists() -> impl Iterator<Item = List> {
         .filter(|list| RATE == 48_000 || OF_EACH_RATE.contains(&list.name))
 }
 
-const ALL: [List; 18] = [
+const ALL: [List; 19] = [
     List {
         name: "bit-errors",
         write: bit_errors::write,
@@ -114,6 +115,10 @@ const ALL: [List; 18] = [
     List {
         name: "offsets",
         write: offsets::write,
+    },
+    List {
+        name: "supplier",
+        write: supplier::write,
     },
     List {
         name: "examples",

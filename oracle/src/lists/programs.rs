@@ -101,11 +101,11 @@ fn bad_lines(list: &mut Session) {
     }
 }
 
-fn headed(word: &str, digit: char) -> String {
+pub fn headed(word: &str, digit: char) -> String {
     format!("{word}{}\n", digit.to_string().repeat(92))
 }
 
-fn payload(random: &mut Random, word: &str) -> String {
+pub fn payload(random: &mut Random, word: &str) -> String {
     let digits: String = (0..92).map(|_| format!("{:X}", random.below(16))).collect();
     format!("{word}{digits}\n")
 }
@@ -166,7 +166,7 @@ impl Session {
     }
 }
 
-fn hexadecimal(bytes: &[u8]) -> String {
+pub fn hexadecimal(bytes: &[u8]) -> String {
     bytes.iter().map(|byte| format!("{byte:02x}")).collect()
 }
 

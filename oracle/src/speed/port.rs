@@ -15,6 +15,7 @@ pub enum Job {
     List = b'l' as isize,
     Open = b'o' as isize,
     Send = b's' as isize,
+    Check = b'c' as isize,
 }
 
 impl Job {
