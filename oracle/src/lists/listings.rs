@@ -3,7 +3,7 @@
 
 use crate::bits::row;
 use crate::harness::{lay_replies, take_offer};
-use crate::lists::offers::portion;
+use crate::lists::offers::put_samples;
 use crate::lists::streams::{streams, Script};
 use crate::modem::found::Found;
 use crate::modem::peek::control;
@@ -27,16 +27,7 @@ pub fn write() -> String {
 
 fn lay_recording(list: &mut String, name: &str, samples: &[i16]) {
     list.push_str(&format!("recording {name}\n"));
-    lay_samples(list, samples);
-}
-
-fn lay_samples(list: &mut String, samples: &[i16]) {
-    let mut rest = samples;
-    while !rest.is_empty() {
-        let (line, samples) = portion(rest);
-        rest = &rest[samples.len()..];
-        list.push_str(&line);
-    }
+    put_samples(list, samples);
 }
 
 /// The last offer without its reply in rooms that just fit, replies left over, no reply, and a number or a symbol too few.

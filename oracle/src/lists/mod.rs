@@ -6,6 +6,7 @@ mod carry_over;
 mod corners;
 mod correlations;
 mod examples;
+mod figures;
 mod filters;
 mod frames;
 mod judge;
@@ -30,7 +31,7 @@ pub struct List {
 }
 
 /// The lists that follow the rate; the others are those of 48 kHz.
-const OF_EACH_RATE: [&str; 8] = [
+const OF_EACH_RATE: [&str; 9] = [
     "taps",
     "filters",
     "offers",
@@ -38,6 +39,7 @@ const OF_EACH_RATE: [&str; 8] = [
     "carry-over",
     "replays",
     "listings",
+    "figures",
     "sender",
 ];
 
@@ -47,7 +49,7 @@ pub fn lists() -> impl Iterator<Item = List> {
         .filter(|list| RATE == 48_000 || OF_EACH_RATE.contains(&list.name))
 }
 
-const ALL: [List; 19] = [
+const ALL: [List; 20] = [
     List {
         name: "bit-errors",
         write: bit_errors::write,
@@ -103,6 +105,10 @@ const ALL: [List; 19] = [
     List {
         name: "listings",
         write: listings::write,
+    },
+    List {
+        name: "figures",
+        write: figures::write,
     },
     List {
         name: "sender",

@@ -53,7 +53,7 @@ fn run(list: &mut String, stream: &Script) {
 }
 
 /// The next line of samples: a stretch of zeros by its length, or up to 64 samples by their bits.
-pub(super) fn portion(rest: &[i16]) -> (String, &[i16]) {
+fn portion(rest: &[i16]) -> (String, &[i16]) {
     let zeros = rest.iter().take_while(|&&sample| sample == 0).count();
     if zeros >= 64 {
         return (format!("zeros {zeros}\n"), &rest[..zeros]);
@@ -64,6 +64,16 @@ pub(super) fn portion(rest: &[i16]) -> (String, &[i16]) {
         .map(|sample| format!("{sample:04x}"))
         .collect();
     (format!("samples {digits}\n"), samples)
+}
+
+/// The lines of a recording that is heard as a whole.
+pub(super) fn put_samples(list: &mut String, samples: &[i16]) {
+    let mut rest = samples;
+    while !rest.is_empty() {
+        let (line, samples) = portion(rest);
+        rest = &rest[samples.len()..];
+        list.push_str(&line);
+    }
 }
 
 /// Gives what is kept besides, after the sample.

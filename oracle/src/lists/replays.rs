@@ -6,7 +6,7 @@ use crate::bits::{hex, row};
 use crate::decode::SyncBurst;
 use crate::harness::{reply_by_word, take_offer};
 use crate::lists::corners::corners;
-use crate::lists::offers::portion;
+use crate::lists::offers::put_samples;
 use crate::modem::found::Found;
 use crate::modem::peek::control;
 use crate::modem::{Demodulator, SoftDemodulator};
@@ -34,12 +34,7 @@ pub fn write() -> String {
         let offers = offers(&recording.samples);
         assert!(offers.iter().any(|offer| !offer.accepted));
         list.push_str(&format!("recording pause-{zeros} {RATE}\n"));
-        let mut rest = &recording.samples[..];
-        while !rest.is_empty() {
-            let (line, samples) = portion(rest);
-            rest = &rest[samples.len()..];
-            list.push_str(&line);
-        }
+        put_samples(&mut list, &recording.samples);
         for asked in recording.asked(&offers) {
             let found = offers.iter().find(|offer| asked <= offer.sample);
             let answer = found.map_or(format!("nothing kept {ROOM}"), |offer| {
