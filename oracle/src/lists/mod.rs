@@ -5,6 +5,7 @@ mod bursts;
 mod carry_over;
 mod corners;
 mod correlations;
+mod desk;
 mod examples;
 mod figures;
 mod filters;
@@ -31,7 +32,7 @@ pub struct List {
 }
 
 /// The lists that follow the rate; the others are those of 48 kHz.
-const OF_EACH_RATE: [&str; 9] = [
+const OF_EACH_RATE: [&str; 10] = [
     "taps",
     "filters",
     "offers",
@@ -40,6 +41,7 @@ const OF_EACH_RATE: [&str; 9] = [
     "replays",
     "listings",
     "figures",
+    "desk",
     "sender",
 ];
 
@@ -49,7 +51,7 @@ pub fn lists() -> impl Iterator<Item = List> {
         .filter(|list| RATE == 48_000 || OF_EACH_RATE.contains(&list.name))
 }
 
-const ALL: [List; 20] = [
+const ALL: [List; 21] = [
     List {
         name: "bit-errors",
         write: bit_errors::write,
@@ -109,6 +111,10 @@ const ALL: [List; 20] = [
     List {
         name: "figures",
         write: figures::write,
+    },
+    List {
+        name: "desk",
+        write: desk::write,
     },
     List {
         name: "sender",

@@ -59,11 +59,15 @@ fn portion(rest: &[i16]) -> (String, &[i16]) {
         return (format!("zeros {zeros}\n"), &rest[..zeros]);
     }
     let samples = &rest[..rest.len().min(64)];
-    let digits: String = samples
+    (format!("samples {}\n", digits(samples)), samples)
+}
+
+/// Four hexadecimal digits for each sample.
+pub(super) fn digits(samples: &[i16]) -> String {
+    samples
         .iter()
         .map(|sample| format!("{sample:04x}"))
-        .collect();
-    (format!("samples {digits}\n"), samples)
+        .collect()
 }
 
 /// The lines of a recording that is heard as a whole.
@@ -122,9 +126,15 @@ fn feed(list: &mut String, receiver: &mut SoftDemodulator, sample: i16, found: F
 
 pub fn offer_event(offer: &Offer, count: u64, found: Found, gain: f32) -> String {
     let reply = if offer.accepted { "accept" } else { "reject" };
+    let values = offer_values(offer, count, found, gain);
+    format!("offer {values} {reply}")
+}
+
+/// What an offer reports, and its symbols.
+pub(super) fn offer_values(offer: &Offer, count: u64, found: Found, gain: f32) -> String {
     let symbols = row(&offer.symbols);
     format!(
-        "offer {} {count} {} {} {} {} {symbols} {reply}",
+        "{} {count} {} {} {} {} {symbols}",
         offer.kind,
         found.taken_at,
         found.age,

@@ -2,11 +2,10 @@
 //! receiver's over the whole recording, whatever pauses there are: its first offer at the sample or after it. README.md gives
 //! the lines' forms.
 
-use crate::bits::{hex, row};
 use crate::decode::SyncBurst;
 use crate::harness::{reply_by_word, take_offer};
 use crate::lists::corners::corners;
-use crate::lists::offers::put_samples;
+use crate::lists::offers::{offer_values, put_samples};
 use crate::modem::found::Found;
 use crate::modem::peek::control;
 use crate::modem::{Demodulator, SoftDemodulator};
@@ -134,20 +133,10 @@ fn offers(samples: &[i16]) -> Vec<Listed> {
         let accepted = offer.as_ref().is_some_and(|offer| offer.accepted);
         if let Some(offer) = offer {
             let held = before.candidate.expect("a due frame has its candidate");
-            let text = format!(
-                "{} {} {} {} {} {} {}",
-                offer.kind,
-                after.count,
-                found.taken_at,
-                found.age,
-                u8::from(found.replaced),
-                hex(held.gain),
-                row(&offer.symbols)
-            );
             offers.push(Listed {
                 sample: after.count as usize,
                 accepted,
-                text,
+                text: offer_values(&offer, after.count, found, held.gain),
             });
         }
         found = found.next(before, after, accepted);

@@ -1,7 +1,7 @@
 //! The receiver in stretches: a line gives many samples at once, and what follows it are the offers inside it, and how
 //! it leaves the receiver. README.md gives the lines' forms.
 
-use super::offers::offer_event;
+use super::offers::{digits, offer_event};
 use super::streams::{script, Script};
 use crate::bits::hex;
 use crate::decode::{name, SyncBurst};
@@ -57,8 +57,7 @@ fn run(list: &mut String, stream: &Script, given: usize) {
     let mut found = Found::default();
     let mut ends = 0;
     for stretch in stream.samples.chunks(STRETCH) {
-        let digits: String = stretch.iter().map(|x| format!("{x:04x}")).collect();
-        list.push_str(&format!("feed {digits}\n"));
+        list.push_str(&format!("feed {}\n", digits(stretch)));
         for (i, &sample) in stretch.iter().enumerate() {
             let before = control(&receiver);
             if before.count == LAST {

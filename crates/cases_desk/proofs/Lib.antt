@@ -1,0 +1,2 @@
+-- What the walks of the lent calls share.
+pub mod Cells
