@@ -53,6 +53,7 @@ same_test false false h k = refl
 
 chosen : (t : Bool) (a b : Float) → T t → cond t a b ≡ a
 chosen true a b h = refl
+chosen false a b h = elim h [ ]
 
 -- b lies beyond a in the direction s
 abbrev passes : Bool → Float → Float → Bool
