@@ -133,4 +133,4 @@ module _ (v : ℕ → Float) (alone : (j k : Kind) → T (matches (Frame j) v) �
       go false e0 true e1 b2 e2 b3 e3 = inr (Bert, one_heard Bert (holds e1))
       go false e0 false e1 true e2 b3 e3 = inr (Stream, one_heard Stream (holds e2))
       go false e0 false e1 false e2 true e3 = inr (Packet, one_heard Packet (holds e3))
-      go false e0 false e1 false e2 false e3 = inl λ k. elim k [ Lsf ↦ e0 | Bert ↦ e1 | Stream ↦ e2 | Packet ↦ e3 ]
+      go false e0 false e1 false e2 false e3 = inl λ k. elim k as (λ (i : Kind). matches (Frame i) v ≡ false) [ Lsf ↦ e0 | Bert ↦ e1 | Stream ↦ e2 | Packet ↦ e3 ]
