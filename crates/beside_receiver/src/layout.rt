@@ -11,7 +11,7 @@ use libc::STDOUT_FILENO;
 use protocol::Kind;
 
 // An answer in numbers.
-#[derive(Drop)]
+#[derive(Clone, Copy)]
 pub(crate) struct Words {
     pub refusal: u64,
     pub answer: u64,

@@ -7,7 +7,7 @@ use libc::STDOUT_FILENO;
 use modulator::{EndReport, OutputBuffer, Pending, Progress, SampleCount, SoftModulator};
 
 // An answer in numbers.
-#[derive(Drop)]
+#[derive(Clone, Copy)]
 pub(crate) struct Words {
     pub refusal: u32,
     pub action: u64,

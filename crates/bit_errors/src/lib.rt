@@ -8,7 +8,7 @@ use protocol::Refusal;
 // The symbols of a payload: a frame's, without its burst.
 pub const PAYLOAD: usize = 184;
 
-#[derive(Drop)]
+#[derive(Clone, Copy)]
 pub enum BitErrors {
     Refused(Refusal),
     Counted(u32),

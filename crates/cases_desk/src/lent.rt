@@ -5,25 +5,25 @@ ghost use Rattle.desk.specs.Listing.{DeskListSays};
 use demodulator::{Carrier, Made, Replied, Reply};
 use desk::{Closed, Desk, Fed, Listed};
 
-#[derive(Drop)]
+#[derive(Clone, Copy)]
 pub struct Opened {
     pub answer: Made,
     pub desk: Desk,
 }
 
-#[derive(Drop)]
+#[derive(Clone, Copy)]
 pub struct AfterFeed {
     pub told: Fed,
     pub desk: Desk,
 }
 
-#[derive(Drop)]
+#[derive(Clone, Copy)]
 pub struct AfterReply {
     pub answer: Replied,
     pub desk: Desk,
 }
 
-#[derive(Drop)]
+#[derive(Clone, Copy)]
 pub struct AfterClose {
     pub answer: Closed,
     pub desk: Desk,

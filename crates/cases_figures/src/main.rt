@@ -9,7 +9,7 @@ ghost use Rattle.std.specs.Prelude.{◌≡◌, length};
 
 use figures::Report;
 
-#[derive(Drop)]
+#[derive(Clone, Copy)]
 struct Session {
     month: Report,
     rate: u32,

@@ -4,7 +4,7 @@ use protocol::Kind;
 use std::num::wrapping_add_u64;
 
 // A candidate in numbers: its kind by the order of trial, NO_KIND for none.
-#[derive(Drop)]
+#[derive(Clone, Copy)]
 pub(crate) struct Held {
     pub kind: u64,
     pub age: u64,
@@ -15,7 +15,7 @@ pub(crate) struct Held {
 }
 
 // A wait in numbers: what is left, 0 for none, the age at which it was set, and the mark, 1 for yes.
-#[derive(Drop)]
+#[derive(Clone, Copy)]
 pub(crate) struct Waited {
     pub left: u64,
     pub age: u64,
@@ -23,7 +23,7 @@ pub(crate) struct Waited {
 }
 
 // The control in numbers: the timer's end or NO_TIMER.
-#[derive(Drop)]
+#[derive(Clone, Copy)]
 pub(crate) struct Seen {
     pub count: u64,
     pub timer: u64,

@@ -4,7 +4,7 @@ use crate::changes::Seen;
 use demodulator::{Heard, Offer, Replied, Reply, SoftDemodulator};
 use std::num::wrapping_add_u64;
 
-#[derive(Drop)]
+#[derive(Clone, Copy)]
 pub(crate) struct Session {
     pub receiver: SoftDemodulator,
     // What was last seen of it, and the letters of the replies with how many of them are used.

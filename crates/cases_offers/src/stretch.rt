@@ -7,7 +7,7 @@ use demodulator::{Heard, Offer, SoftDemodulator};
 use std::num::{wrapping_add_u64, wrapping_add_usize, wrapping_sub_u64};
 
 // A call of `feed`: how many samples went in, and whether the rest is given again.
-#[derive(Drop)]
+#[derive(Clone, Copy)]
 struct Turn {
     session: Session,
     fed: usize,

@@ -6,7 +6,7 @@ use receiving::Receiving;
 use std::num::wrapping_add_u64;
 
 // What the last call consumed, and how many lines there are by now.
-#[derive(Drop)]
+#[derive(Clone, Copy)]
 struct Turn {
     receiving: Receiving,
     consumed: usize,

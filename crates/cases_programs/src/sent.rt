@@ -9,7 +9,7 @@ use std::num::wrapping_add_u64;
 const PIECE: usize = 40;
 
 // The part that came last, and how long the recording is by now.
-#[derive(Drop)]
+#[derive(Clone, Copy)]
 struct Turn {
     part: AfterPart,
     length: usize,
@@ -57,7 +57,7 @@ fn end(turn: Turn, recording: &mut [u8]) -> Turn {
 }
 
 // Adler-32 so far: the sum of the bytes and 1, and the sum of those sums.
-#[derive(Drop)]
+#[derive(Clone, Copy)]
 struct Sums {
     bytes: u64,
     sums: u64,

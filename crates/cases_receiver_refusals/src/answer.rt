@@ -1,7 +1,7 @@
 // The answer to a call, and how it is written.
 
 // What an offer reports of its burst: the sample at which it was taken, 0 where there is no offer, the age at which its wait was set, and the mark.
-#[derive(Drop)]
+#[derive(Clone, Copy)]
 pub(crate) struct Found {
     pub at: u64,
     pub kept: u64,
@@ -24,7 +24,7 @@ fn same_found(a: Found, b: Found) -> bool {
 // with the text that says which; how many of the ring's values are new; how many of the room's first places are written,
 // as many as an offer or a line has, and of those past them; the age of the candidate that is held then, 256 where none is;
 // whether a byte waits; what an offer reports; and whether a place that the record's rate does not use is not as it was.
-#[derive(Drop)]
+#[derive(Clone, Copy)]
 pub(crate) struct Answer {
     pub word: usize,
     pub number: u32,

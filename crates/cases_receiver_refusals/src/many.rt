@@ -42,7 +42,7 @@ fn counted(plain: Answer, text: usize, count: u64) -> Answer {
 }
 
 // The answer, the record that the call left, and how many samples went in.
-#[derive(Drop)]
+#[derive(Clone, Copy)]
 struct AfterFeed {
     answer: Answer,
     left: SoftDemodulator,

@@ -4,7 +4,7 @@ use crate::answer::Found;
 use demodulator::{Carrier, Heard, Made, Replied};
 
 // An answer's word, the number of a refusal, and what an offer reports.
-#[derive(Drop)]
+#[derive(Clone, Copy)]
 pub(crate) struct Said {
     pub word: usize,
     pub number: u32,

@@ -28,7 +28,7 @@ fn same_window(from: usize, a: [i16; 162], b: [i16; 162]) -> bool {
 }
 
 // A candidate in numbers: kind 4 and age 256, more than a candidate's can be, where there is none.
-#[derive(Drop)]
+#[derive(Clone, Copy)]
 pub(crate) struct Held {
     pub kind: u8,
     pub age: u64,

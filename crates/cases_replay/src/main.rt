@@ -5,7 +5,7 @@ mod answer;
 ghost use Rattle.std.specs.Prelude.{◌≡◌, length};
 
 // The recording's rate, and how many of its samples were read.
-#[derive(Drop)]
+#[derive(Clone, Copy)]
 struct Tape {
     rate: u32,
     count: usize,

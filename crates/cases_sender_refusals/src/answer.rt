@@ -4,7 +4,7 @@ ghost use Rattle.std.specs.Prelude.{◌≤◌};
 use modulator::{Made, ModulatorAction, Provided, Read, Updated};
 use protocol::{Place, Refusal};
 
-#[derive(Drop)]
+#[derive(Clone, Copy)]
 pub(crate) struct Answer {
     pub words: usize,
     pub number: u64,

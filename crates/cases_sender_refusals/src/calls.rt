@@ -8,7 +8,7 @@ use given_symbols::Traffic;
 use modulator::{DelaySteps, ModulatorFrame, SampleCount, SoftModulator};
 
 // What a call answers, and the record that it leaves.
-#[derive(Drop)]
+#[derive(Clone, Copy)]
 pub(crate) struct Left {
     pub answer: Answer,
     pub after: SoftModulator,

@@ -7,7 +7,7 @@ use protocol::{Place, Refusal};
 use supplier::Checked;
 
 // How many bytes the text has, and how many samples the recording.
-#[derive(Drop)]
+#[derive(Clone, Copy)]
 struct Lengths {
     text: usize,
     recording: usize,

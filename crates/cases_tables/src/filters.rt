@@ -2,7 +2,7 @@
 ghost use Rattle.std.specs.Prelude.{◌<◌, ◌≤◌};
 
 // The samples in a symbol are `p`.
-#[derive(Drop)]
+#[derive(Clone, Copy)]
 struct Window {
     p: usize,
     samples: [i16; 162],

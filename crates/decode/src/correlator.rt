@@ -17,7 +17,7 @@ const NO_MATCH: f32 = 340282350000000000000000000000000000000.0;
 // A value farther from 0.0 is refused.
 const VALUE_LIMIT: f32 = 1000000.0;
 
-#[derive(Drop)]
+#[derive(Clone, Copy)]
 struct Span {
     high: f32,
     low: f32,

@@ -9,7 +9,7 @@ pub use correlator::{
 };
 pub use slicer::decode_sample;
 
-#[derive(Drop)]
+#[derive(Clone, Copy)]
 pub struct Correlation {
     pub diff: f32,
     pub gain: f32,
@@ -17,14 +17,14 @@ pub struct Correlation {
 }
 
 // What the six bursts share of eight values.
-#[derive(Drop)]
+#[derive(Clone, Copy)]
 pub struct Spread {
     pub gain: f32,
     pub shift: f32,
 }
 
 // A correlation, or why there is none.
-#[derive(Drop)]
+#[derive(Clone, Copy)]
 pub enum Correlated {
     Refused(Refusal),
     Answered(Correlation),

@@ -9,7 +9,7 @@ use crate::{Heard, step, stretch};
 use search::Control;
 
 // What became of the samples, with all of the record that is not lent.
-#[derive(Drop)]
+#[derive(Clone, Copy)]
 pub(crate) struct Fed {
     pub answer: Heard,
     pub fed: usize,

@@ -8,7 +8,7 @@ use protocol::Refusal;
 use search::{Control, Timer};
 
 // What became of the samples, with all of the record that is not lent.
-#[derive(Drop)]
+#[derive(Clone, Copy)]
 pub struct FedLent {
     pub answer: Heard,
     pub fed: usize,
@@ -18,7 +18,7 @@ pub struct FedLent {
 }
 
 // What became of a reply: of the record the control alone changes.
-#[derive(Drop)]
+#[derive(Clone, Copy)]
 pub struct RepliedLent {
     pub answer: Replied,
     pub control: Control,

@@ -17,7 +17,7 @@ pub use lent::{FedLent, RepliedLent, carrier_lent, feed_lent, reply_lent};
 pub use search::{Candidate, Control, Reply, Timer, Wait, Waiting};
 
 // At 24 kHz the first 82 places of the window and the first 960 of the ring are used.
-#[derive(Drop)]
+#[derive(Clone, Copy)]
 pub struct SoftDemodulator {
     pub rate: u32,
     pub filter_win: [i16; 162],
@@ -30,7 +30,7 @@ pub struct SoftDemodulator {
 // A frame that is due: its kind, and the number of the sample at which it is. Its symbols are in the caller's room.
 // It was taken at sample `taken_at`; `age` is the age at which its wait was set. The mark, `replaced`: on the sample that set the wait
 // a later-listed kind replaced the candidate, and the frame is that kind's. `gain` is what its symbols were divided by.
-#[derive(Drop)]
+#[derive(Clone, Copy)]
 pub struct Offer {
     pub kind: Kind,
     pub sample: u64,
@@ -41,14 +41,14 @@ pub struct Offer {
 }
 
 // What comes of asking for a fresh record.
-#[derive(Drop)]
+#[derive(Clone, Copy)]
 pub enum Made {
     Refused(Refusal),
     Done,
 }
 
 // What a sample is answered with.
-#[derive(Drop)]
+#[derive(Clone, Copy)]
 pub enum Heard {
     Refused(Refusal),
     Quiet,
@@ -56,26 +56,26 @@ pub enum Heard {
 }
 
 // What a reply is answered with.
-#[derive(Drop)]
+#[derive(Clone, Copy)]
 pub enum Replied {
     Refused(Refusal),
     Done,
 }
 
-#[derive(Drop)]
+#[derive(Clone, Copy)]
 pub enum Carrier {
     Refused(Refusal),
     Detected(bool),
 }
 
 // An answer, and the record that the next call is given.
-#[derive(Drop)]
+#[derive(Clone, Copy)]
 pub struct AfterNew {
     pub answer: Made,
     pub demodulator: SoftDemodulator,
 }
 
-#[derive(Drop)]
+#[derive(Clone, Copy)]
 pub struct AfterSample {
     pub answer: Heard,
     pub demodulator: SoftDemodulator,
@@ -83,14 +83,14 @@ pub struct AfterSample {
 
 // `fed` counts the samples that went in, the one that brought an offer among them. A refused stretch has none;
 // after a quiet one that is shorter than what was given, the rest would be refused.
-#[derive(Drop)]
+#[derive(Clone, Copy)]
 pub struct AfterStretch {
     pub answer: Heard,
     pub fed: usize,
     pub demodulator: SoftDemodulator,
 }
 
-#[derive(Drop)]
+#[derive(Clone, Copy)]
 pub struct AfterReply {
     pub answer: Replied,
     pub demodulator: SoftDemodulator,

@@ -9,14 +9,14 @@ use protocol::Refusal;
 use search::{Control, LAST_COUNT, Turn};
 
 // Where the window and the ring are written next.
-#[derive(Drop)]
+#[derive(Clone, Copy)]
 pub(crate) struct Places {
     pub filter_cursor: usize,
     pub rx_cursor: usize,
 }
 
 // An answer, with all of the record that is not lent.
-#[derive(Drop)]
+#[derive(Clone, Copy)]
 pub(crate) struct Stepped {
     pub answer: Heard,
     pub places: Places,

@@ -15,7 +15,7 @@ const MOST: usize = 624;
 pub(crate) const FEW: usize = 12;
 
 // How many samples went in, and all of the record that is not lent.
-#[derive(Drop)]
+#[derive(Clone, Copy)]
 pub(crate) struct Stretched {
     pub fed: usize,
     pub places: Places,

@@ -76,6 +76,8 @@ module _ (p : ℕ) where
   levelled : (a b : Bool) → T (level a b) → a ≡ b
   levelled true true t = refl
   levelled false false t = refl
+  levelled false true t = elim t [ ]
+  levelled true false t = elim t [ ]
 
   abbrev judged : List Float → ℕ → (Kind → Bool) → Kind → Bool
   judged table k hit j = level (matches (Frame j) (listed table k)) (hit j)

@@ -6,13 +6,13 @@ use demodulator::{Carrier, Made, SoftDemodulator};
 use passage::Gate;
 use protocol::Refusal;
 
-#[derive(Drop)]
+#[derive(Clone, Copy)]
 struct AfterOpen {
     answer: Made,
     desk: Desk,
 }
 
-#[derive(Drop)]
+#[derive(Clone, Copy)]
 struct AfterClose {
     answer: Closed,
     desk: Desk,

@@ -17,35 +17,35 @@ pub use listing::list;
 pub use query::data_carrier_detect;
 
 // Which seats are open, and each seat's receiver. A closed seat's receiver is kept as it was, and no call reads it.
-#[derive(Drop)]
+#[derive(Clone, Copy)]
 pub struct Desk {
     pub opened: [bool; 8],
     pub receivers: [SoftDemodulator; 8],
 }
 
 // What a stretch of samples is answered with, and how many of them went in, as of a single receiver.
-#[derive(Drop)]
+#[derive(Clone, Copy)]
 pub struct Fed {
     pub answer: Heard,
     pub fed: usize,
 }
 
 // What a close is answered with.
-#[derive(Drop)]
+#[derive(Clone, Copy)]
 pub enum Closed {
     Refused(Refusal),
     Done,
 }
 
 // A seat in the listing: an open one has the count of its samples and whether a reply is owed.
-#[derive(Drop)]
+#[derive(Clone, Copy)]
 pub enum Line {
     Closed,
     Open { count: u64, owed: bool },
 }
 
 // The seats from 0 to 7. A choice cannot hold an array, so that the eight are named.
-#[derive(Drop)]
+#[derive(Clone, Copy)]
 pub struct Lines {
     pub s0: Line,
     pub s1: Line,
@@ -58,7 +58,7 @@ pub struct Lines {
 }
 
 // What the listing is answered with.
-#[derive(Drop)]
+#[derive(Clone, Copy)]
 pub enum Listed {
     Refused(Refusal),
     Seats(Lines),

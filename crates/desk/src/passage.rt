@@ -6,14 +6,14 @@ use crate::Fed;
 use demodulator::{Heard, Replied};
 use protocol::Refusal;
 
-#[derive(Drop)]
+#[derive(Clone, Copy)]
 pub enum Gate {
     Goes,
     Turned(Refusal),
 }
 
 // Whether a stretch goes to a receiver, which seat's that is, and the answer where it does not.
-#[derive(Drop)]
+#[derive(Clone, Copy)]
 pub struct Entry {
     pub admitted: bool,
     pub at: usize,
@@ -21,7 +21,7 @@ pub struct Entry {
 }
 
 // The same of a reply.
-#[derive(Drop)]
+#[derive(Clone, Copy)]
 pub struct ReplyEntry {
     pub admitted: bool,
     pub seat: usize,

@@ -8,7 +8,7 @@ use super::offered::count_answer;
 use demodulator::{SoftDemodulator, Timer, Wait};
 
 // `known` says that `figures` has the carrier of all samples that went in: where it is not, the samples are tried again, fewer of them.
-#[derive(Drop)]
+#[derive(Clone, Copy)]
 pub(crate) struct Turn {
     pub fed: usize,
     pub known: bool,

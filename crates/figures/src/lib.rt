@@ -9,7 +9,7 @@ mod recording;
 mod sums;
 
 // A gain, where there is one.
-#[derive(Drop)]
+#[derive(Clone, Copy)]
 pub enum Gain {
     Nothing,
     Of(f32),
@@ -17,26 +17,26 @@ pub enum Gain {
 
 // The figures of one rate. In `totals`, by kind in the order LSF, BERT, Stream, Packet: places 0 to 3 the offers, 4 to 7 those accepted,
 // 8 to 11 those rejected. Places 12 to 22 the offers at ages 1 to 11; place 23 the samples after which, and after any reply, the carrier is held.
-#[derive(Drop)]
+#[derive(Clone, Copy)]
 pub struct Figures {
     pub totals: [u64; 24],
     pub smallest: Gain,
     pub largest: Gain,
 }
 
-#[derive(Drop)]
+#[derive(Clone, Copy)]
 pub struct Report {
     pub at_48: Figures,
     pub at_24: Figures,
 }
 
-#[derive(Drop)]
+#[derive(Clone, Copy)]
 pub enum Added {
     Refused(Refusal),
     Done,
 }
 
-#[derive(Drop)]
+#[derive(Clone, Copy)]
 pub struct AfterAdd {
     pub answer: Added,
     pub report: Report,

@@ -8,13 +8,13 @@ use protocol::{Kind, Refusal, SyncBurst};
 const FRAME: usize = 192;
 
 // What a transmission carries: messages, or the test pattern of a link test.
-#[derive(Drop)]
+#[derive(Clone, Copy)]
 pub enum Traffic {
     Ordinary,
     Bert,
 }
 
-#[derive(Drop)]
+#[derive(Clone, Copy)]
 pub enum Verdict {
     Refused(Refusal),
     Fine,

@@ -18,28 +18,28 @@ pub use outcome::outcome_text;
 pub use sample::{bytes_of_i16, i16_of_bytes};
 
 // A line's symbols; of a bad line, none but zeros.
-#[derive(Drop)]
+#[derive(Clone, Copy)]
 pub struct Symbols {
     pub good: bool,
     pub symbols: [f32; 192],
 }
 
 // The first `length` bytes are the text, and zeros follow.
-#[derive(Drop)]
+#[derive(Clone, Copy)]
 pub struct Text {
     pub bytes: [u8; 40],
     pub length: usize,
 }
 
 // Which program speaks.
-#[derive(Drop)]
+#[derive(Clone, Copy)]
 pub enum Program {
     Receive,
     Send,
 }
 
 // Why a program stops before its input has ended.
-#[derive(Drop)]
+#[derive(Clone, Copy)]
 pub enum Trouble {
     Reading,
     Writing,

@@ -6,14 +6,14 @@ ghost use Rattle.library_desk.specs.Listing.{SeatTested, SeatsTested, line_in, l
 ghost use Rattle.library_desk.specs.Calls.{export_of, coded_as, Says};
 
 // Whether a seat is refused with 115, and whether one is with 101.
-#[derive(Drop)]
+#[derive(Clone, Copy)]
 struct Tested {
     pub strange: bool,
     pub unfit: bool,
 }
 
 // A seat's three numbers.
-#[derive(Drop)]
+#[derive(Clone, Copy)]
 struct LineNumbers {
     pub opened: u64,
     pub count: u64,

@@ -4,7 +4,7 @@ ghost use Rattle.library_layout.specs.Layout.{candidate_numbers, wait_numbers, t
 
 use search::{Candidate, Timer, Wait};
 
-#[derive(Drop)]
+#[derive(Clone, Copy)]
 pub struct CandidateNumbers {
     pub kind: u64,
     pub age: u64,
@@ -12,7 +12,7 @@ pub struct CandidateNumbers {
     pub levels: [f32; 3],
 }
 
-#[derive(Drop)]
+#[derive(Clone, Copy)]
 pub struct WaitNumbers {
     pub held: u64,
     pub left: u64,
@@ -20,7 +20,7 @@ pub struct WaitNumbers {
     pub mark: u64,
 }
 
-#[derive(Drop)]
+#[derive(Clone, Copy)]
 pub struct TimerNumbers {
     pub held: u64,
     pub end: u64,

@@ -8,7 +8,7 @@ use demodulator::{Heard, Reply, SoftDemodulator, Timer};
 use protocol::Kind;
 
 // No offer was there, or one, settled by a reply.
-#[derive(Drop)]
+#[derive(Clone, Copy)]
 pub enum Settled {
     Nothing,
     By(Reply),
@@ -16,7 +16,7 @@ pub enum Settled {
 
 // What comes of samples up to an offer: `fed` of them went in. `window` has the offer's symbols, or noughts where there is none, so that an
 // offer that is not shown touches nobody's room. `timer` is the carrier timer before the reply, and the record is the one after it.
-#[derive(Drop)]
+#[derive(Clone, Copy)]
 pub struct Listened {
     pub answer: Heard,
     pub settled: Settled,

@@ -10,22 +10,22 @@ mod output;
 mod within;
 
 // A TxDelay, in steps of ten milliseconds.
-#[derive(Drop)]
+#[derive(Clone, Copy)]
 pub struct DelaySteps(pub u8);
 
 // What the sound card counts.
-#[derive(Drop)]
+#[derive(Clone, Copy)]
 pub struct SampleCount(pub usize);
 
 // The samples from an update to the end of a transmission, if there is an end to report.
-#[derive(Drop)]
+#[derive(Clone, Copy)]
 pub enum EndReport {
     Nothing,
     After(SampleCount),
 }
 
 // How far the transmission at hand has been read out: the samples of its frame, those of them that were read, and the zeros that go out before them.
-#[derive(Drop)]
+#[derive(Clone, Copy)]
 pub struct Progress {
     pub next_len: usize,
     pub next_read: usize,
@@ -33,7 +33,7 @@ pub struct Progress {
 }
 
 // What is still to be told: the idle state, an end to be worked out, an end to be reported, the wish for a frame.
-#[derive(Drop)]
+#[derive(Clone, Copy)]
 pub struct Pending {
     pub update_idle: bool,
     pub calculate_tx_end: bool,
@@ -42,7 +42,7 @@ pub struct Pending {
 }
 
 // The sound card's buffer, as the last update gave it.
-#[derive(Drop)]
+#[derive(Clone, Copy)]
 pub struct OutputBuffer {
     pub output_latency: SampleCount,
     pub samples_in_buf: SampleCount,
@@ -50,7 +50,7 @@ pub struct OutputBuffer {
 }
 
 // At 24 kHz the first 2,000 places of the store and the first 41 of the window are used.
-#[derive(Drop)]
+#[derive(Clone, Copy)]
 pub struct SoftModulator {
     pub rate: u32,
     pub next_transmission: [i16; 4000],
@@ -62,7 +62,7 @@ pub struct SoftModulator {
 }
 
 // What is to be sent next. The symbols of a frame stand beside the choice, since an enum holds no array.
-#[derive(Drop)]
+#[derive(Clone, Copy)]
 pub enum ModulatorFrame {
     Nothing,
     Preamble(Traffic, DelaySteps),
@@ -71,31 +71,31 @@ pub enum ModulatorFrame {
 }
 
 // What comes of asking for a fresh record.
-#[derive(Drop)]
+#[derive(Clone, Copy)]
 pub enum Made {
     Refused(Refusal),
     Done,
 }
 
-#[derive(Drop)]
+#[derive(Clone, Copy)]
 pub enum Provided {
     Refused(Refusal),
     Done,
 }
 
-#[derive(Drop)]
+#[derive(Clone, Copy)]
 pub enum Read {
     Refused(Refusal),
     Wrote(SampleCount),
 }
 
-#[derive(Drop)]
+#[derive(Clone, Copy)]
 pub enum Updated {
     Refused(Refusal),
     Done,
 }
 
-#[derive(Drop)]
+#[derive(Clone, Copy)]
 pub enum ModulatorAction {
     Refused(Refusal),
     TransmissionWillEnd(SampleCount),
@@ -106,31 +106,31 @@ pub enum ModulatorAction {
 }
 
 // An answer, and the record that the next call is given.
-#[derive(Drop)]
+#[derive(Clone, Copy)]
 pub struct AfterNew {
     pub answer: Made,
     pub modulator: SoftModulator,
 }
 
-#[derive(Drop)]
+#[derive(Clone, Copy)]
 pub struct AfterFrame {
     pub answer: Provided,
     pub modulator: SoftModulator,
 }
 
-#[derive(Drop)]
+#[derive(Clone, Copy)]
 pub struct AfterRead {
     pub answer: Read,
     pub modulator: SoftModulator,
 }
 
-#[derive(Drop)]
+#[derive(Clone, Copy)]
 pub struct AfterUpdate {
     pub answer: Updated,
     pub modulator: SoftModulator,
 }
 
-#[derive(Drop)]
+#[derive(Clone, Copy)]
 pub struct AfterRun {
     pub answer: ModulatorAction,
     pub modulator: SoftModulator,

@@ -18,7 +18,7 @@ const FARTHEST: f32 = 0.3;
 // What no match reports as its diff: the largest f32.
 const NO_MATCH: f32 = 340282350000000000000000000000000000000.0;
 
-#[derive(Drop)]
+#[derive(Clone, Copy)]
 pub(crate) struct Range {
     pub max: f32,
     pub min: f32,

@@ -8,13 +8,13 @@ use crate::pursuit;
 use search::{Candidate, Shown, Wait, Waiting};
 
 // A frame that falls due: what its offer shows, and the sample.
-#[derive(Drop)]
+#[derive(Clone, Copy)]
 pub(crate) struct Due {
     pub shown: Shown,
     pub sample: usize,
 }
 
-#[derive(Drop)]
+#[derive(Clone, Copy)]
 pub(crate) enum Next {
     Nothing,
     At(Due),

@@ -15,7 +15,7 @@ mod pursuit;
 const LONGEST: usize = 65_536;
 
 // How many offers the list has. The last of them is unanswered exactly where there are more of them than replies.
-#[derive(Drop)]
+#[derive(Clone, Copy)]
 pub enum Listing {
     Refused(Refusal),
     Listed(usize),

@@ -12,7 +12,7 @@ use protocol::Kind;
 use search::{Candidate, Wait, Waiting};
 
 // The candidate, and the wait for its frame once that is set.
-#[derive(Drop)]
+#[derive(Clone, Copy)]
 pub(crate) struct Pursuit {
     pub candidate: Candidate,
     pub wait: Wait,

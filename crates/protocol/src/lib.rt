@@ -3,7 +3,7 @@ ghost use Rattle.protocol.specs.Bursts.{TargetSays};
 ghost use Rattle.protocol.specs.Refusals.{NumberSays, PlaceSays};
 
 // The kinds of frame, in the order in which the search tries them.
-#[derive(Drop)]
+#[derive(Clone, Copy)]
 pub enum Kind {
     Lsf,
     Bert,
@@ -12,7 +12,7 @@ pub enum Kind {
 }
 
 // A burst begins a frame of its kind, or is one of the two that no frame follows.
-#[derive(Drop)]
+#[derive(Clone, Copy)]
 pub enum SyncBurst {
     Frame(Kind),
     Preamble,
@@ -49,7 +49,7 @@ impl SyncBurst {
 
 // Why a call is refused, with the place of the symbol that is wrong or the number of the bad line. Nothing else is given then, and record
 // and buffers are as they were.
-#[derive(Drop)]
+#[derive(Clone, Copy)]
 pub enum Refusal {
     RecordUnfit,
     ReplyOwed,
@@ -77,7 +77,7 @@ pub enum Refusal {
 }
 
 // What a refusal tells beside its number: nothing, a symbol's place, counted from 0, or a line's number, counted from 1.
-#[derive(Drop)]
+#[derive(Clone, Copy)]
 pub enum Place {
     Nothing,
     Symbol(usize),

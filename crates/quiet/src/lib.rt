@@ -11,7 +11,7 @@ mod count;
 mod lanes;
 
 // How many samples were quiet, and the control after them.
-#[derive(Drop)]
+#[derive(Clone, Copy)]
 pub struct Walked {
     pub fed: usize,
     pub control: Control,

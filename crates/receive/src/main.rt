@@ -5,7 +5,7 @@ use libc::{STDIN_FILENO, STDOUT_FILENO};
 use receiving::Receiving;
 
 // Whether to go on, with what, and what is said if not.
-#[derive(Drop)]
+#[derive(Clone, Copy)]
 struct Turn {
     more: bool,
     words: Text,

@@ -10,20 +10,20 @@ mod pairs;
 mod windows;
 
 // The last byte that was consumed, if it still waits for the second of its sample.
-#[derive(Drop)]
+#[derive(Clone, Copy)]
 pub enum Odd {
     Nothing,
     Held(u8),
 }
 
-#[derive(Drop)]
+#[derive(Clone, Copy)]
 pub struct Receiving {
     pub demodulator: SoftDemodulator,
     pub odd: Odd,
 }
 
 // What bytes are answered with: the refusal of the first sample, or of the record where there is none.
-#[derive(Drop)]
+#[derive(Clone, Copy)]
 pub enum Receipt {
     Refused(Refusal),
     Admitted,
@@ -31,7 +31,7 @@ pub enum Receipt {
 
 // The first `consumed` of the bytes count as given, and the caller gives the others again.
 // The first `written` places of the lent room are the lines.
-#[derive(Drop)]
+#[derive(Clone, Copy)]
 pub struct AfterBytes {
     pub answer: Receipt,
     pub consumed: usize,

@@ -6,7 +6,7 @@ ghost use Rattle.receiving.specs.Parts.{PairsWhole, PairsUp, ConsumesPart};
 use crate::Odd;
 
 // How many samples there are, and the byte that is left over.
-#[derive(Drop)]
+#[derive(Clone, Copy)]
 pub(crate) struct Paired {
     pub count: usize,
     pub odd: Odd,
@@ -65,7 +65,7 @@ pub(crate) fn pair_up(odd: Odd, bytes: &[u8], samples: &mut [i16]) -> Paired
 }
 
 // The bytes of some of the samples, but for the one that waited, and the byte that is then held.
-#[derive(Drop)]
+#[derive(Clone, Copy)]
 pub(crate) struct Part {
     pub consumed: usize,
     pub odd: Odd,

@@ -13,7 +13,7 @@ use listening::Settled;
 pub(crate) const LINE: usize = 97;
 
 // What comes of a stretch of samples, the last of which may bring an offer.
-#[derive(Drop)]
+#[derive(Clone, Copy)]
 pub(crate) struct Stretch {
     pub answer: Heard,
     pub fed: usize,
@@ -22,7 +22,7 @@ pub(crate) struct Stretch {
 }
 
 // `fed` counts the samples that went in.
-#[derive(Drop)]
+#[derive(Clone, Copy)]
 pub(crate) struct AfterSamples {
     pub answer: Receipt,
     pub fed: usize,

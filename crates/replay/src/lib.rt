@@ -12,7 +12,7 @@ mod pause;
 
 // What opening is answered with: no offer is due from the sample on, or the first one, numbered in the recording. Its symbols are in the
 // caller's room.
-#[derive(Drop)]
+#[derive(Clone, Copy)]
 pub enum Opened {
     Refused(Refusal),
     Nothing,

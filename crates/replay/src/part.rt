@@ -6,14 +6,14 @@ ghost use Rattle.replay.specs.Part.{is_found_lem, found_from, FirstIn};
 use demodulator::{Heard, Offer, SoftDemodulator};
 
 // No offer, or one, numbered in the part.
-#[derive(Drop)]
+#[derive(Clone, Copy)]
 pub(crate) enum Found {
     Nothing,
     At(Offer),
 }
 
 // With the symbols of the offer that is found.
-#[derive(Drop)]
+#[derive(Clone, Copy)]
 pub(crate) struct First {
     pub found: Found,
     pub window: [f32; 192],

@@ -18,7 +18,7 @@ pub(crate) const FRAME_REST: u16 = 184;
 pub(crate) const FRAME_CARRIER: u64 = 384;
 
 // A place that may be decoded, or none. `taken_at` is the number of the sample at which it was taken.
-#[derive(Drop)]
+#[derive(Clone, Copy)]
 pub enum Candidate {
     Nothing,
     Held {
@@ -33,7 +33,7 @@ pub enum Candidate {
 
 // How many samples are still to come before a frame is due, the candidate's age when the wait was set,
 // and whether a later-listed kind replaced the candidate on that sample.
-#[derive(Drop)]
+#[derive(Clone, Copy)]
 pub struct Waiting {
     pub left: u16,
     pub age: u8,
@@ -41,21 +41,21 @@ pub struct Waiting {
 }
 
 // No frame is awaited, or one is.
-#[derive(Drop)]
+#[derive(Clone, Copy)]
 pub enum Wait {
     Free,
     Due(Waiting),
 }
 
 // The carrier timer: not held, or held to the end of a sample.
-#[derive(Drop)]
+#[derive(Clone, Copy)]
 pub enum Timer {
     Off,
     Until(u64),
 }
 
 // All but the two rings, so that a search takes and gives back no array.
-#[derive(Drop)]
+#[derive(Clone, Copy)]
 pub struct Control {
     pub candidate: Candidate,
     pub wait: Wait,
@@ -66,7 +66,7 @@ pub struct Control {
 
 // What a due frame shows: its kind, the gain and the shift of its symbols, the sample at which it was taken,
 // and what was kept with the wait.
-#[derive(Drop)]
+#[derive(Clone, Copy)]
 pub struct Shown {
     pub kind: Kind,
     pub gain: f32,
@@ -77,7 +77,7 @@ pub struct Shown {
 }
 
 // What is left to do once a sample is stored and counted: nothing, an offer, or a search.
-#[derive(Drop)]
+#[derive(Clone, Copy)]
 pub enum Turn {
     Rest(Control),
     Offer { shown: Shown, control: Control },
@@ -85,7 +85,7 @@ pub enum Turn {
 }
 
 // What an offer is replied with.
-#[derive(Drop)]
+#[derive(Clone, Copy)]
 pub enum Reply {
     Accepted,
     Rejected,

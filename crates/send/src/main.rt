@@ -7,7 +7,7 @@ use libc::{STDIN_FILENO, STDOUT_FILENO};
 use sending::{AfterPart, Sending};
 
 // The part that came last, whether all went well until here, and what is said if the program stops with it.
-#[derive(Drop)]
+#[derive(Clone, Copy)]
 struct Turn {
     part: AfterPart,
     fine: bool,
@@ -15,7 +15,7 @@ struct Turn {
 }
 
 // What a read gave.
-#[derive(Drop)]
+#[derive(Clone, Copy)]
 struct Got {
     fine: bool,
     count: usize,

@@ -10,7 +10,7 @@ mod line;
 mod part;
 
 // The sender, the line at hand, of which the first `have` bytes are there, and the line's number, from 1.
-#[derive(Drop)]
+#[derive(Clone, Copy)]
 pub struct Sending {
     pub modulator: SoftModulator,
     pub line: [u8; 97],
@@ -20,7 +20,7 @@ pub struct Sending {
 
 // What the sender answered, what the next call is given, and what is to be written: the first `length` bytes, zeros after them. `taken`
 // bytes of the read went into the line. `bad` says that the line at hand is a bad one, `last` that the transmission has ended.
-#[derive(Drop)]
+#[derive(Clone, Copy)]
 pub struct AfterPart {
     pub answer: Provided,
     pub sending: Sending,

@@ -51,7 +51,7 @@ fn tell(sum: u64) -> bool {
     io::write_all(STDOUT_FILENO, &bytes)
 }
 
-#[derive(Drop)]
+#[derive(Clone, Copy)]
 enum Way {
     Singly,
     InStretches,

@@ -10,7 +10,7 @@ mod part;
 mod text;
 
 // `Differs` has the number of the first sample that differs, from 1, the padding's zeros counted.
-#[derive(Drop)]
+#[derive(Clone, Copy)]
 pub enum Checked {
     Refused(Refusal),
     Yes,

@@ -16,7 +16,7 @@ use modulator::{DelaySteps, ModulatorFrame, Read, SoftModulator};
 const NO_SYMBOLS: [f32; 192] = [0.0; 192];
 
 // What a part beside the stretch gives, the place in the stretch after it, and the sender after it.
-#[derive(Drop)]
+#[derive(Clone, Copy)]
 pub(crate) struct AfterPart {
     pub verdict: Checked,
     pub at: usize,

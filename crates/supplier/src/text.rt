@@ -3,7 +3,7 @@ ghost use Rattle.std.specs.Prelude.{◌≡◌, ◌+◌, ◌≤◌, length, take,
 ghost use Rattle.sending.specs.Text.{bad_line_lem};
 ghost use Rattle.supplier.specs.Parts.{bad_paper};
 
-#[derive(Drop)]
+#[derive(Clone, Copy)]
 pub(crate) enum BadLine {
     Nothing,
     At(usize),
