@@ -1,0 +1,23 @@
+-- `fit_for_reply` meets its contract: the ring is read once its cursor is known to lie inside. Assumes nothing.
+use native.Mathlib.Nat.{add-zero}
+use native.Mathlib.Omega.{arith}
+use lib.Dec.{lit≤}
+use Rattle.demodulator.specs.Fit.{fit_for_reply_lem}
+use Rattle.demodulator.proofs.Fitness.{tested_unfit, tested_fit, tested_inside}
+use borrow.Author.Rules.{rules}
+use Rattle.demodulator.proofs.fit.fit_for_reply.Goals as goal
+
+pub returns-then-not-record_fit : goal.returns-then-not-record_fit
+unfolding fit_for_reply_lem
+returns-then-not-record_fit c = λ rate window known same. rw (tested_unfit _ _ _ _ _ _ c.record_fit.ensures rate window c.args.rx_win.now known same c.if-not-record_fit.true-raw)
+
+pub places_in_range-requires : goal.places_in_range-requires
+places_in_range-requires c =
+    let known = c.requires in
+    let a = c.args in
+    (known.1, tested_inside a.p a.halves a.filter_cursor a.rx_cursor a.control _ c.record_fit.ensures c.if-not-record_fit.false-raw, omega (arith, known.0), lit≤ tt)
+
+pub returns : goal.returns
+unfolding fit_for_reply_lem
+returns c =
+    λ rate window known same. rw (tested_fit _ _ _ _ _ _ c.record_fit.ensures rate window c.args.rx_win.now known same c.if-not-record_fit.false-raw, c.places_in_range.ensures) (simp add-zero)

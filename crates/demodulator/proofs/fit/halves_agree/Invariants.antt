@@ -1,0 +1,20 @@
+-- `halves_agree` meets its contract: after i turns the pairs before i are compared. Assumes nothing.
+use mathlib.Core.Path.{◌≡◌, refl, ◌∙◌}
+use Prim.Native.Nat.{ℕ, ◌+◌, ◌-◌, ◌≤◌}
+use native.Mathlib.Numerals.{add-one}
+use native.Mathlib.Omega.{arith}
+use borrow.Author.Rules.{rules, sfits_of}
+use mir.Syntax.{w16}
+use lib.IntN.{pos}
+use lib.ListN.{get_or}
+use Rattle.numbers.specs.Below.{all_below}
+use Rattle.shaping.specs.Rate.{tap_count}
+use Rattle.demodulator.specs.Fit.{same_sample, halves_agree_lem}
+use Rattle.demodulator.proofs.Halves.{same_pattern}
+use Rattle.demodulator.proofs.fit.halves_agree.Given as goal
+
+abbrev pub invariant-loop-i : goal.invariant-loop-i
+invariant-loop-i l = (l.i ≤ tap_count l.p) × (l.all ≡ all_below l.i (λ (j : ℕ). same_sample (get_or l.filter_win j (pos 0)) (get_or l.filter_win (j + tap_count l.p) (pos 0))))
+
+abbrev pub decreases-loop-i : goal.decreases-loop-i
+decreases-loop-i l = tap_count l.p - l.i

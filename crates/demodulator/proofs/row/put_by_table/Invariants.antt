@@ -1,0 +1,19 @@
+-- `put_by_table` meets its contract: after some turns the sums of whole blocks are written. Assumes nothing.
+use mathlib.Core.Path.{◌≡◌, refl}
+use Prim.Native.Nat.{ℕ, ◌+◌, ◌*◌, ◌-◌, ◌%◌, ◌≤◌, ◌<◌}
+use native.Mathlib.Omega.{arith}
+use lib.ListN.{length, take, drop}
+use Rattle.numbers.specs.Firsts.{firsts, written}
+use Rattle.numbers.proofs.Firsts.{written_more}
+use Rattle.shaping.specs.Rate.{rate_at}
+use Rattle.bulk.specs.Sums.{sum_from}
+use Rattle.numbers.proofs.Tail.{tail_lent, tail_back}
+use Rattle.demodulator.proofs.RowLaid.{part_sums}
+use borrow.Author.Rules.{rules}
+use Rattle.demodulator.proofs.row.put_by_table.Given as goal
+
+abbrev pub invariant-loop-k : goal.invariant-loop-k
+invariant-loop-k l = (l.k ≤ 624) × (l.k % 48 ≡ 0) × (length l.room ≡ length l.initial.room) × (l.room ≡ written (sum_from (rate_at l.p).taps l.straight) l.k l.initial.room)
+
+abbrev pub decreases-loop-k : goal.decreases-loop-k
+decreases-loop-k l = l.count - l.k

@@ -1,0 +1,16 @@
+-- `has_unfit` meets its contract. Assumes nothing.
+use mathlib.Core.Path.{◌≡◌, refl, ◌∙◌}
+use Prim.Native.Nat.{ℕ, ◌-◌, ◌≤◌}
+use native.Mathlib.Numerals.{add-one}
+use native.Mathlib.Omega.{arith}
+use borrow.Author.Rules.{rules}
+use Rattle.numbers.specs.Below.{any_below}
+use Rattle.desk.specs.Desk.{is_open, receiver_at}
+use Rattle.desk.specs.Listing.{unfit, any_unfit}
+use Rattle.desk.proofs.listing.has_unfit.Given as goal
+
+abbrev pub invariant-loop-at : goal.invariant-loop-at
+invariant-loop-at l = (l.at ≤ 8) × (l.any ≡ any_below l.at (λ (s : ℕ). unfit (is_open l.desk.opened s) (receiver_at l.desk s)))
+
+abbrev pub decreases-loop-at : goal.decreases-loop-at
+decreases-loop-at l = 8 - l.at

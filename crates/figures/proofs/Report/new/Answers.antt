@@ -1,0 +1,6 @@
+-- `Report::new` meets its contract. Assumes nothing.
+use borrow.Author.Rules.{rules}
+use Rattle.figures.proofs.Report.new.Goals as goal
+
+pub returns : goal.returns
+returns c = rw c.no_figures-none.ensures

@@ -1,0 +1,17 @@
+-- `judge_frame` meets its contract: the count, then the symbols, then the burst. Assumes nothing.
+use borrow.Author.Rules.{rules}
+use borrow.Author.Tests.{eq-eqb, ne_eqb}
+use lib.ListN.{length}
+use Rattle.given_symbols.specs.Offender.{judged_as}
+use Rattle.given_symbols.proofs.judge_frame.Goals as goal
+
+pub returns-then-symbols-ne-FRAME : goal.returns-then-symbols-ne-FRAME
+unfolding judged_as
+returns-then-symbols-ne-FRAME c = rw (ne_eqb (length c.args.symbols.now) 192 c.if-symbols-ne-FRAME.true)
+
+pub returns : goal.returns
+unfolding judged_as
+returns c =
+    let count = c.if-symbols-ne-FRAME.false in
+    rw (eq-eqb (length c.args.symbols.now) 192 count)
+    (rw (c.first_offender-offender.ensures, c.judge_head-head.ensures, count) at c.earlier.ensures)

@@ -1,0 +1,28 @@
+-- `is_faint` meets its contract: after i turns the answer is that of the first i values. Assumes nothing.
+use mathlib.Core.Path.{◌≡◌, refl, ◌∙◌}
+use Prim.Native.Nat.{ℕ, ◌-◌, ◌≤◌}
+use native.Mathlib.Numerals.{add-one}
+use native.Mathlib.Omega.{arith}
+use borrow.Author.Rules.{rules}
+use lib.ListN.{length}
+use Rattle.numbers.specs.Below.{all_below}
+use Rattle.decode.specs.Parts.{values_of}
+use Rattle.look.specs.Rows.{value_faint, row_faint}
+use Rattle.look.proofs.is_faint.Goals as goal
+
+pub loop-i-init : goal.loop-i-init
+unfolding all_below
+loop-i-init c = (search rules, refl)
+
+pub loop-i-preserved : goal.loop-i-preserved
+unfolding all_below
+loop-i-preserved c =
+    let l = c.loop-i in
+    (search rules, rw (add-one l.i, l.invariant.1))
+
+pub returns : goal.returns
+unfolding row_faint
+returns c =
+    let l = c.loop-i in
+    let done : l.i ≡ length c.args.row.now = omega arith in
+    l.invariant.1 ∙ rw done

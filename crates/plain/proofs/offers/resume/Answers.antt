@@ -1,0 +1,6 @@
+-- `resume` meets its contract. Assumes nothing.
+use borrow.Author.Rules.{rules}
+use Rattle.plain.proofs.offers.resume.Goals as goal
+
+pub returns-then-accepted : goal.returns-then-accepted
+returns-then-accepted c = rw c.if-accepted.true

@@ -1,0 +1,17 @@
+-- `tap_sum` meets its contract. The loop's invariant: the sum so far is that of the products passed. Assumes nothing.
+use mathlib.Core.Path.{◌≡◌, refl, sym}
+use Prim.Native.Nat.{◌+◌, ◌-◌, ◌%◌, ◌≤◌, ◌<◌}
+use native.Mathlib.Nat.{add-zero, mod-eq_of_lt}
+use native.Mathlib.Omega.{arith}
+use borrow.Author.Rules.{rules}
+use lib.ListN.{length}
+use Rattle.shaping.specs.Sum.{in_ring}
+use Rattle.shaping.proofs.Dot.{so_far, begun, step, ended}
+use Rattle.pulse.proofs.Places.{next_inside, next_place}
+use Rattle.pulse.proofs.full.tap_sum.Given as goal
+
+abbrev pub invariant-loop-i : goal.invariant-loop-i
+invariant-loop-i l = (l.i ≤ length l.table) × (l.at < length l.table) × (l.at ≡ (l.cursor + l.i) % length l.table) × (l.out ≡ so_far l.table (in_ring (length l.table) l.window l.cursor) l.i)
+
+abbrev pub decreases-loop-i : goal.decreases-loop-i
+decreases-loop-i l = length l.table - l.i

@@ -1,0 +1,19 @@
+-- `put_by_table` meets its contract: after j turns the first j phases are written. Assumes nothing.
+use mathlib.Core.Path.{◌≡◌, refl, ap}
+use Prim.Native.Nat.{ℕ, ◌+◌, ◌-◌, ◌*◌, ◌/◌, ◌%◌, ◌≤◌, ◌<◌}
+use native.Mathlib.Omega.{arith}
+use borrow.Author.Rules.{rules}
+use lib.ListN.{length, get_or}
+use lib.Ieee.{nan, to_signed}
+use Rattle.numbers.specs.Firsts.{firsts, written}
+use Rattle.numbers.proofs.Firsts.{firsts_at, written_more}
+use Rattle.shaping.specs.Rate.{rate_at}
+use Rattle.pulse.specs.Phases.{phase_sum, phase_cut}
+use Rattle.numbers.proofs.Tail.{tail_lent, tail_back}
+use Rattle.pulse.proofs.phases.put_by_table.Given as goal
+
+abbrev pub invariant-loop-j : goal.invariant-loop-j
+invariant-loop-j l = (l.j ≤ l.p) × (length l.room ≡ length l.initial.room) × (l.room ≡ written (phase_cut (rate_at l.p) l.row) (48 * l.j) l.initial.room)
+
+abbrev pub decreases-loop-j : goal.decreases-loop-j
+decreases-loop-j l = l.p - l.j

@@ -1,0 +1,24 @@
+-- `put_cuts` meets its contract: after k turns the first k places are written. Assumes nothing.
+use mathlib.Core.Path.{◌≡◌, refl}
+use mathlib.Core.List.{List}
+use Prim.Native.Nat.{ℕ, ◌-◌, ◌≤◌}
+use native.Mathlib.Numerals.{add-one}
+use native.Mathlib.Omega.{arith}
+use mir.Syntax.{w16}
+use mir.ValLaws.{to_z-of_z}
+use borrow.Author.Rules.{rules}
+use lib.IntN.{ℤ, pos}
+use lib.ListN.{length, get_or, length-set}
+use lib.Ieee.{Float, nan, to_signed}
+use Rattle.numbers.specs.Firsts.{firsts, written}
+use Rattle.numbers.proofs.Firsts.{written_step}
+use Rattle.pulse.proofs.phases.put_cuts.Given as goal
+
+abbrev pub cut_at : List Float → ℕ → ℤ
+cut_at sums k = to_signed 15 (get_or sums k nan)
+
+abbrev pub invariant-loop-k : goal.invariant-loop-k
+invariant-loop-k l = (l.k ≤ 48) × (length l.room ≡ length l.initial.room) × (l.room ≡ written (cut_at l.sums) l.k l.initial.room)
+
+abbrev pub decreases-loop-k : goal.decreases-loop-k
+decreases-loop-k l = 48 - l.k

@@ -1,0 +1,26 @@
+-- `has_pulses_only` meets its contract: after i turns the answer is that of the first i places. Assumes nothing.
+use mathlib.Core.Path.{◌≡◌, refl, sym, ◌∙◌}
+use mathlib.Core.Bool.{Bool, ◌||◌}
+use mathlib.Core.List.{List}
+use Prim.Native.Nat.{ℕ, ◌+◌, ◌-◌, ◌%◌, ◌≤◌, ◌<◌}
+use native.Mathlib.Nat.{add-zero, mod-eq_of_lt}
+use native.Mathlib.Numerals.{add-one}
+use native.Mathlib.Omega.{arith}
+use borrow.Author.Rules.{rules}
+use lib.Dec.{eqb}
+use lib.Ieee.{Float, binary32, of_bits, eq}
+use Rattle.numbers.specs.Below.{all_below}
+use Rattle.shaping.specs.Rate.{tap_count}
+use Rattle.shaping.specs.Sum.{value_at}
+use Rattle.pulse.specs.Phases.{pulses_only}
+use Rattle.pulse.proofs.Places.{next_inside, next_mod, next_place}
+use Rattle.pulse.proofs.row.has_pulses_only.Given as goal
+
+abbrev test : ℕ → List Float → ℕ → ℕ → Bool
+test p window cursor i = eqb (i % p) 1 || eq (value_at p window cursor i) (of_bits binary32 0)
+
+abbrev pub invariant-loop-i : goal.invariant-loop-i
+invariant-loop-i l = (l.i ≤ tap_count l.p) × (l.at < tap_count l.p) × (l.at ≡ (l.cursor + l.i) % tap_count l.p) × (l.phase < l.p) × (l.phase ≡ l.i % l.p) × (l.all ≡ all_below l.i (test l.p l.window l.cursor))
+
+abbrev pub decreases-loop-i : goal.decreases-loop-i
+decreases-loop-i l = tap_count l.p - l.i

@@ -1,0 +1,33 @@
+-- `pulse_row` meets its contract: after i turns the first i places are written. Assumes nothing.
+use mathlib.Core.Path.{◌≡◌, refl, ◌∙◌}
+use mathlib.Core.List.{List, append-nil}
+use Prim.Native.Nat.{ℕ, ◌+◌, ◌-◌, ◌≤◌, ◌<◌}
+use native.Mathlib.Numerals.{add-one}
+use native.Mathlib.Omega.{arith}
+use borrow.Author.Rules.{rules}
+use lib.ListN.{replicate}
+use lib.Ieee.{Float, nan, binary32, of_bits}
+use Rattle.numbers.specs.Firsts.{firsts, written}
+use Rattle.numbers.proofs.Firsts.{written_step}
+use Rattle.pulse.specs.Pulse.{line_at}
+use Rattle.pulse.specs.Phases.{pulse_no}
+use Rattle.pulse.proofs.row.pulse_row.Invariants.{row_from}
+use Rattle.pulse.proofs.row.pulse_row.Goals as goal
+
+pub loop-i-init : goal.loop-i-init
+unfolding firsts
+loop-i-init c = (search rules, refl)
+
+pub loop-i-preserved : goal.loop-i-preserved
+loop-i-preserved c =
+    let l = c.loop-i in
+    let a = c.args in
+    let f = row_from a.p a.window.now a.cursor a.symbols.now a.first in
+    let below : l.i < 56 = omega arith in
+    (search rules, rw (l.invariant.1, c.nth_pulse.ensures, add-one l.i) (written_step f l.i (replicate 56 (of_bits binary32 0)) nan below))
+
+pub returns : goal.returns
+returns c =
+    let l = c.loop-i in
+    let done : l.i ≡ 56 = omega arith in
+    l.invariant.1 ∙ rw done (append-nil _)

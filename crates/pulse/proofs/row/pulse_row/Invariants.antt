@@ -1,0 +1,23 @@
+-- `pulse_row` meets its contract: after i turns the first i places are written. Assumes nothing.
+use mathlib.Core.Path.{◌≡◌, refl, ◌∙◌}
+use mathlib.Core.List.{List, append-nil}
+use Prim.Native.Nat.{ℕ, ◌+◌, ◌-◌, ◌≤◌, ◌<◌}
+use native.Mathlib.Numerals.{add-one}
+use native.Mathlib.Omega.{arith}
+use borrow.Author.Rules.{rules}
+use lib.ListN.{replicate}
+use lib.Ieee.{Float, nan, binary32, of_bits}
+use Rattle.numbers.specs.Firsts.{firsts, written}
+use Rattle.numbers.proofs.Firsts.{written_step}
+use Rattle.pulse.specs.Pulse.{line_at}
+use Rattle.pulse.specs.Phases.{pulse_no}
+use Rattle.pulse.proofs.row.pulse_row.Given as goal
+
+abbrev pub row_from : ℕ → List Float → ℕ → List Float → ℕ → ℕ → Float
+row_from p window cursor symbols first i = pulse_no p (line_at window cursor) symbols (first + i)
+
+abbrev pub invariant-loop-i : goal.invariant-loop-i
+invariant-loop-i l = (l.i ≤ 56) × (l.row ≡ written (row_from l.p l.window l.cursor l.symbols l.first) l.i l.initial.row)
+
+abbrev pub decreases-loop-i : goal.decreases-loop-i
+decreases-loop-i l = 56 - l.i

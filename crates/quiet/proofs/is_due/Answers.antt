@@ -1,0 +1,6 @@
+-- `is_due` meets its contract. Assumes nothing.
+use borrow.Author.Rules.{rules}
+use Rattle.quiet.proofs.is_due.Goals as goal
+
+pub returns-in-Due : goal.returns-in-Due
+returns-in-Due c = rw c.in-Due.is

@@ -1,0 +1,18 @@
+-- `writing::put_samples` meets its contract: after i turns the first i are laid. Assumes nothing.
+use mathlib.Core.Path.{◌≡◌, refl, ◌∙◌}
+use Prim.Native.Nat.{◌-◌, ◌≤◌}
+use native.Mathlib.Numerals.{add-one}
+use native.Mathlib.Omega.{arith}
+use borrow.Author.Rules.{rules, sfits_of}
+use mir.Syntax.{w16}
+use mir.Facts.{to_z-of_z}
+use lib.IntN.{pos}
+use lib.ListN.{length, get_or}
+use Rattle.wire.specs.Bytes.{laid, sample_bits}
+use Rattle.wire.proofs.writing.put_samples.Given as goal
+
+abbrev pub invariant-loop-i : goal.invariant-loop-i
+invariant-loop-i l = (l.i ≤ length l.from) × (length l.to ≡ length l.initial.to) × (l.to ≡ laid 2 (sample_bits l.from) l.i l.initial.to)
+
+abbrev pub decreases-loop-i : goal.decreases-loop-i
+decreases-loop-i l = length l.from - l.i
