@@ -1,4 +1,6 @@
 // The sender: SoftModulator of the Rust's modem.rs as a record by value, which says its rate in samples a second. Frames go in, and samples for the sound card come out, with the actions that keep the two in step.
+#![tactic(auto)]
+
 use given_symbols::Traffic;
 use protocol::Refusal;
 

@@ -1,8 +1,6 @@
 -- `SoftModulator::new` meets its contract. Assumes nothing.
 use mathlib.Core.Path.{◌≡◌, sym, ◌∙◌}
 use mathlib.Core.Bool.{true, false}
-use borrow.Author.Rules.{rules}
-use borrow.Author.Tests.{not-true, not-false}
 use Rattle.shaping.specs.Rate.{rate_fit}
 use Rattle.modulator.specs.Calls.{made}
 use Rattle.modulator.proofs.SoftModulator.new.Goals as goal

@@ -2,8 +2,6 @@
 use mathlib.Core.Path.{◌≡◌, sym, ap, ◌∙◌}
 use mathlib.Core.Bool.{true}
 use Prim.Native.Nat.{◌<◌}
-use borrow.Author.Rules.{rules}
-use borrow.Author.Tests.{not-true, not-false}
 use Rattle.shaping.specs.Rate.{rate_fit, samples_in_lem, rate_of, tap_count}
 use Rattle.protocol.specs.Refusals.{on_paper}
 use Rattle.given_symbols.specs.Offender.{verdict_paper}

@@ -1,7 +1,6 @@
 -- `SoftModulator::read_output_samples` meets its contract. Assumes nothing.
 use mathlib.Core.Path.{◌≡◌, sym, ◌∙◌}
 use mathlib.Core.Bool.{true}
-use borrow.Author.Tests.{not-true, not-false}
 use Prim.Native.Nat.{◌≤◌}
 use native.Mathlib.Omega.{arith}
 use Rattle.shaping.specs.Rate.{samples_in_lem, rate_of}
@@ -10,7 +9,6 @@ use Rattle.modulator.specs.Fit.{record_fit_lem}
 use Rattle.modulator.proofs.Fitness.{RecordFacts, record_facts}
 use Rattle.modulator.proofs.Cases.{read_unfit, read_fit}
 use Rattle.modulator.proofs.Drain.{drained_is}
-use borrow.Author.Rules.{rules}
 use Rattle.modulator.proofs.SoftModulator.read_output_samples.Goals as goal
 use Rattle.modulator.proofs.SoftModulator.read_output_samples.Goals.{Else-not-record_fit}
 

@@ -1,8 +1,6 @@
 -- `SoftModulator::run` meets its contract: each return is one case of the rules. Assumes nothing.
 use mathlib.Core.Path.{◌≡◌, sym, ◌∙◌}
 use mathlib.Core.Bool.{true}
-use borrow.Author.Rules.{rules}
-use borrow.Author.Tests.{not-true, not-false}
 use Rattle.shaping.specs.Rate.{samples_in_lem, rate_of}
 use Rattle.modulator.specs.Fit.{record_fit_lem}
 use Rattle.modulator.proofs.Cases.{run_unfit, run_end, run_read, run_idle, run_frame, run_nothing}

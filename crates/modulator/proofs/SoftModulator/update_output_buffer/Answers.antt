@@ -2,8 +2,6 @@
 use mathlib.Core.Path.{◌≡◌, sym, ◌∙◌}
 use mathlib.Core.Bool.{true, false, not, ◌||◌}
 use native.Mathlib.Omega.{arith}
-use borrow.Author.Rules.{rules}
-use borrow.Author.Tests.{not-true, not-false}
 use Rattle.shaping.specs.Rate.{Known, samples_in_lem, rate_of}
 use Rattle.shaping.proofs.RateFacts.{rate_known}
 use Rattle.modulator.specs.Fit.{record_fit_lem}
@@ -56,7 +54,7 @@ end_after-end-requires c =
     let f = counts_taken a.samples_to_play.0 a.capacity.0 a.output_latency.0 (small c.before.before.before.before.before) in
     let far = (facts c.before.before.before.before.before.before.before.before.before).progress in
     let k = known c.before.before.before.before.before.before.before.before.before in
-    ((f.0, f.2), (omega arith, (far.read, omega arith)))
+    record { card = (f.0, f.2); padding = omega arith; frame = (far.read, omega arith) }
 
 pub updated_pending-told-requires : goal.updated_pending-told-requires
 updated_pending-told-requires c =

@@ -1,5 +1,4 @@
 -- `fit::buffer_fit` meets its contract. Assumes nothing.
-use borrow.Author.Rules.{rules}
 use Rattle.modulator.proofs.fit.buffer_fit.Goals as goal
 
 pub returns : goal.returns

@@ -1,5 +1,4 @@
 -- `fit::progress_fit` meets its contract. Assumes nothing.
-use borrow.Author.Rules.{rules}
 use Rattle.modulator.proofs.fit.progress_fit.Goals as goal
 
 pub returns : goal.returns

@@ -1,11 +1,10 @@
 -- `fit::record_fit` meets its contract. Assumes nothing.
-use mathlib.Core.Path.{◌≡◌, refl, sym, ◌∙◌}
+use mathlib.Core.Path.{◌≡◌, sym, ◌∙◌}
 use mathlib.Core.Bool.{true, false}
 use native.Mathlib.Omega.{arith}
 use borrow.Author.Rules.{rules}
-use borrow.Author.Tests.{not-true, not-false}
 use lib.ListN.{length}
-use Rattle.shaping.specs.Rate.{Known, rate_fit, samples_in_lem, tap_count}
+use Rattle.shaping.specs.Rate.{Known, rate_fit, tap_count}
 use Rattle.shaping.proofs.RateFacts.{rate_known}
 use Rattle.modulator.specs.Fit.{window_fit, record_fit_lem}
 use Rattle.modulator.proofs.Fitness.{window_within}

@@ -1,5 +1,4 @@
 -- `fit::report_fit` meets its contract. Assumes nothing.
-use borrow.Author.Rules.{rules}
 use Rattle.modulator.proofs.fit.report_fit.Goals as goal
 
 pub returns-in-After : goal.returns-in-After

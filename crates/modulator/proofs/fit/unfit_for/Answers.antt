@@ -1,7 +1,6 @@
 -- `fit::unfit_for` meets its contract. Assumes nothing.
 use mathlib.Core.Path.{◌≡◌, sym, ◌∙◌}
 use mathlib.Core.Bool.{true, false}
-use borrow.Author.Rules.{rules}
 use Rattle.shaping.specs.Rate.{rate_fit}
 use Rattle.modulator.proofs.fit.unfit_for.Goals as goal
 

@@ -1,6 +1,5 @@
 -- `frame::given` meets its contract. Assumes nothing.
 use native.Mathlib.Omega.{arith}
-use borrow.Author.Rules.{rules}
 use Rattle.modulator.proofs.frame.given.Goals as goal
 
 pub framed-requires : goal.framed-requires

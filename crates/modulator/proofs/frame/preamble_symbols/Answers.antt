@@ -1,7 +1,6 @@
 -- `frame::preamble_symbols` meets its contract. Assumes nothing.
 use mathlib.Core.Path.{ap, sym, ◌∙◌}
 use mathlib.Core.List.{List}
-use borrow.Author.Rules.{rules}
 use lib.Ieee.{Float}
 use Rattle.numbers.specs.Firsts.{firsts}
 use Rattle.encode.specs.Frames.{frame_of}

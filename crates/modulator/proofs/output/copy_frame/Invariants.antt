@@ -1,16 +1,10 @@
 -- `output::copy_frame` meets its contract. The loop's invariant: the places passed hold the store's samples, and the rest is as it was. Assumes nothing.
-use mathlib.Core.Path.{◌≡◌, refl}
+use mathlib.Core.Path.{◌≡◌}
 use mathlib.Core.List.{List}
 use Prim.Native.Nat.{ℕ, ◌≤◌, ◌-◌, ◌+◌}
-use native.Mathlib.Omega.{arith}
-use native.Mathlib.Numerals.{add-one}
-use borrow.Author.Rules.{rules, sfits_of}
-use mir.Syntax.{w16}
-use mir.Facts.{to_z-of_z}
 use lib.IntN.{ℤ, pos}
-use lib.ListN.{length, get_or, length-set}
-use Rattle.numbers.specs.Firsts.{firsts, written}
-use Rattle.numbers.proofs.Firsts.{written_step}
+use lib.ListN.{length, get_or}
+use Rattle.numbers.specs.Firsts.{written}
 use Rattle.modulator.proofs.output.copy_frame.Given as goal
 
 abbrev pub sample : List ℤ → ℕ → ℕ → ℤ

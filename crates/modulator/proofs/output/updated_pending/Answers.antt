@@ -1,5 +1,4 @@
 -- `output::updated_pending` meets its contract. Assumes nothing.
-use borrow.Author.Rules.{rules}
 use Rattle.modulator.proofs.output.updated_pending.Goals as goal
 
 pub returns-then-pending : goal.returns-then-pending

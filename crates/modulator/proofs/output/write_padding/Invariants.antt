@@ -1,13 +1,9 @@
 -- `output::write_padding` meets its contract. The loop's invariant: the places passed hold zeros, and the rest is as it was. Assumes nothing.
-use mathlib.Core.Path.{◌≡◌, refl}
+use mathlib.Core.Path.{◌≡◌}
 use Prim.Native.Nat.{ℕ, ◌≤◌, ◌-◌}
-use native.Mathlib.Omega.{arith}
-use native.Mathlib.Numerals.{add-one}
-use borrow.Author.Rules.{rules}
 use lib.IntN.{pos}
-use lib.ListN.{length, length-set}
-use Rattle.numbers.specs.Firsts.{firsts, written}
-use Rattle.numbers.proofs.Firsts.{written_step}
+use lib.ListN.{length}
+use Rattle.numbers.specs.Firsts.{written}
 use Rattle.modulator.proofs.output.write_padding.Given as goal
 
 abbrev pub invariant-loop-i : goal.invariant-loop-i
