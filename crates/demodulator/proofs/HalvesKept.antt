@@ -1,6 +1,6 @@
 -- What a sample leaves of the window's halves: they agree after it exactly if they did before it, so that a stretch tests them once; and that window and ring keep their places. Assumes nothing.
 use mathlib.Core.Path.{◌≡◌, refl, sym, ◌∙◌}
-use mathlib.Core.Bool.{true, false, not}
+use mathlib.Core.Bool.{true, not}
 use mathlib.Core.List.{List}
 use Prim.Native.Nat.{ℕ, ◌^◌, ◌≤◌}
 use lib.Dec.{eqb, ltb}

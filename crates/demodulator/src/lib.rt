@@ -1,4 +1,6 @@
 // The receiver: SoftDemodulator of the Rust's modem.rs as a record by value, which says its rate in samples a second. Samples go in one by one, and windows of 192 symbols are offered to the caller, who replies.
+#![tactic(auto)]
+
 ghost use Rattle.demodulator.specs.Calls.{NewSays, DemodSays, ReplySays, DataCarrierDetectSays};
 
 use protocol::{Kind, Refusal};

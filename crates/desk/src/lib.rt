@@ -1,5 +1,7 @@
 // The exercise desk of a classroom: eight seats share one record, and each seat has a receiver of its own, started anew when its exercise opens and changed in place.
 // Every call but `Desk::new` is lent the desk.
+#![tactic(auto)]
+
 ghost use Rattle.desk.specs.Desk.{DeskNewSays};
 
 use demodulator::{Heard, SoftDemodulator};

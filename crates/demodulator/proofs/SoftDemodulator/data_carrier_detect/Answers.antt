@@ -1,13 +1,11 @@
 -- `data_carrier_detect` meets its contract. Assumes nothing.
 use mathlib.Core.Path.{◌≡◌, sym, ◌∙◌}
 use mathlib.Core.Bool.{true}
-use borrow.Author.Tests.{not-true, not-false}
 use Rattle.shaping.specs.Rate.{rate_fit, samples_in_lem}
 use Rattle.shaping.proofs.RateFacts.{rate_known}
 use Rattle.demodulator.specs.Calls.{carrier, timer_held, detected}
 use Rattle.demodulator.proofs.Fitness.{tested_unfit, tested_fit}
 use Rattle.demodulator.proofs.CallCases.{carrier_other_rate, carrier_unfit, carrier_told}
-use borrow.Author.Rules.{rules}
 use Rattle.demodulator.proofs.SoftDemodulator.data_carrier_detect.Goals as goal
 use Rattle.demodulator.proofs.SoftDemodulator.data_carrier_detect.Goals.{Else-not-is_rate, Else-not-record_fit}
 

@@ -2,11 +2,9 @@
 use mathlib.Core.Path.{◌≡◌, sym, ◌∙◌}
 use mathlib.Core.Bool.{true}
 use mir.Facts.{to_z-of_z}
-use borrow.Author.Tests.{not-true, not-false}
 use Rattle.shaping.specs.Rate.{rate_fit, rate_of}
 use Rattle.shaping.proofs.RateFacts.{rate_known}
 use Rattle.demodulator.proofs.CallCases.{sample_other_rate}
-use borrow.Author.Rules.{rules}
 use Rattle.demodulator.proofs.SoftDemodulator.demod.Goals as goal
 use Rattle.demodulator.proofs.SoftDemodulator.demod.Lts as Lts
 use Rattle.demodulator.proofs.SoftDemodulator.demod.Reads as Reads

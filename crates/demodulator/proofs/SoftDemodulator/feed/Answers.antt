@@ -4,9 +4,8 @@ use mathlib.Core.Bool.{true}
 use Prim.Native.Nat.{◌<◌}
 use native.Mathlib.Omega.{arith}
 use lib.Arith.{lt_of_le-ne}
-use borrow.Author.Tests.{not-true, not-false}
 use borrow.Author.Rules.{rules}
-use lib.ListN.{length, length-map}
+use lib.ListN.{length}
 use Rattle.shaping.specs.Rate.{Known, rate_fit}
 use Rattle.shaping.proofs.RateFacts.{rate_known}
 use Rattle.demodulator.proofs.FeedSteps.{fed_some, feeds, feeds_nothing, feeds_other_rate}
@@ -43,8 +42,8 @@ pub feed_each-done-requires : goal.feed_each-done-requires
 feed_each-done-requires c =
     let k = known c.before.before.before.before.before.before.before.before.before in
     -- the arrays' lengths, as the record's type has them
-    let window : length c.args.self.filter_win ≡ 162 = sym (length-map c.args.self.filter_win _) ∙ c.well_formed.0.1.1.1.0.1.0.1 in
-    let ring : length c.args.self.rx_win ≡ 1920 = sym (length-map c.args.self.rx_win _) ∙ c.well_formed.0.1.1.1.1.1.0.1.0.1 in
+    let window : length c.args.self.filter_win ≡ 162 = search rules in
+    let ring : length c.args.self.rx_win ≡ 1920 = search rules in
     (record { known = k; window_long = omega (arith, k.1, window); ring_long = omega (arith, k.1, ring) }, c.halves_agree-halves.ensures)
 
 pub returns : goal.returns

@@ -1,9 +1,7 @@
 -- `new` meets its contract. Assumes nothing.
 use mathlib.Core.Path.{refl, sym, ◌∙◌}
-use borrow.Author.Tests.{not-true, not-false}
 use Rattle.demodulator.specs.Record.{fresh}
 use Rattle.demodulator.specs.Calls.{made}
-use borrow.Author.Rules.{rules}
 use Rattle.demodulator.proofs.SoftDemodulator.new.Goals as goal
 
 pub returns-then-not-is_rate : goal.returns-then-not-is_rate

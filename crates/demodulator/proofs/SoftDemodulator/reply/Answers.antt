@@ -10,7 +10,6 @@ use Rattle.demodulator.specs.Fit.{fit_for_reply_lem}
 use Rattle.demodulator.proofs.Fitness.{record_facts, reply_record}
 use Rattle.demodulator.proofs.CallCases.{reply_other_rate, reply_unfit, reply_unasked}
 use Rattle.demodulator.proofs.ReplySearch.{replies}
-use borrow.Author.Rules.{rules}
 use Rattle.demodulator.proofs.SoftDemodulator.reply.Goals as goal
 use Rattle.demodulator.proofs.SoftDemodulator.reply.Goals.{Else-not-is_rate, After-samples_in-p, After-fit_for_reply, Else-not-fit_for_reply}
 
@@ -53,7 +52,7 @@ returns-then-not-control c =
 
 pub eight-values-requires : goal.eight-values-requires
 eight-values-requires c =
-    ((known c.before.before.before.before.before.before.before.before.before).1, (record_facts _ _ (reply_record _ _ (fit c.before.before.before))).ring-cursor)
+    ((known c.before.before.before.before.before.before.before.before.before).1, (record_facts _ _ (reply_record _ _ (fit c.before.before.before))).ring_cursor)
 
 pub overflow_cast-symbol : goal.overflow_cast-symbol
 overflow_cast-symbol c = let k = known c.before.before.before.before.before.before.before.before.before.before in omega (arith, k.1)

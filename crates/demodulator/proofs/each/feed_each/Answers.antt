@@ -2,11 +2,10 @@
 use mathlib.Core.Path.{◌≡◌, refl, sym, ap, ◌∙◌}
 use mathlib.Core.Bool.{true}
 use mathlib.Core.List.{List, ◌∷◌}
-use Prim.Native.Nat.{ℕ, ◌+◌, ◌-◌, ◌≤◌, ◌<◌}
+use Prim.Native.Nat.{ℕ, ◌+◌, ◌≤◌, ◌<◌}
 use lib.Arith.{lt_of_le-ne}
 use native.Mathlib.Numerals.{add-one}
 use native.Mathlib.Omega.{arith}
-use borrow.Author.Tests.{not-true, not-false}
 use borrow.Author.Rules.{rules, sfits_of, scaled_Fits}
 use mir.Syntax.{w16}
 use mir.Val.{SFits}
@@ -20,10 +19,10 @@ use Rattle.demodulator.specs.declared.SoftDemodulator.{SoftDemodulator}
 use Rattle.demodulator.specs.Fit.{halves_agree_lem}
 use Rattle.demodulator.specs.Feed.{Stretch, rest_from}
 use Rattle.demodulator.specs.Steps.{Steps}
-use Rattle.demodulator.specs.Stretch.{joined, Stretches, Lent}
+use Rattle.demodulator.specs.Stretch.{joined, Stretches}
 use Rattle.demodulator.proofs.HalvesKept.{KeepsHalves, step_kept}
 use Rattle.demodulator.proofs.FeedSteps.{drop_at, fed_on, fed_ends, fed_out, one_at_most}
-use Rattle.demodulator.proofs.StretchFeeds.{Plain, plain_facts}
+use Rattle.demodulator.proofs.StretchFeeds.{plain_facts}
 use Rattle.demodulator.proofs.each.feed_each.Goals as goal
 use Rattle.demodulator.proofs.each.feed_each.Goals.{At-loop-fed, After-advance_stretch-stretched, After-step-stepped}
 
@@ -60,7 +59,7 @@ told_after : (a : After-advance_stretch-stretched) → (rate : ℕ) → rate_fit
 told_after a rate known =
     let plain = a.loop-fed.invariant.2 in
     a.loop-fed.invariant.5 rate known
-    ∙ (stretched a).feeds rate known a.loop-fed.room (λ e. omega (arith, plain.room-enough e, a.loop-fed.invariant.1)) a.loop-fed.fed
+    ∙ (stretched a).feeds rate known a.loop-fed.room (λ e. omega (arith, plain.room_enough e, a.loop-fed.invariant.1)) a.loop-fed.fed
     ∙ ap (λ (q : List ℤ). rest_from (rate_at a.args.p) (now-fed a) (record-after a rate) q a.loop-fed.room) (drop-drop a.advance_stretch-stretched.result.fed a.loop-fed.fed (heard-by a.before.before.before.before.before))
 
 abbrev sample-of : After-step-stepped → ℤ
@@ -84,7 +83,7 @@ stepped s rate fit = rw (to_z-of_z {w = w16} {z = sample-of s} (fits_of s)) at (
 kept : (s : After-step-stepped)
     → KeepsHalves s.args.p (record-after s.before.before.before.before.before.before.before.before.before 48000)
     (joined s.step-stepped.new.filter_win s.step-stepped.new.rx_win s.step-stepped.result.places 48000 s.step-stepped.result.control)
-kept s = step_kept _ _ (stretched s.before.before.before.before.before.before.before.before.before).lent.window-long _ _ _ _ _ (stepped s 48000 refl)
+kept s = step_kept _ _ (stretched s.before.before.before.before.before.before.before.before.before).lent.window_long _ _ _ _ _ (stepped s 48000 refl)
 
 left_of : (s : After-step-stepped) → drop (now-fed s.before.before.before.before.before.before.before.before.before) (heard-by s.before.before.before.before.before.before.before.before.before.before.before.before.before.before) ≡ sample-of s ∷ drop (now-fed s.before.before.before.before.before.before.before.before.before + 1) (heard-by s.before.before.before.before.before.before.before.before.before.before.before.before.before.before)
 left_of s = rw (drop_at (now-fed s.before.before.before.before.before.before.before.before.before) (heard-by s.before.before.before.before.before.before.before.before.before.before.before.before.before.before) (pos 0) (below s), add-one (now-fed s.before.before.before.before.before.before.before.before.before))
@@ -99,7 +98,7 @@ loop-fed-init c =
     (search rules, refl, plain, c.requires.0, c.requires.1, λ rate known. refl)
 
 pub advance_stretch-stretched-requires : goal.advance_stretch-stretched-requires
-advance_stretch-stretched-requires c = let i = c.loop-fed.invariant in (i.3, λ e. sym i.4 ∙ i.2.halves-agree e)
+advance_stretch-stretched-requires c = let i = c.loop-fed.invariant in (i.3, λ e. sym i.4 ∙ i.2.halves_agree_law e)
 
 pub overflow_add-fed : goal.overflow_add-fed
 overflow_add-fed c =

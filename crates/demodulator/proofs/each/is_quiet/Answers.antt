@@ -1,5 +1,4 @@
 -- `feed::is_quiet` meets its contract. Assumes nothing.
-use borrow.Author.Rules.{rules}
 use Rattle.demodulator.proofs.each.is_quiet.Goals as goal
 
 pub returns-in-Refused : goal.returns-in-Refused

@@ -1,6 +1,5 @@
 -- `feed::tell` meets its contract. Assumes nothing.
 use borrow.Author.Tests.{ne_eqb}
-use borrow.Author.Rules.{rules}
 use Rattle.demodulator.proofs.each.tell.Goals as goal
 
 pub returns-then-fed-eq0 : goal.returns-then-fed-eq0

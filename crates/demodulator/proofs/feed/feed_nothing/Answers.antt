@@ -1,6 +1,5 @@
 -- `feed::feed_nothing` meets its contract. Assumes nothing.
 use Rattle.shaping.proofs.RateFacts.{rate_known}
-use borrow.Author.Rules.{rules}
 use Rattle.demodulator.proofs.Fitness.{tested_unfit, tested_fit}
 use Rattle.demodulator.proofs.FeedSteps.{nothing_unfit, nothing_fed}
 use Rattle.demodulator.proofs.feed.feed_nothing.Goals as goal

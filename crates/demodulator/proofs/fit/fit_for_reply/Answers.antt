@@ -4,7 +4,6 @@ use native.Mathlib.Omega.{arith}
 use lib.Dec.{lit≤}
 use Rattle.demodulator.specs.Fit.{fit_for_reply_lem}
 use Rattle.demodulator.proofs.Fitness.{tested_unfit, tested_fit, tested_inside}
-use borrow.Author.Rules.{rules}
 use Rattle.demodulator.proofs.fit.fit_for_reply.Goals as goal
 
 pub returns-then-not-record_fit : goal.returns-then-not-record_fit

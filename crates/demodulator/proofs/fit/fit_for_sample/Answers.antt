@@ -2,7 +2,6 @@
 use native.Mathlib.Omega.{arith}
 use Rattle.demodulator.specs.Fit.{fit_for_sample_lem}
 use Rattle.demodulator.proofs.Fitness.{tested_unfit, tested_fit, tested_inside, places_between}
-use borrow.Author.Rules.{rules}
 use Rattle.demodulator.proofs.fit.fit_for_sample.Goals as goal
 
 pub returns-then-not-record_fit : goal.returns-then-not-record_fit

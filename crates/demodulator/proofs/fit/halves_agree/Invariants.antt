@@ -1,16 +1,11 @@
 -- `halves_agree` meets its contract: after i turns the pairs before i are compared. Assumes nothing.
-use mathlib.Core.Path.{◌≡◌, refl, ◌∙◌}
+use mathlib.Core.Path.{◌≡◌}
 use Prim.Native.Nat.{ℕ, ◌+◌, ◌-◌, ◌≤◌}
-use native.Mathlib.Numerals.{add-one}
-use native.Mathlib.Omega.{arith}
-use borrow.Author.Rules.{rules, sfits_of}
-use mir.Syntax.{w16}
 use lib.IntN.{pos}
 use lib.ListN.{get_or}
 use Rattle.numbers.specs.Below.{all_below}
 use Rattle.shaping.specs.Rate.{tap_count}
-use Rattle.demodulator.specs.Fit.{same_sample, halves_agree_lem}
-use Rattle.demodulator.proofs.Halves.{same_pattern}
+use Rattle.demodulator.specs.Fit.{same_sample}
 use Rattle.demodulator.proofs.fit.halves_agree.Given as goal
 
 abbrev pub invariant-loop-i : goal.invariant-loop-i

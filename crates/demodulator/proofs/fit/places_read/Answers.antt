@@ -1,6 +1,5 @@
 -- `places_read` meets its contract. Assumes nothing.
 use borrow.Author.Tests.{ne_eqb}
-use borrow.Author.Rules.{rules}
 use Rattle.demodulator.proofs.fit.places_read.Goals as goal
 
 pub returns-else-w-eq1 : goal.returns-else-w-eq1

@@ -1,5 +1,4 @@
 -- `record_fit` meets its contract: the definition's tests are the code's. Assumes nothing.
-use borrow.Author.Rules.{rules}
 use Rattle.demodulator.proofs.fit.record_fit.Goals as goal
 
 pub returns : goal.returns

@@ -3,8 +3,6 @@ use mathlib.Core.Path.{◌≡◌, sym, ◌∙◌}
 use mathlib.Core.Bool.{true}
 use mathlib.Core.List.{List}
 use lib.Ieee.{Float}
-use borrow.Author.Tests.{not-true, not-false}
-use borrow.Author.Rules.{rules}
 use Rattle.shaping.specs.Rate.{rate_fit, samples_in_lem}
 use Rattle.shaping.proofs.RateFacts.{rate_known}
 use Rattle.demodulator.specs.declared.SoftDemodulator.{SoftDemodulator}

@@ -4,9 +4,7 @@ use mathlib.Core.Bool.{true}
 use Prim.Native.Nat.{◌<◌}
 use native.Mathlib.Omega.{arith}
 use lib.Arith.{lt_of_le-ne}
-use borrow.Author.Tests.{not-true, not-false}
-use borrow.Author.Rules.{rules}
-use lib.ListN.{length, length-map}
+use lib.ListN.{length}
 use Rattle.shaping.specs.Rate.{Known, rate_fit}
 use Rattle.shaping.proofs.RateFacts.{rate_known}
 use Rattle.demodulator.specs.declared.SoftDemodulator.{SoftDemodulator}

@@ -4,7 +4,6 @@ use mathlib.Core.Bool.{true}
 use mathlib.Core.List.{[]}
 use native.Mathlib.Omega.{arith}
 use borrow.Author.Tests.{not-true, not-false}
-use borrow.Author.Rules.{rules}
 use Rattle.shaping.specs.Rate.{Known, rate_fit, samples_in_lem}
 use Rattle.shaping.proofs.RateFacts.{rate_known}
 use Rattle.demodulator.specs.declared.SoftDemodulator.{SoftDemodulator}
@@ -57,7 +56,7 @@ returns-then-not-control c =
 
 pub eight-values-requires : goal.eight-values-requires
 eight-values-requires c =
-    ((known c.before.before.before.before.before).1, (record_facts _ _ (reply_record _ _ (fit c.before.before))).ring-cursor)
+    ((known c.before.before.before.before.before).1, (record_facts _ _ (reply_record _ _ (fit c.before.before))).ring_cursor)
 
 pub overflow_cast-symbol : goal.overflow_cast-symbol
 overflow_cast-symbol c = let k = known c.before.before.before.before.before.before in omega (arith, k.1)

@@ -2,7 +2,6 @@
 use Prim.Native.Nat.{◌+◌}
 use native.Mathlib.Omega.{arith}
 use Rattle.demodulator.proofs.Wrap.{wrap_below, wrap_end}
-use borrow.Author.Rules.{rules}
 use Rattle.demodulator.proofs.ring.place_after.Goals as goal
 
 pub returns-then-next-places : goal.returns-then-next-places

@@ -1,13 +1,11 @@
 -- `places_in_range` meets its contract: after j values, the answer is that of the first j. Assumes nothing.
 use mathlib.Core.Path.{◌≡◌, refl, ◌∙◌}
-use Prim.Native.Nat.{ℕ, ◌+◌, ◌*◌, ◌-◌, ◌≤◌, ◌<◌}
+use Prim.Native.Nat.{◌<◌}
 use native.Mathlib.Nat.{mul-le-mul_left}
 use native.Mathlib.Numerals.{add-one}
 use native.Mathlib.Omega.{arith}
 use borrow.Author.Rules.{rules}
 use Rattle.numbers.specs.Below.{all_below}
-use Rattle.decode.specs.Correlator.{in_range}
-use Rattle.demodulator.specs.Record.{ring_back}
 use Rattle.demodulator.proofs.ring.places_in_range.Goals as goal
 
 pub loop-j-init : goal.loop-j-init

@@ -1,10 +1,6 @@
 -- `places_in_range` meets its contract: after j values, the answer is that of the first j. Assumes nothing.
-use mathlib.Core.Path.{◌≡◌, refl, ◌∙◌}
-use Prim.Native.Nat.{ℕ, ◌+◌, ◌*◌, ◌-◌, ◌≤◌, ◌<◌}
-use native.Mathlib.Nat.{mul-le-mul_left}
-use native.Mathlib.Numerals.{add-one}
-use native.Mathlib.Omega.{arith}
-use borrow.Author.Rules.{rules}
+use mathlib.Core.Path.{◌≡◌}
+use Prim.Native.Nat.{ℕ, ◌+◌, ◌*◌, ◌-◌, ◌≤◌}
 use Rattle.numbers.specs.Below.{all_below}
 use Rattle.decode.specs.Correlator.{in_range}
 use Rattle.demodulator.specs.Record.{ring_back}

@@ -8,7 +8,6 @@ use mir.Facts.{to_z-of_z}
 use Rattle.shaping.specs.Rate.{rate_at}
 use Rattle.shaping.proofs.RateFacts.{facts}
 use Rattle.demodulator.specs.Record.{stored}
-use borrow.Author.Rules.{rules}
 use Rattle.demodulator.proofs.ring.store.Goals as goal
 
 pub returns : goal.returns

@@ -1,7 +1,6 @@
 -- `symbol_back` meets its contract: the one product. Assumes nothing.
 use native.Mathlib.Nat.{mul-le-mul_left}
 use native.Mathlib.Omega.{arith}
-use borrow.Author.Rules.{rules}
 use Rattle.demodulator.proofs.ring.symbol_back.Goals as goal
 
 pub overflow_mul-ago : goal.overflow_mul-ago

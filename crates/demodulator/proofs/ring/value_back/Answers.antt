@@ -1,5 +1,4 @@
 -- `value_back` meets its contract. Assumes nothing.
-use borrow.Author.Rules.{rules}
 use Rattle.demodulator.proofs.ring.value_back.Goals as goal
 
 pub returns : goal.returns

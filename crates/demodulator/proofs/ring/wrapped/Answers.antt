@@ -2,7 +2,6 @@
 use native.Mathlib.Omega.{arith}
 use Rattle.shaping.specs.Rate.{ring_places}
 use Rattle.demodulator.proofs.Wrap.{wrap_below, wrap_above}
-use borrow.Author.Rules.{rules}
 use Rattle.demodulator.proofs.ring.wrapped.Goals as goal
 
 pub returns-then-place-places : goal.returns-then-place-places

@@ -4,7 +4,6 @@ use mathlib.Core.List.{List}
 use lib.Ieee.{Float}
 use Rattle.bulk.specs.Sums.{sums_of}
 use Rattle.demodulator.proofs.RowLaid.{still_sums, whole_sums}
-use borrow.Author.Rules.{rules}
 use Rattle.demodulator.proofs.row.block_sums.Goals as goal
 
 pub returns-then-is_still : goal.returns-then-is_still

@@ -1,15 +1,10 @@
 -- `put_by_table` meets its contract: after some turns the sums of whole blocks are written. Assumes nothing.
-use mathlib.Core.Path.{◌≡◌, refl}
-use Prim.Native.Nat.{ℕ, ◌+◌, ◌*◌, ◌-◌, ◌%◌, ◌≤◌, ◌<◌}
-use native.Mathlib.Omega.{arith}
-use lib.ListN.{length, take, drop}
-use Rattle.numbers.specs.Firsts.{firsts, written}
-use Rattle.numbers.proofs.Firsts.{written_more}
+use mathlib.Core.Path.{◌≡◌}
+use Prim.Native.Nat.{◌-◌, ◌%◌, ◌≤◌}
+use lib.ListN.{length}
+use Rattle.numbers.specs.Firsts.{written}
 use Rattle.shaping.specs.Rate.{rate_at}
 use Rattle.bulk.specs.Sums.{sum_from}
-use Rattle.numbers.proofs.Tail.{tail_lent, tail_back}
-use Rattle.demodulator.proofs.RowLaid.{part_sums}
-use borrow.Author.Rules.{rules}
 use Rattle.demodulator.proofs.row.put_by_table.Given as goal
 
 abbrev pub invariant-loop-k : goal.invariant-loop-k

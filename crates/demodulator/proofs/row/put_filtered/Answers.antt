@@ -1,6 +1,5 @@
 -- `put_filtered` meets its contract: each rate by its own table. Assumes nothing.
 use mathlib.Core.Path.{◌∙◌}
-use borrow.Author.Rules.{rules}
 use Rattle.shaping.proofs.RateFacts.{table_48, table_24}
 use Rattle.demodulator.proofs.row.put_filtered.Goals as goal
 

@@ -1,6 +1,5 @@
 -- `put_floats` meets its contract: after i turns the first i places are written. Assumes nothing.
 use mathlib.Core.Path.{◌≡◌, refl}
-use Prim.Native.Nat.{◌-◌, ◌≤◌}
 use native.Mathlib.Numerals.{add-one}
 use native.Mathlib.Omega.{arith}
 use mir.Syntax.{w16}
@@ -9,7 +8,7 @@ use borrow.Author.Rules.{sfits_of}
 use lib.IntN.{pos}
 use lib.ListN.{length, get_or, length-set}
 use lib.Ieee.{nan}
-use Rattle.numbers.specs.Firsts.{firsts, written}
+use Rattle.numbers.specs.Firsts.{firsts}
 use Rattle.numbers.proofs.Firsts.{written_step}
 use Rattle.shaping.specs.Sum.{sample_in}
 use borrow.Author.Rules.{rules}

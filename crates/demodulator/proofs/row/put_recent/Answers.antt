@@ -1,14 +1,12 @@
 -- `put_recent` meets its contract: after i turns the first i places are written. Assumes nothing.
 use mathlib.Core.Path.{◌≡◌, refl}
-use mathlib.Core.List.{List}
-use Prim.Native.Nat.{ℕ, ◌*◌, ◌-◌, ◌≤◌}
+use Prim.Native.Nat.{◌*◌}
 use native.Mathlib.Numerals.{add-one}
 use native.Mathlib.Omega.{arith}
-use lib.ListN.{length, length-set}
-use lib.Ieee.{Float, nan}
-use Rattle.numbers.specs.Firsts.{firsts, written}
+use lib.ListN.{length-set}
+use lib.Ieee.{nan}
+use Rattle.numbers.specs.Firsts.{firsts}
 use Rattle.numbers.proofs.Firsts.{written_step}
-use Rattle.demodulator.specs.Record.{ring_back}
 use borrow.Author.Rules.{rules}
 use Rattle.demodulator.proofs.row.put_recent.Invariants.{recent}
 use Rattle.demodulator.proofs.row.put_recent.Goals as goal

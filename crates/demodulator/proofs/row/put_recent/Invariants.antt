@@ -1,15 +1,11 @@
 -- `put_recent` meets its contract: after i turns the first i places are written. Assumes nothing.
-use mathlib.Core.Path.{◌≡◌, refl}
+use mathlib.Core.Path.{◌≡◌}
 use mathlib.Core.List.{List}
 use Prim.Native.Nat.{ℕ, ◌*◌, ◌-◌, ◌≤◌}
-use native.Mathlib.Numerals.{add-one}
-use native.Mathlib.Omega.{arith}
-use lib.ListN.{length, length-set}
-use lib.Ieee.{Float, nan}
-use Rattle.numbers.specs.Firsts.{firsts, written}
-use Rattle.numbers.proofs.Firsts.{written_step}
+use lib.ListN.{length}
+use lib.Ieee.{Float}
+use Rattle.numbers.specs.Firsts.{written}
 use Rattle.demodulator.specs.Record.{ring_back}
-use borrow.Author.Rules.{rules}
 use Rattle.demodulator.proofs.row.put_recent.Given as goal
 
 abbrev pub recent : ℕ → List Float → ℕ → ℕ → Float

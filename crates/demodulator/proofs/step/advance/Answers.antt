@@ -36,7 +36,7 @@ overflow_add-number c = let below = c.requires.count in search rules
 pub write_window-requires : goal.write_window-requires
 write_window-requires c =
     let pre = c.requires in
-    (pre.known.1, c.place_after-rx_next.ensures.0, pre.room-enough)
+    (pre.known.1, c.place_after-rx_next.ensures.0, pre.room_enough)
 
 pub returns-in-Rest : goal.returns-in-Rest
 returns-in-Rest c =

@@ -4,13 +4,11 @@ use mathlib.Core.Bool.{true, false}
 use Prim.Native.Nat.{ℕ}
 use native.Mathlib.Omega.{arith}
 use mir.Facts.{to_z-of_z}
-use borrow.Author.Tests.{not-true, not-false}
 use Rattle.shaping.specs.Rate.{rate_fit}
 use Rattle.demodulator.specs.Record.{assembled}
 use Rattle.demodulator.specs.Fit.{fit_for_sample_lem}
 use Rattle.demodulator.proofs.Fitness.{record_facts, sample_record}
 use Rattle.demodulator.proofs.CallCases.{refuses, sample_unfit, sample_owed, sample_cramped, sample_last}
-use borrow.Author.Rules.{rules}
 use Rattle.demodulator.proofs.step.step.Goals as goal
 use Rattle.demodulator.proofs.step.step.Lts as Lts
 use Rattle.demodulator.proofs.step.step.Reads as Reads

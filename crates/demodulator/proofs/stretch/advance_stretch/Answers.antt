@@ -3,7 +3,6 @@ use mathlib.Core.Path.{◌≡◌, sym}
 use mathlib.Core.Bool.{true}
 use Prim.Native.Nat.{ℕ, ◌≤◌, min}
 use native.Mathlib.Omega.{arith}
-use borrow.Author.Tests.{not-false}
 use lib.Seq.{length-take-le}
 use Rattle.search.specs.declared.Wait.{Wait}
 use Rattle.quiet.specs.Walk.{before_due}

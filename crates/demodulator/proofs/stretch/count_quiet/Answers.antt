@@ -1,5 +1,4 @@
 -- `count_quiet` meets its contract: each return is one case of the wait. Assumes nothing.
-use borrow.Author.Rules.{rules}
 use Rattle.quiet.specs.Walk.{before_due}
 use Rattle.demodulator.proofs.stretch.count_quiet.Goals as goal
 

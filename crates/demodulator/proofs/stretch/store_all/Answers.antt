@@ -1,6 +1,5 @@
 -- `store_all` meets its contract: after k turns the first k samples are stored. Assumes nothing.
 use mathlib.Core.Path.{◌≡◌, refl, sym, ap, ◌∙◌}
-use Prim.Native.Nat.{◌-◌, ◌≤◌}
 use native.Mathlib.Numerals.{add-one}
 use native.Mathlib.Omega.{arith}
 use mir.Syntax.{w16}
@@ -10,7 +9,7 @@ use lib.IntN.{pos}
 use lib.ListN.{get_or}
 use Rattle.shaping.specs.Rate.{rate_at}
 use Rattle.demodulator.specs.Record.{stored, filtered_after}
-use Rattle.demodulator.specs.Stretch.{stored_to, joined, StoresAll}
+use Rattle.demodulator.specs.Stretch.{stored_to, joined}
 use borrow.Author.Rules.{rules}
 use Rattle.demodulator.proofs.stretch.store_all.Goals as goal
 

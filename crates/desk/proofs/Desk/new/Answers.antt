@@ -1,11 +1,10 @@
 -- `new` meets its contract. Assumes nothing.
-use mathlib.Core.Path.{◌≡◌, refl, sym, ap, ◌∙◌}
-use mathlib.Core.Bool.{Bool, true, false}
+use mathlib.Core.Path.{ap}
+use mathlib.Core.Bool.{false}
 use lib.ListN.{replicate}
 use Rattle.demodulator.specs.declared.SoftDemodulator.{SoftDemodulator}
 use Rattle.demodulator.specs.Calls.{made}
 use Rattle.desk.specs.declared.Desk.{Desk}
-use borrow.Author.Rules.{rules}
 use Rattle.desk.proofs.Desk.new.Goals as goal
 
 abbrev of : SoftDemodulator → Desk

@@ -1,13 +1,12 @@
 -- `close_desk` meets its contract. Assumes nothing.
-use mathlib.Core.Path.{◌≡◌, refl, sym, ap, ◌∙◌}
+use mathlib.Core.Path.{sym, ap, ◌∙◌}
 use mathlib.Core.Bool.{true, false}
-use Prim.Native.Nat.{ℕ, ◌<◌}
+use Prim.Native.Nat.{◌<◌}
 use native.Mathlib.Omega.{arith}
 use Rattle.demodulator.specs.Calls.{carrier_paper}
 use Rattle.desk.specs.Desk.{receiver_at}
 use Rattle.desk.specs.Passage.{gate_paper}
 use Rattle.desk.proofs.SeatLaws.{goes_below, query_refused, query_held, close_turned, close_by}
-use borrow.Author.Rules.{rules}
 use Rattle.desk.proofs.exercise.close_desk.Goals as goal
 
 pub offset_bounds-desk-seat : goal.offset_bounds-desk-seat

@@ -1,12 +1,10 @@
 -- `has_strange` meets its contract. Assumes nothing.
 use mathlib.Core.Path.{◌≡◌, refl, ◌∙◌}
-use Prim.Native.Nat.{ℕ, ◌-◌, ◌≤◌}
 use native.Mathlib.Numerals.{add-one}
 use native.Mathlib.Omega.{arith}
 use borrow.Author.Rules.{rules}
 use Rattle.numbers.specs.Below.{any_below}
-use Rattle.desk.specs.Desk.{is_open, receiver_at}
-use Rattle.desk.specs.Listing.{strange, any_strange}
+use Rattle.desk.specs.Listing.{any_strange}
 use Rattle.desk.proofs.listing.has_strange.Goals as goal
 
 pub loop-at-init : goal.loop-at-init

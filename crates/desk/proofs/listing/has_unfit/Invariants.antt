@@ -1,12 +1,9 @@
 -- `has_unfit` meets its contract. Assumes nothing.
-use mathlib.Core.Path.{◌≡◌, refl, ◌∙◌}
+use mathlib.Core.Path.{◌≡◌}
 use Prim.Native.Nat.{ℕ, ◌-◌, ◌≤◌}
-use native.Mathlib.Numerals.{add-one}
-use native.Mathlib.Omega.{arith}
-use borrow.Author.Rules.{rules}
 use Rattle.numbers.specs.Below.{any_below}
 use Rattle.desk.specs.Desk.{is_open, receiver_at}
-use Rattle.desk.specs.Listing.{unfit, any_unfit}
+use Rattle.desk.specs.Listing.{unfit}
 use Rattle.desk.proofs.listing.has_unfit.Given as goal
 
 abbrev pub invariant-loop-at : goal.invariant-loop-at

@@ -1,10 +1,8 @@
 -- `is_unfit` meets its contract. Assumes nothing.
-use mathlib.Core.Path.{◌≡◌, refl, sym, ap, ◌∙◌}
-use mathlib.Core.Bool.{Bool, true, false}
+use mathlib.Core.Path.{sym, ap, ◌∙◌}
 use Rattle.demodulator.specs.Calls.{carrier_paper}
 use Rattle.desk.proofs.SeatLaws.{query_refused, query_held}
 use Rattle.desk.proofs.ListLaws.{unfit_there, unfit_not}
-use borrow.Author.Rules.{rules}
 use Rattle.desk.proofs.listing.is_unfit.Goals as goal
 
 pub returns-in-Refused : goal.returns-in-Refused

@@ -1,6 +1,5 @@
 -- `lines_of` meets its contract. Assumes nothing.
 use mathlib.Core.List.{[], ◌∷◌}
-use borrow.Author.Rules.{rules}
 use Rattle.desk.proofs.listing.lines_of.Goals as goal
 
 pub returns : goal.returns

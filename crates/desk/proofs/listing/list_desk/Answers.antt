@@ -1,10 +1,8 @@
 -- `list_desk` meets its contract. Assumes nothing.
-use mathlib.Core.Path.{◌≡◌, refl, sym, ap, ◌∙◌}
+use mathlib.Core.Path.{sym, ap, ◌∙◌}
 use mathlib.Core.Bool.{true, false}
-use mathlib.Core.List.{List}
-use Rattle.desk.specs.Listing.{PaperLine, lines}
+use Rattle.desk.specs.Listing.{lines}
 use Rattle.desk.proofs.ListLaws.{listed_strange, listed_by}
-use borrow.Author.Rules.{rules}
 use Rattle.desk.proofs.listing.list_desk.Goals as goal
 
 pub returns-then-has_strange : goal.returns-then-has_strange

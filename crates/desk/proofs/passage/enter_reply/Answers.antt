@@ -1,9 +1,7 @@
 -- `enter_reply` meets its contract. Assumes nothing.
-use mathlib.Core.Path.{◌≡◌, refl, sym, ap, ◌∙◌}
-use mathlib.Core.Bool.{Bool, true, false}
+use mathlib.Core.Path.{refl, sym, ap, ◌∙◌}
 use Rattle.desk.specs.Passage.{gate_paper}
 use Rattle.desk.proofs.SeatLaws.{goes_below, never_both}
-use borrow.Author.Rules.{rules}
 use Rattle.desk.proofs.passage.enter_reply.Goals as goal
 
 pub returns-in-Goes : goal.returns-in-Goes

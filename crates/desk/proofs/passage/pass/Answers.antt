@@ -1,10 +1,7 @@
 -- `pass` meets its contract. Assumes nothing.
-use mathlib.Core.Path.{◌≡◌, refl, sym, ap, ◌∙◌}
-use mathlib.Core.Bool.{Bool, true, false}
-use borrow.Author.Tests.{lt-ltb, le-ltb, not-true, not-false}
-use Rattle.desk.specs.Desk.{is_open}
+use mathlib.Core.Path.{refl}
+use borrow.Author.Tests.{lt-ltb, le-ltb}
 use Rattle.desk.specs.Passage.{entered}
-use borrow.Author.Rules.{rules}
 use Rattle.desk.proofs.passage.pass.Goals as goal
 
 pub returns-then-seat-gt7 : goal.returns-then-seat-gt7

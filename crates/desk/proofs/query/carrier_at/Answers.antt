@@ -1,12 +1,10 @@
 -- `carrier_at` meets its contract. Assumes nothing.
-use mathlib.Core.Path.{◌≡◌, refl, sym, ap, ◌∙◌}
-use Prim.Native.Nat.{ℕ, ◌<◌}
+use mathlib.Core.Path.{sym, ap, ◌∙◌}
+use Prim.Native.Nat.{◌<◌}
 use native.Mathlib.Omega.{arith}
-use Rattle.demodulator.specs.Calls.{carrier_paper}
-use Rattle.desk.specs.Passage.{Entered, gate_paper, entered, goes}
+use Rattle.desk.specs.Passage.{Entered, gate_paper}
 use Rattle.desk.specs.Calls.{detected_by}
 use Rattle.desk.proofs.SeatLaws.{goes_below}
-use borrow.Author.Rules.{rules}
 use Rattle.desk.proofs.query.carrier_at.Goals as goal
 
 pub offset_bounds-desk-seat : goal.offset_bounds-desk-seat
