@@ -2,6 +2,7 @@
 use crate::layout;
 use crate::layout::{NO_KIND, Words};
 use demodulator::{Carrier, Heard, Made, Replied, Reply, SoftDemodulator};
+use std::io::{self, Write};
 
 const FRESH: u64 = 0;
 
@@ -91,13 +92,18 @@ fn carried(answer: Carrier) -> Words {
     }
 }
 
-fn note(m: SoftDemodulator, answer: Heard) {
+fn note(out: &mut impl Write, m: SoftDemodulator, answer: Heard) -> io::Result<()> {
     let carrier = carried(m.data_carrier_detect());
-    layout::put_front(m, heard(answer, carrier.answer, 1));
+    layout::put_front(out, m, heard(answer, carrier.answer, 1))
 }
 
 // A call for each sample, until one is refused or brings an offer; that one is given too.
-fn listen(fresh: SoftDemodulator, samples: &[i16], room: &mut [f32]) {
+fn listen(
+    out: &mut impl Write,
+    fresh: SoftDemodulator,
+    samples: &[i16],
+    room: &mut [f32],
+) -> io::Result<()> {
     let mut receiver = fresh;
     let mut given: usize = 0;
     let mut quiet = true;
@@ -105,28 +111,33 @@ fn listen(fresh: SoftDemodulator, samples: &[i16], room: &mut [f32]) {
         let after = receiver.demod(samples[given], room);
         receiver = after.demodulator;
         let answer = after.answer;
-        note(receiver, answer);
+        note(out, receiver, answer)?;
         quiet = is_quiet(answer);
         given += 1;
     }
-    layout::put_record(receiver, of_samples(0, 0, 0, given));
+    layout::put_record(out, receiver, of_samples(0, 0, 0, given))
 }
 
-fn feed(receiver: SoftDemodulator, samples: &[i16], room: &mut [f32]) {
+fn feed(
+    out: &mut impl Write,
+    receiver: SoftDemodulator,
+    samples: &[i16],
+    room: &mut [f32],
+) -> io::Result<()> {
     let after = receiver.feed(samples, room);
     let answer = after.answer;
     let next = after.demodulator;
-    layout::put_record(next, heard(answer, 0, after.fed));
+    layout::put_record(out, next, heard(answer, 0, after.fed))
 }
 
-fn begin(rate: u32) {
+fn begin(out: &mut impl Write, rate: u32) -> io::Result<()> {
     let after = SoftDemodulator::new(rate);
     let answer = after.answer;
     let next = after.demodulator;
-    layout::put_record(next, made(answer));
+    layout::put_record(out, next, made(answer))
 }
 
-fn reply(receiver: SoftDemodulator, accepted: bool) {
+fn reply(out: &mut impl Write, receiver: SoftDemodulator, accepted: bool) -> io::Result<()> {
     let reply = if accepted {
         Reply::Accepted
     } else {
@@ -135,26 +146,27 @@ fn reply(receiver: SoftDemodulator, accepted: bool) {
     let after = receiver.reply(reply);
     let answer = after.answer;
     let next = after.demodulator;
-    layout::put_record(next, replied(answer));
+    layout::put_record(out, next, replied(answer))
 }
 
 // A fresh record of the given one's rate, the samples one by one, the samples at once, a reply, and otherwise the carrier query.
 pub(crate) fn call(
+    out: &mut impl Write,
     number: u64,
     receiver: SoftDemodulator,
     samples: &[i16],
     room: &mut [f32],
     accepted: bool,
-) {
+) -> io::Result<()> {
     if number == FRESH {
-        begin(receiver.rate);
+        begin(out, receiver.rate)
     } else if number == LISTEN {
-        listen(receiver, samples, room);
+        listen(out, receiver, samples, room)
     } else if number == FEED {
-        feed(receiver, samples, room);
+        feed(out, receiver, samples, room)
     } else if number == REPLY {
-        reply(receiver, accepted);
+        reply(out, receiver, accepted)
     } else {
-        layout::put_record(receiver, carried(receiver.data_carrier_detect()));
+        layout::put_record(out, receiver, carried(receiver.data_carrier_detect()))
     }
 }

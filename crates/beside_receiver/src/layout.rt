@@ -7,8 +7,8 @@
 ghost use Rattle.std.specs.Prelude.{◌≡◌, ◌<◌, ◌≤◌, length};
 
 use demodulator::{Candidate, Control, SoftDemodulator, Timer, Wait, Waiting};
-use libc::STDOUT_FILENO;
 use protocol::Kind;
+use std::io::{self, Write};
 
 // An answer in numbers.
 #[derive(Clone, Copy)]
@@ -296,18 +296,18 @@ fn lay_rings(to: &mut [u8], rx_win: [f32; 1920], filter_win: [i16; 162])
     wire::put_samples(&mut to[7880..], &filter_win);
 }
 
-pub(crate) fn put_record(m: SoftDemodulator, told: Words) {
+pub(crate) fn put_record(out: &mut impl Write, m: SoftDemodulator, told: Words) -> io::Result<()> {
     let rx_win = m.rx_win;
     let filter_win = m.filter_win;
     let mut bytes = [0u8; 8204];
     lay_front(&mut bytes, m, told);
     lay_rings(&mut bytes, rx_win, filter_win);
-    io::write_all(STDOUT_FILENO, &bytes);
+    out.write_all(&bytes)
 }
 
 // What is noted of a sample.
-pub(crate) fn put_front(m: SoftDemodulator, told: Words) {
+pub(crate) fn put_front(out: &mut impl Write, m: SoftDemodulator, told: Words) -> io::Result<()> {
     let mut bytes = [0u8; 200];
     lay_front(&mut bytes, m, told);
-    io::write_all(STDOUT_FILENO, &bytes);
+    out.write_all(&bytes)
 }

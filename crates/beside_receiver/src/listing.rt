@@ -2,8 +2,8 @@
 // 32 replies, 1 to accept, and the samples, 65,537 at most. An answer is the refusal's number or 0, how many offers are listed, and both rooms whole, for 32 offers.
 ghost use Rattle.std.specs.Prelude.{◌≡◌, ◌≤◌, length};
 
-use libc::{STDIN_FILENO, STDOUT_FILENO};
 use plain::Listing;
+use std::io::{self, Read, Write};
 
 pub(crate) const SAMPLES: usize = 65_537;
 
@@ -29,10 +29,8 @@ fn byte_room() -> [u8; 131_074]
 
 fn replies_of(bytes: [u8; 40]) -> [bool; 32] {
     let mut replies = [false; 32];
-    let mut i: usize = 0;
-    while i < 32 {
+    for i in 0..32 {
         replies[i] = bytes[i + 8] == 1;
-        i += 1;
     }
     replies
 }
@@ -53,14 +51,26 @@ fn lay_symbols(to: &mut [u8], symbols: [f32; 6144])
     wire::put_floats(&mut to[1296..], &symbols);
 }
 
-fn put_listing(refusal: u64, count: usize, numbers: [u64; 160], symbols: [f32; 6144]) {
+fn put_listing(
+    out: &mut impl Write,
+    refusal: u64,
+    count: usize,
+    numbers: [u64; 160],
+    symbols: [f32; 6144],
+) -> io::Result<()> {
     let mut bytes = [0u8; 25_872];
     lay_numbers(&mut bytes, refusal, count, numbers);
     lay_symbols(&mut bytes, symbols);
-    io::write_all(STDOUT_FILENO, &bytes);
+    out.write_all(&bytes)
 }
 
-fn list(rate: u32, samples: &[i16], replies: &[bool], offers: usize)
+fn list(
+    out: &mut impl Write,
+    rate: u32,
+    samples: &[i16],
+    replies: &[bool],
+    offers: usize,
+) -> io::Result<()>
     requires { offers ≤ 32 }
 {
     let mut numbers = [UNUSED; 160];
@@ -75,26 +85,33 @@ fn list(rate: u32, samples: &[i16], replies: &[bool], offers: usize)
         &mut symbols[0..written],
     );
     match listing {
-        Listing::Refused(why) => put_listing(why.number() as u64, 0, numbers, symbols),
-        Listing::Listed(count) => put_listing(0, count, numbers, symbols),
+        Listing::Refused(why) => put_listing(out, why.number() as u64, 0, numbers, symbols),
+        Listing::Listed(count) => put_listing(out, 0, count, numbers, symbols),
     }
 }
 
-pub(crate) fn answer(given: usize, replied: usize, offers: usize)
+pub(crate) fn answer(
+    input: &mut impl Read,
+    out: &mut impl Write,
+    given: usize,
+    replied: usize,
+    offers: usize,
+) -> io::Result<()>
     requires { (given ≤ 65537) × (replied ≤ 32) × (offers ≤ 32) }
 {
     let mut head = [0u8; 40];
-    io::read_full(STDIN_FILENO, &mut head);
+    let _ = input.read_exact(&mut head);
     let mut rate = [0u64; 1];
     wire::numbers(&head, &mut rate);
     let replies = replies_of(head);
     let mut bytes = byte_room();
     let mut samples = sample_room();
-    crate::read_samples(given, &mut bytes, &mut samples);
+    crate::read_samples(input, given, &mut bytes, &mut samples);
     list(
+        out,
         (rate[0] % 0x1_0000_0000) as u32,
         &samples[0..given],
         &replies[0..replied],
         offers,
-    );
+    )
 }

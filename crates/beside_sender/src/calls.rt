@@ -9,6 +9,7 @@ use modulator::{
     Updated,
 };
 use protocol::{Place, Refusal};
+use std::io::{self, Write};
 
 const FRESH: u64 = 0;
 
@@ -108,37 +109,42 @@ pub(crate) fn symbols_given(asked: [u64; 4]) -> usize
     }
 }
 
-fn begin(rate: u64) {
+fn begin(out: &mut impl Write, rate: u64) -> io::Result<()> {
     let named = rate % 0x1_0000_0000;
     let after = SoftModulator::new(named as u32);
     let answer = after.answer;
     let next = after.modulator;
-    layout::put_record(next, made(answer));
+    layout::put_record(out, next, made(answer))
 }
 
-fn provide(sender: SoftModulator, asked: [u64; 4], symbols: &[f32]) {
+fn provide(
+    out: &mut impl Write,
+    sender: SoftModulator,
+    asked: [u64; 4],
+    symbols: &[f32],
+) -> io::Result<()> {
     let after = sender.provide_next_frame(frame_of(asked[1], asked[2]), symbols);
     let answer = after.answer;
     let next = after.modulator;
-    layout::put_record(next, provided(answer));
+    layout::put_record(out, next, provided(answer))
 }
 
-fn read_into(sender: SoftModulator, room: &mut [i16]) {
+fn read_into(out: &mut impl Write, sender: SoftModulator, room: &mut [i16]) -> io::Result<()> {
     let after = sender.read_output_samples(room);
     let answer = after.answer;
     let next = after.modulator;
-    layout::put_record(next, wrote(answer));
-    room::put(room);
+    layout::put_record(out, next, wrote(answer))?;
+    room::put(out, room)
 }
 
 // Whoever asks knows what every place of the room holds before the call.
-fn read(sender: SoftModulator, size: u64) {
+fn read(out: &mut impl Write, sender: SoftModulator, size: u64) -> io::Result<()> {
     let mut room = [21845i16; 130000];
     let lent = crate::count(size, 130000);
-    read_into(sender, &mut room[0..lent]);
+    read_into(out, sender, &mut room[0..lent])
 }
 
-fn update(sender: SoftModulator, asked: [u64; 4]) {
+fn update(out: &mut impl Write, sender: SoftModulator, asked: [u64; 4]) -> io::Result<()> {
     let after = sender.update_output_buffer(
         SampleCount(asked[1] as usize),
         SampleCount(asked[2] as usize),
@@ -146,28 +152,33 @@ fn update(sender: SoftModulator, asked: [u64; 4]) {
     );
     let answer = after.answer;
     let next = after.modulator;
-    layout::put_record(next, updated(answer));
+    layout::put_record(out, next, updated(answer))
 }
 
-fn run(sender: SoftModulator) {
+fn run(out: &mut impl Write, sender: SoftModulator) -> io::Result<()> {
     let after = sender.run();
     let answer = after.answer;
     let next = after.modulator;
-    layout::put_record(next, ran(answer));
+    layout::put_record(out, next, ran(answer))
 }
 
 // A fresh record, a frame, a read, an update, and otherwise the next action.
-pub(crate) fn call(sender: SoftModulator, asked: [u64; 4], symbols: &[f32]) {
+pub(crate) fn call(
+    out: &mut impl Write,
+    sender: SoftModulator,
+    asked: [u64; 4],
+    symbols: &[f32],
+) -> io::Result<()> {
     let number = asked[0];
     if number == FRESH {
-        begin(asked[1]);
+        begin(out, asked[1])
     } else if number == PROVIDE {
-        provide(sender, asked, symbols);
+        provide(out, sender, asked, symbols)
     } else if number == READ {
-        read(sender, asked[1]);
+        read(out, sender, asked[1])
     } else if number == UPDATE {
-        update(sender, asked);
+        update(out, sender, asked)
     } else {
-        run(sender);
+        run(out, sender)
     }
 }

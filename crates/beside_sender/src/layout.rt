@@ -3,8 +3,8 @@
 // count or the place that goes with it. The numbers end at byte 128, the window at 452 and the store at 8,452.
 ghost use Rattle.std.specs.Prelude.{◌≡◌, ◌≤◌, length};
 
-use libc::STDOUT_FILENO;
 use modulator::{EndReport, OutputBuffer, Pending, Progress, SampleCount, SoftModulator};
+use std::io::{self, Write};
 
 // An answer in numbers.
 #[derive(Clone, Copy)]
@@ -121,7 +121,7 @@ fn lay_values(to: &mut [u8], filter_win: [f32; 81], next_transmission: [i16; 400
     wire::put_samples(&mut to[452..], &next_transmission);
 }
 
-pub(crate) fn put_record(m: SoftModulator, told: Words) {
+pub(crate) fn put_record(out: &mut impl Write, m: SoftModulator, told: Words) -> io::Result<()> {
     let next_transmission = m.next_transmission;
     let filter_win = m.filter_win;
     let progress = m.progress;
@@ -131,5 +131,5 @@ pub(crate) fn put_record(m: SoftModulator, told: Words) {
     let mut bytes = [0u8; 8452];
     wire::put_numbers(&mut bytes, &numbers);
     lay_values(&mut bytes, filter_win, next_transmission);
-    io::write_all(STDOUT_FILENO, &bytes);
+    out.write_all(&bytes)
 }

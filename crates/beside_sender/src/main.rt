@@ -2,9 +2,11 @@
 // as the library wire lays it, so that whoever asks sees the whole record and can make one up.
 // A request is four numbers, the record, and the symbols that go with a frame. The numbers are the call and, for a fresh record, its rate; for a frame its number, its steps and how many symbols there are, 400 at most;
 // for a read the size of the room, 130,000 places at most; for an update fill, capacity and latency. An answer is the record, with what the call told, and after a read the room.
+#![tactic(auto)]
+
 ghost use Rattle.std.specs.Prelude.{◌*◌, ◌≤◌, length};
 
-use libc::STDIN_FILENO;
+use std::io::{self, Read, Write};
 
 mod calls;
 mod layout;
@@ -22,37 +24,40 @@ fn count(number: u64, most: usize) -> usize
 }
 
 // The bytes are room to read into.
-fn read_symbols(count: usize, bytes: &mut [u8], symbols: &mut [f32])
+fn read_symbols(input: &mut impl Read, count: usize, bytes: &mut [u8], symbols: &mut [f32])
     requires { (4 * count ≤ length bytes.old) × (count ≤ length symbols.old) }
 {
     let end = 4 * count;
-    io::read_full(STDIN_FILENO, &mut bytes[0..end]);
+    let _ = input.read_exact(&mut bytes[0..end]);
     wire::floats(bytes, &mut symbols[0..count]);
 }
 
-// Whether there was a request.
-fn answer_one() -> bool {
+// Whether there was a request. What is missing of one that ends early counts as 0.
+fn answer_one(input: &mut impl Read, out: &mut impl Write) -> io::Result<bool> {
     let mut head = [0u8; 32];
-    if io::read_full(STDIN_FILENO, &mut head) < 32 {
-        return false;
+    if input.read_exact(&mut head).is_err() {
+        return Ok(false);
     }
     let mut asked = [0u64; 4];
     wire::numbers(&head, &mut asked);
     let mut record = [0u8; 8452];
-    io::read_full(STDIN_FILENO, &mut record);
+    let _ = input.read_exact(&mut record);
     let given = calls::symbols_given(asked);
     let mut bytes = [0u8; 1600];
     let mut symbols = [0.0f32; 400];
-    read_symbols(given, &mut bytes, &mut symbols);
+    read_symbols(input, given, &mut bytes, &mut symbols);
     let sender = layout::record_of(&record);
-    calls::call(sender, asked, &symbols[0..given]);
-    true
+    calls::call(out, sender, asked, &symbols[0..given])?;
+    Ok(true)
 }
 
 // A proved loop has to end, and nothing says that the input does: the turns are counted down, from a number that no run uses up.
-fn main() {
+fn main(rt: HostRuntime) -> io::Result<()> {
+    let mut input = rt.stdin();
+    let mut out = rt.stdout();
     let mut turns = u64::MAX;
-    while turns > 0 && answer_one() {
+    while turns > 0 && answer_one(&mut input, &mut out)? {
         turns -= 1;
     }
+    Ok(())
 }

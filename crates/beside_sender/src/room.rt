@@ -1,15 +1,15 @@
 // How the room of a read goes out: piece by piece.
 ghost use Rattle.std.specs.Prelude.{◌+◌, ◌≤◌, ◌<◌, length};
 
-use libc::STDOUT_FILENO;
+use std::io::{self, Write};
 
-fn put_some(samples: &[i16])
+fn put_some(out: &mut impl Write, samples: &[i16]) -> io::Result<()>
     requires { length samples.now ≤ 2000 }
 {
     let mut bytes = [0u8; 4000];
     let end = 2 * samples.len();
     wire::put_samples(&mut bytes, samples);
-    io::write_all(STDOUT_FILENO, &bytes[0..end]);
+    out.write_all(&bytes[0..end])
 }
 
 // The end of the next piece.
@@ -24,11 +24,12 @@ fn piece_end(at: usize, length: usize) -> usize
     }
 }
 
-pub(crate) fn put(samples: &[i16]) {
+pub(crate) fn put(out: &mut impl Write, samples: &[i16]) -> io::Result<()> {
     let mut at: usize = 0;
     while at < samples.len() {
         let end = piece_end(at, samples.len());
-        put_some(&samples[at..end]);
+        put_some(out, &samples[at..end])?;
         at = end;
     }
+    Ok(())
 }

@@ -1,52 +1,53 @@
 // Replays the list `bit-errors`: reads the symbols of two payloads and writes each line again with the port's count.
+#![tactic(auto)]
+
 ghost use Rattle.std.specs.Prelude.{◌≤◌};
 
 use bit_errors::BitErrors;
+use cases_text::Lines;
+use std::io::{self, BufWriter, Write};
 
 // The words from one on as symbols: a missing one is 0.
 fn payload(line: &[u8], from: usize) -> [f32; 184]
     requires { from ≤ 184 }
 {
     let mut symbols = [0.0f32; 184];
-    let mut i: usize = 0;
-    while i < 184 {
+    for i in 0..184 {
         let k = from + i;
         symbols[i] = cases_text::float(cases_text::word(line, k));
-        i += 1;
     }
     symbols
 }
 
-fn put_answer(answer: BitErrors) {
+fn put_answer(out: &mut impl Write, answer: BitErrors) -> io::Result<()> {
     match answer {
         BitErrors::Refused(why) => {
-            io::write_all(1, b" refused");
-            cases_text::put_count(why.number() as u64);
+            out.write_all(b" refused")?;
+            cases_text::put_count(out, why.number() as u64)
         }
-        BitErrors::Counted(n) => cases_text::put_count(n as u64),
+        BitErrors::Counted(n) => cases_text::put_count(out, n as u64),
     }
 }
 
-fn answer_line(line: &[u8]) {
-    io::write_all(1, line);
-    io::write_all(1, b" =");
+fn answer_line(out: &mut impl Write, line: &[u8]) -> io::Result<()> {
+    out.write_all(line)?;
+    out.write_all(b" =")?;
     let sent = payload(line, 0);
     let received = payload(line, 184);
-    put_answer(bit_errors::bit_errors(&sent, &received));
-    cases_text::end_line();
+    put_answer(out, bit_errors::bit_errors(&sent, &received))?;
+    cases_text::end_line(out)
 }
 
-fn replay(text: &[u8]) {
-    let mut at: usize = 0;
-    while at < text.len() {
-        let end = bytes::scan::find(text, at, text.len(), b'\n');
-        answer_line(&text[at..end]);
-        at = end + 1;
+fn replay(out: &mut impl Write, text: &[u8]) -> io::Result<()> {
+    for line in Lines::of(text) {
+        answer_line(out, line)?;
     }
+    Ok(())
 }
 
-fn main() {
-    let mut text = io::large_buffer();
-    let length = io::read_full(0, &mut text);
-    replay(&text[..length]);
+fn main(rt: HostRuntime) -> io::Result<()> {
+    let mut out = BufWriter::new(rt.alloc(), io::writer(&rt))?;
+    let text = cases_text::read_all(&rt, rt.alloc())?;
+    replay(&mut out, &text)?;
+    out.flush()
 }

@@ -2,125 +2,113 @@
 use demodulator::{Carrier, Heard, Made, Offer, Replied};
 use desk::{Closed, Fed, Line, Lines, Listed};
 use protocol::{Kind, Refusal};
+use std::io::{self, Write};
 
-fn put_refused(why: Refusal) {
-    io::write_all(1, b" refused");
-    cases_text::put_count(why.number() as u64);
+fn put_refused(out: &mut impl Write, why: Refusal) -> io::Result<()> {
+    out.write_all(b" refused")?;
+    cases_text::put_count(out, why.number() as u64)
 }
 
-pub fn put_made(answer: Made) {
+pub fn put_made(out: &mut impl Write, answer: Made) -> io::Result<()> {
     match answer {
-        Made::Refused(why) => put_refused(why),
-        Made::Done => {
-            io::write_all(1, b" opened");
-        }
+        Made::Refused(why) => put_refused(out, why),
+        Made::Done => out.write_all(b" opened"),
     }
 }
 
-pub fn put_closed(answer: Closed) {
+pub fn put_closed(out: &mut impl Write, answer: Closed) -> io::Result<()> {
     match answer {
-        Closed::Refused(why) => put_refused(why),
-        Closed::Done => {
-            io::write_all(1, b" closed");
-        }
+        Closed::Refused(why) => put_refused(out, why),
+        Closed::Done => out.write_all(b" closed"),
     }
 }
 
-pub fn put_replied(answer: Replied) {
+pub fn put_replied(out: &mut impl Write, answer: Replied) -> io::Result<()> {
     match answer {
-        Replied::Refused(why) => put_refused(why),
-        Replied::Done => {
-            io::write_all(1, b" done");
-        }
+        Replied::Refused(why) => put_refused(out, why),
+        Replied::Done => out.write_all(b" done"),
     }
 }
 
-pub fn put_carrier(answer: Carrier) {
+pub fn put_carrier(out: &mut impl Write, answer: Carrier) -> io::Result<()> {
     match answer {
-        Carrier::Refused(why) => put_refused(why),
+        Carrier::Refused(why) => put_refused(out, why)?,
         Carrier::Detected(yes) => {
             if yes {
-                io::write_all(1, b" yes");
+                out.write_all(b" yes")?;
             } else {
-                io::write_all(1, b" no");
+                out.write_all(b" no")?;
             }
         }
     }
+    Ok(())
 }
 
-fn put_kind(kind: Kind) {
+fn put_kind(out: &mut impl Write, kind: Kind) -> io::Result<()> {
     match kind {
-        Kind::Lsf => {
-            io::write_all(1, b" lsf");
-        }
-        Kind::Bert => {
-            io::write_all(1, b" bert");
-        }
-        Kind::Stream => {
-            io::write_all(1, b" stream");
-        }
-        Kind::Packet => {
-            io::write_all(1, b" packet");
-        }
+        Kind::Lsf => out.write_all(b" lsf"),
+        Kind::Bert => out.write_all(b" bert"),
+        Kind::Stream => out.write_all(b" stream"),
+        Kind::Packet => out.write_all(b" packet"),
     }
 }
 
-fn put_symbols(room: [f32; 200]) {
-    let mut i: usize = 0;
-    while i < 192 {
-        cases_text::put_float(room[i]);
-        i += 1;
+fn put_symbols(out: &mut impl Write, room: [f32; 200]) -> io::Result<()> {
+    for i in 0..192 {
+        cases_text::put_float(out, room[i])?;
     }
+    Ok(())
 }
 
-fn put_offer(offer: Offer, room: [f32; 200]) {
+fn put_offer(out: &mut impl Write, offer: Offer, room: [f32; 200]) -> io::Result<()> {
     let kind = offer.kind;
-    put_kind(kind);
-    cases_text::put_count(offer.sample);
-    cases_text::put_count(offer.taken_at);
-    cases_text::put_count(offer.age as u64);
-    cases_text::put_count(offer.replaced as u64);
-    cases_text::put_float(offer.gain);
-    put_symbols(room);
+    put_kind(out, kind)?;
+    cases_text::put_count(out, offer.sample)?;
+    cases_text::put_count(out, offer.taken_at)?;
+    cases_text::put_count(out, offer.age as u64)?;
+    cases_text::put_count(out, offer.replaced as u64)?;
+    cases_text::put_float(out, offer.gain)?;
+    put_symbols(out, room)
 }
 
 // And how many samples went in, before what an offer reports.
-pub fn put_fed(told: Fed, room: [f32; 200]) {
+pub fn put_fed(out: &mut impl Write, told: Fed, room: [f32; 200]) -> io::Result<()> {
     let answer = told.answer;
     let fed = told.fed as u64;
     match answer {
         Heard::Refused(why) => {
-            put_refused(why);
-            cases_text::put_count(fed);
+            put_refused(out, why)?;
+            cases_text::put_count(out, fed)
         }
         Heard::Quiet => {
-            io::write_all(1, b" quiet");
-            cases_text::put_count(fed);
+            out.write_all(b" quiet")?;
+            cases_text::put_count(out, fed)
         }
         Heard::Offered(offer) => {
-            io::write_all(1, b" offered");
-            cases_text::put_count(fed);
-            put_offer(offer, room);
+            out.write_all(b" offered")?;
+            cases_text::put_count(out, fed)?;
+            put_offer(out, offer, room)
         }
     }
 }
 
 // `-` is a closed seat; an open one has its count, and `owed` where a reply is.
-fn put_line(line: Line) {
+fn put_line(out: &mut impl Write, line: Line) -> io::Result<()> {
     match line {
         Line::Closed => {
-            io::write_all(1, b" -");
+            out.write_all(b" -")?;
         }
         Line::Open { count, owed } => {
-            cases_text::put_count(count);
+            cases_text::put_count(out, count)?;
             if owed {
-                io::write_all(1, b" owed");
+                out.write_all(b" owed")?;
             }
         }
     }
+    Ok(())
 }
 
-fn put_lines(lines: Lines) {
+fn put_lines(out: &mut impl Write, lines: Lines) -> io::Result<()> {
     let s0 = lines.s0;
     let s1 = lines.s1;
     let s2 = lines.s2;
@@ -129,19 +117,19 @@ fn put_lines(lines: Lines) {
     let s5 = lines.s5;
     let s6 = lines.s6;
     let s7 = lines.s7;
-    put_line(s0);
-    put_line(s1);
-    put_line(s2);
-    put_line(s3);
-    put_line(s4);
-    put_line(s5);
-    put_line(s6);
-    put_line(s7);
+    put_line(out, s0)?;
+    put_line(out, s1)?;
+    put_line(out, s2)?;
+    put_line(out, s3)?;
+    put_line(out, s4)?;
+    put_line(out, s5)?;
+    put_line(out, s6)?;
+    put_line(out, s7)
 }
 
-pub fn put_listed(answer: Listed) {
+pub fn put_listed(out: &mut impl Write, answer: Listed) -> io::Result<()> {
     match answer {
-        Listed::Refused(why) => put_refused(why),
-        Listed::Seats(lines) => put_lines(lines),
+        Listed::Refused(why) => put_refused(out, why),
+        Listed::Seats(lines) => put_lines(out, lines),
     }
 }

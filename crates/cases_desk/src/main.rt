@@ -1,33 +1,55 @@
 // A session at the desk, call after call, on the desk that the call before left. A line has two cells, between them a bar: the phrase of
 // document 02 n) or of document 01 that decides it, and the call in words. The line is written again, and after one more bar the answer.
 // The answers of `session.txt` are written by hand from the documents; those of the list `desk`, which comes after it, are the old receiver's.
+#![tactic(auto)]
+
 mod answer;
 mod lent;
 mod stretch;
 
 ghost use Rattle.std.specs.Prelude.{◌≡◌, length};
 
+use cases_text::Lines;
 use demodulator::Reply;
 use desk::Desk;
+use std::io::{self, BufWriter, Write};
 
 // With room for so many symbols, up to 200.
-fn feed(desk: Desk, seat: usize, samples: &[i16], places: usize) -> Desk {
+fn feed(
+    out: &mut impl Write,
+    desk: Desk,
+    seat: usize,
+    samples: &[i16],
+    places: usize,
+) -> io::Result<Desk> {
     let mut room = [0.0f32; 200];
     let wide = stretch::up_to(places, 200);
     let after = lent::feed(desk, seat, samples, &mut room[..wide]);
-    answer::put_fed(after.told, room);
-    after.desk
+    answer::put_fed(out, after.told, room)?;
+    Ok(after.desk)
 }
 
 // So many samples of 0, up to 480.
-fn feed_zeros(desk: Desk, seat: usize, count: usize, places: usize) -> Desk {
+fn feed_zeros(
+    out: &mut impl Write,
+    desk: Desk,
+    seat: usize,
+    count: usize,
+    places: usize,
+) -> io::Result<Desk> {
     let samples = [0i16; 480];
-    feed(desk, seat, stretch::front(&samples, count), places)
+    feed(out, desk, seat, stretch::front(&samples, count), places)
 }
 
-fn feed_samples(desk: Desk, seat: usize, digits: &[u8]) -> Desk {
+fn feed_samples(out: &mut impl Write, desk: Desk, seat: usize, digits: &[u8]) -> io::Result<Desk> {
     let samples = stretch::samples_of(digits);
-    feed(desk, seat, stretch::front(&samples, digits.len() / 4), 192)
+    feed(
+        out,
+        desk,
+        seat,
+        stretch::front(&samples, digits.len() / 4),
+        192,
+    )
 }
 
 // Made up: a record of an open seat, or of a closed one, with another rate, or with a cursor past its ring, or owing a reply.
@@ -63,25 +85,25 @@ fn with_owed(desk: Desk, seat: usize) -> Desk {
     next
 }
 
-fn open(desk: Desk, seat: usize, rate: u32) -> Desk {
+fn open(out: &mut impl Write, desk: Desk, seat: usize, rate: u32) -> io::Result<Desk> {
     let after = lent::open(desk, seat, rate);
     let answer = after.answer;
-    answer::put_made(answer);
-    after.desk
+    answer::put_made(out, answer)?;
+    Ok(after.desk)
 }
 
-fn close(desk: Desk, seat: usize) -> Desk {
+fn close(out: &mut impl Write, desk: Desk, seat: usize) -> io::Result<Desk> {
     let after = lent::close(desk, seat);
     let answer = after.answer;
-    answer::put_closed(answer);
-    after.desk
+    answer::put_closed(out, answer)?;
+    Ok(after.desk)
 }
 
-fn reply(desk: Desk, seat: usize, reply: Reply) -> Desk {
+fn reply(out: &mut impl Write, desk: Desk, seat: usize, reply: Reply) -> io::Result<Desk> {
     let after = lent::reply(desk, seat, reply);
     let answer = after.answer;
-    answer::put_replied(answer);
-    after.desk
+    answer::put_replied(out, answer)?;
+    Ok(after.desk)
 }
 
 fn made_up(desk: Desk, call: &[u8], seat: usize, number: u64) -> Desk {
@@ -94,65 +116,64 @@ fn made_up(desk: Desk, call: &[u8], seat: usize, number: u64) -> Desk {
     }
 }
 
-fn answer_call(desk: Desk, call: &[u8], seat: usize, operand: &[u8], places: usize) -> Desk {
+fn answer_call(
+    out: &mut impl Write,
+    desk: Desk,
+    call: &[u8],
+    seat: usize,
+    operand: &[u8],
+    places: usize,
+) -> io::Result<Desk> {
     let number = cases_text::decimal(operand);
     if check::same(call, b"open") {
-        open(desk, seat, (number % 100_000) as u32)
+        open(out, desk, seat, (number % 100_000) as u32)
     } else if check::same(call, b"close") {
-        close(desk, seat)
+        close(out, desk, seat)
     } else if check::same(call, b"feed") {
-        feed_zeros(desk, seat, number as usize, places)
+        feed_zeros(out, desk, seat, number as usize, places)
     } else if check::same(call, b"samples") {
-        feed_samples(desk, seat, operand)
+        feed_samples(out, desk, seat, operand)
     } else if check::same(call, b"accept") {
-        reply(desk, seat, Reply::Accepted)
+        reply(out, desk, seat, Reply::Accepted)
     } else if check::same(call, b"reject") {
-        reply(desk, seat, Reply::Rejected)
+        reply(out, desk, seat, Reply::Rejected)
     } else if check::same(call, b"carrier") {
         let told = lent::data_carrier_detect(desk, seat);
-        answer::put_carrier(told);
-        desk
+        answer::put_carrier(out, told)?;
+        Ok(desk)
     } else if check::same(call, b"list") {
         let told = lent::list(desk);
-        answer::put_listed(told);
-        desk
+        answer::put_listed(out, told)?;
+        Ok(desk)
     } else {
-        made_up(desk, call, seat, number)
+        Ok(made_up(desk, call, seat, number))
     }
 }
 
 // Words are counted from 1, since the space after a bar ends an empty one.
-fn answer_line(desk: Desk, line: &[u8]) -> Desk {
+fn answer_line(out: &mut impl Write, desk: Desk, line: &[u8]) -> io::Result<Desk> {
     let words = cases_text::cell(line, 1);
     let seat = cases_text::decimal(cases_text::word(words, 2)) as usize;
     let operand = cases_text::word(words, 3);
     let places = cases_text::decimal(cases_text::word(words, 4)) as usize;
-    io::write_all(1, line);
-    io::write_all(1, b" |");
-    let next = answer_call(desk, cases_text::word(words, 1), seat, operand, places);
-    cases_text::end_line();
-    next
+    out.write_all(line)?;
+    out.write_all(b" |")?;
+    let next = answer_call(out, desk, cases_text::word(words, 1), seat, operand, places)?;
+    cases_text::end_line(out)?;
+    Ok(next)
 }
 
-fn replay(text: &[u8]) {
+fn replay(out: &mut impl Write, text: &[u8]) -> io::Result<()> {
     let mut desk = Desk::new();
-    let mut at: usize = 0;
-    while at < text.len() {
-        let end = bytes::scan::find(text, at, text.len(), b'\n');
-        desk = answer_line(desk, &text[at..end]);
-        at = end + 1;
+    for line in Lines::of(text) {
+        desk = answer_line(out, desk, line)?;
     }
+    Ok(())
 }
 
-// Room for the lines. Only its length is told, which lending it as a slice needs.
-fn text_room() -> [u8; 196_608]
-    ensures { 196608 ≡ length result }
-{
-    [0; 196_608]
-}
-
-fn main() {
-    let mut text = text_room();
-    let length = io::read_full(0, &mut text);
-    replay(&text[..length]);
+fn main(rt: HostRuntime) -> io::Result<()> {
+    let mut out = BufWriter::new(rt.alloc(), io::writer(&rt))?;
+    let text = cases_text::read_all(&rt, rt.alloc())?;
+    replay(&mut out, &text)?;
+    out.flush()
 }

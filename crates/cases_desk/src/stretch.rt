@@ -38,10 +38,8 @@ fn sample(digits: &[u8], i: usize) -> i16
 
 pub(crate) fn samples_of(digits: &[u8]) -> [i16; 480] {
     let mut samples = [0i16; 480];
-    let mut i: usize = 0;
-    while i < 480 {
+    for i in 0..480 {
         samples[i] = sample(digits, i);
-        i += 1;
     }
     samples
 }

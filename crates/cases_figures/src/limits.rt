@@ -3,6 +3,7 @@
 // `merge` with another report.
 use crate::said;
 use figures::{AfterAdd, Figures, Gain, Report};
+use std::io::{self, Write};
 
 fn gain_behind(words: &[u8], name: &[u8]) -> Gain {
     let place = cases_text::place_behind(words, name);
@@ -59,30 +60,35 @@ fn called(report: Report, call: &[u8], place: usize, samples: &[i16]) -> AfterAd
     report.add(rate, samples)
 }
 
-fn put_one(words: &[u8], call: &[u8], place: usize, samples: &[i16]) {
+fn put_one(
+    out: &mut impl Write,
+    words: &[u8],
+    call: &[u8],
+    place: usize,
+    samples: &[i16],
+) -> io::Result<()> {
     let report = report_of(words, place);
     let after = called(report, call, place, samples);
     let answer = after.answer;
-    said::put_answer(report, answer, after.report);
+    said::put_answer(out, report, answer, after.report)
 }
 
-fn put_each(words: &[u8], call: &[u8], samples: &[i16]) {
-    let mut place: usize = 0;
-    while place < 24 {
-        put_one(words, call, place, samples);
-        place += 1;
+fn put_each(out: &mut impl Write, words: &[u8], call: &[u8], samples: &[i16]) -> io::Result<()> {
+    for place in 0..24 {
+        put_one(out, words, call, place, samples)?;
     }
+    Ok(())
 }
 
-pub(crate) fn put_answers(line: &[u8], samples: &[i16]) {
+pub(crate) fn put_answers(out: &mut impl Write, line: &[u8], samples: &[i16]) -> io::Result<()> {
     let words = cases_text::cell(line, 2);
     let call = cases_text::cell(line, 3);
     let place = place_behind(words, 24);
     if place < 24 {
-        put_one(words, call, place, samples);
+        put_one(out, words, call, place, samples)
     } else if cases_text::names(words, b"total") {
-        put_each(words, call, samples);
+        put_each(out, words, call, samples)
     } else {
-        put_one(words, call, 24, samples);
+        put_one(out, words, call, 24, samples)
     }
 }

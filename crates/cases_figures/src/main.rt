@@ -1,13 +1,17 @@
 // Replays the list `figures` of both rates, and after it a table by hand: reads recordings, adds each to an empty report and to the month's,
 // and writes each line again with the figures that it is to give. A line of the table has a cell with the phrase of document 02 that decides it,
 // one with a report in words and one with a call: its answer is given, and whether a refused call kept the report.
+#![tactic(auto)]
+
 mod limits;
 mod recording;
 mod said;
 
 ghost use Rattle.std.specs.Prelude.{◌≡◌, length};
 
+use cases_text::Lines;
 use figures::Report;
+use std::io::{self, BufWriter, Write};
 
 #[derive(Clone, Copy)]
 struct Session {
@@ -22,36 +26,41 @@ fn rate_in(line: &[u8], k: usize) -> u32 {
 }
 
 // The recording is whole: its own figures, and it goes into the month's.
-fn add_recording(session: Session, samples: &[i16]) -> Session {
+fn add_recording(out: &mut impl Write, session: Session, samples: &[i16]) -> io::Result<Session> {
     let rate = session.rate;
     let month = session.month;
     let empty = Report::new();
     let own = empty.add(rate, samples);
     let alone = own.report;
-    said::put_side(alone, rate);
+    said::put_side(out, alone, rate)?;
     let more = month.add(rate, samples);
     let sum = more.report;
-    Session {
+    Ok(Session {
         month: sum,
         rate,
         recorded: session.recorded,
-    }
+    })
 }
 
 // A line that is answered after an equals sign.
-fn answer_asked(session: Session, line: &[u8], samples: &[i16]) -> Session {
-    io::write_all(1, b" =");
+fn answer_asked(
+    out: &mut impl Write,
+    session: Session,
+    line: &[u8],
+    samples: &[i16],
+) -> io::Result<Session> {
+    out.write_all(b" =")?;
     let name = cases_text::word(line, 0);
     if check::same(name, b"figures") {
-        return add_recording(session, samples);
+        return add_recording(out, session, samples);
     }
     if check::same(name, b"month") {
         let month = session.month;
-        said::put_side(month, rate_in(line, 1));
+        said::put_side(out, month, rate_in(line, 1))?;
     } else {
-        limits::put_answers(line, samples);
+        limits::put_answers(out, line, samples)?;
     }
-    session
+    Ok(session)
 }
 
 fn with_samples(session: Session, recorded: usize) -> Session {
@@ -72,31 +81,36 @@ fn begun(session: Session, line: &[u8]) -> Session {
     }
 }
 
-fn answer_line(session: Session, line: &[u8], room: &mut [i16]) -> Session {
-    io::write_all(1, line);
+fn answer_line(
+    out: &mut impl Write,
+    session: Session,
+    line: &[u8],
+    room: &mut [i16],
+) -> io::Result<Session> {
+    out.write_all(line)?;
     let name = cases_text::word(line, 0);
     let recorded = session.recorded;
     if check::same(name, b"samples") {
         let longer = recording::append(room, recorded, cases_text::word(line, 1));
-        cases_text::end_line();
-        return with_samples(session, longer);
+        cases_text::end_line(out)?;
+        return Ok(with_samples(session, longer));
     }
     if check::same(name, b"zeros") {
         let zeros = cases_text::decimal(cases_text::word(line, 1));
         let longer = recording::append_zeros(room, recorded, zeros);
-        cases_text::end_line();
-        return with_samples(session, longer);
+        cases_text::end_line(out)?;
+        return Ok(with_samples(session, longer));
     }
     if check::same(name, b"recording") {
-        cases_text::end_line();
-        return begun(session, line);
+        cases_text::end_line(out)?;
+        return Ok(begun(session, line));
     }
-    let next = answer_asked(session, line, recording::front(room, recorded));
-    cases_text::end_line();
-    next
+    let next = answer_asked(out, session, line, recording::front(room, recorded))?;
+    cases_text::end_line(out)?;
+    Ok(next)
 }
 
-fn replay(text: &[u8]) {
+fn replay(out: &mut impl Write, text: &[u8]) -> io::Result<()> {
     let month = Report::new();
     let mut session = Session {
         month,
@@ -104,23 +118,15 @@ fn replay(text: &[u8]) {
         recorded: 0,
     };
     let mut room = recording::room();
-    let mut at: usize = 0;
-    while at < text.len() {
-        let end = bytes::scan::find(text, at, text.len(), b'\n');
-        session = answer_line(session, &text[at..end], &mut room);
-        at = end + 1;
+    for line in Lines::of(text) {
+        session = answer_line(out, session, line, &mut room)?;
     }
+    Ok(())
 }
 
-// Room for the list. Only its length is told, which lending it as a slice needs.
-fn room() -> [u8; 393_216]
-    ensures { 393216 ≡ length result }
-{
-    [0; 393_216]
-}
-
-fn main() {
-    let mut text = room();
-    let length = io::read_full(0, &mut text);
-    replay(&text[..length]);
+fn main(rt: HostRuntime) -> io::Result<()> {
+    let mut out = BufWriter::new(rt.alloc(), io::writer(&rt))?;
+    let text = cases_text::read_all(&rt, rt.alloc())?;
+    replay(&mut out, &text)?;
+    out.flush()
 }

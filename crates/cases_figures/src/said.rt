@@ -1,50 +1,46 @@
 // Figures and answers on standard output, and whether two reports are the same.
 use figures::{Added, Figures, Gain, Report};
+use std::io::{self, Write};
 
-fn put_totals(totals: [u64; 24]) {
-    let mut i: usize = 0;
-    while i < 24 {
-        cases_text::put_count(totals[i]);
-        i += 1;
+fn put_totals(out: &mut impl Write, totals: [u64; 24]) -> io::Result<()> {
+    for i in 0..24 {
+        cases_text::put_count(out, totals[i])?;
     }
+    Ok(())
 }
 
-fn put_gain(gain: Gain) {
+fn put_gain(out: &mut impl Write, gain: Gain) -> io::Result<()> {
     match gain {
-        Gain::Nothing => {
-            io::write_all(1, b" none");
-        }
-        Gain::Of(x) => cases_text::put_float(x),
+        Gain::Nothing => out.write_all(b" none"),
+        Gain::Of(x) => cases_text::put_float(out, x),
     }
 }
 
-fn put_figures(figures: Figures) {
+fn put_figures(out: &mut impl Write, figures: Figures) -> io::Result<()> {
     let totals = figures.totals;
     let smallest = figures.smallest;
     let largest = figures.largest;
-    put_totals(totals);
-    put_gain(smallest);
-    put_gain(largest);
+    put_totals(out, totals)?;
+    put_gain(out, smallest)?;
+    put_gain(out, largest)
 }
 
 // The figures of one rate.
-pub(crate) fn put_side(report: Report, rate: u32) {
+pub(crate) fn put_side(out: &mut impl Write, report: Report, rate: u32) -> io::Result<()> {
     let first = report.at_48;
     let second = report.at_24;
     if rate == 24_000 {
-        put_figures(second);
+        put_figures(out, second)
     } else {
-        put_figures(first);
+        put_figures(out, first)
     }
 }
 
 fn same_totals(a: [u64; 24], b: [u64; 24]) -> bool {
-    let mut i: usize = 0;
-    while i < 24 {
+    for i in 0..24 {
         if a[i] != b[i] {
             return false;
         }
-        i += 1;
     }
     true
 }
@@ -81,16 +77,22 @@ fn same_report(a: Report, b: Report) -> bool {
 }
 
 // `done`, or the refusal's number and whether the report is as it was.
-pub(crate) fn put_answer(before: Report, answer: Added, after: Report) {
+pub(crate) fn put_answer(
+    out: &mut impl Write,
+    before: Report,
+    answer: Added,
+    after: Report,
+) -> io::Result<()> {
     match answer {
         Added::Done => {
-            io::write_all(1, b" done");
+            out.write_all(b" done")?;
         }
         Added::Refused(why) => {
-            cases_text::put_count(why.number() as u64);
+            cases_text::put_count(out, why.number() as u64)?;
             if !same_report(before, after) {
-                io::write_all(1, b" changed");
+                out.write_all(b" changed")?;
             }
         }
     }
+    Ok(())
 }

@@ -1,6 +1,7 @@
 // The lines of a sample: what could be seen of the receiver before it, and what can be seen after it.
 use demodulator::{Candidate, Carrier, SoftDemodulator, Timer, Wait};
 use protocol::Kind;
+use std::io::{self, Write};
 use std::num::wrapping_add_u64;
 
 // A candidate in numbers: its kind by the order of trial, NO_KIND for none.
@@ -119,62 +120,64 @@ pub(crate) fn look_at(receiver: SoftDemodulator) -> Seen {
     }
 }
 
-pub(crate) fn put_kind(kind: u64) {
+pub(crate) fn put_kind(out: &mut impl Write, kind: u64) -> io::Result<()> {
     if kind == 0 {
-        io::write_all(1, b" lsf");
+        out.write_all(b" lsf")
     } else if kind == 1 {
-        io::write_all(1, b" bert");
+        out.write_all(b" bert")
     } else if kind == 2 {
-        io::write_all(1, b" stream");
+        out.write_all(b" stream")
     } else if kind == 3 {
-        io::write_all(1, b" packet");
+        out.write_all(b" packet")
     } else {
-        io::write_all(1, b" none");
+        out.write_all(b" none")
     }
 }
 
 // A line begins with the number of the sample, which is one more than the count before it.
-pub(crate) fn put_event(before: u64, event: &[u8]) {
-    io::print_decimal(1, wrapping_add_u64(before, 1));
-    io::write_all(1, b" ");
-    io::write_all(1, event);
+pub(crate) fn put_event(out: &mut impl Write, before: u64, event: &[u8]) -> io::Result<()> {
+    write!(out, "{}", wrapping_add_u64(before, 1))?;
+    out.write_all(b" ")?;
+    out.write_all(event)
 }
 
-pub(crate) fn put_end(timer: u64) {
+pub(crate) fn put_end(out: &mut impl Write, timer: u64) -> io::Result<()> {
     if timer == NO_TIMER {
-        io::write_all(1, b" none");
+        out.write_all(b" none")
     } else {
-        cases_text::put_count(timer);
+        cases_text::put_count(out, timer)
     }
 }
 
-pub(crate) fn put_held(held: Held) {
-    put_kind(held.kind);
+pub(crate) fn put_held(out: &mut impl Write, held: Held) -> io::Result<()> {
+    put_kind(out, held.kind)?;
     if held.kind != NO_KIND {
-        cases_text::put_count(held.age);
-        cases_text::put_float(held.diff);
-        cases_text::put_float(held.gain);
-        cases_text::put_float(held.shift);
-        cases_text::put_count(held.taken_at);
+        cases_text::put_count(out, held.age)?;
+        cases_text::put_float(out, held.diff)?;
+        cases_text::put_float(out, held.gain)?;
+        cases_text::put_float(out, held.shift)?;
+        cases_text::put_count(out, held.taken_at)?;
     }
+    Ok(())
 }
 
-pub(crate) fn put_waited(wait: Waited) {
+pub(crate) fn put_waited(out: &mut impl Write, wait: Waited) -> io::Result<()> {
     if wait.left == 0 {
-        io::write_all(1, b" none");
+        out.write_all(b" none")
     } else {
-        cases_text::put_count(wait.left);
-        cases_text::put_count(wait.age);
-        cases_text::put_count(wait.mark);
+        cases_text::put_count(out, wait.left)?;
+        cases_text::put_count(out, wait.age)?;
+        cases_text::put_count(out, wait.mark)
     }
 }
 
-fn put_timer(before: Seen, now: Seen) {
+fn put_timer(out: &mut impl Write, before: Seen, now: Seen) -> io::Result<()> {
     if now.timer != before.timer {
-        put_event(before.count, b"timer");
-        put_end(now.timer);
-        cases_text::end_line();
+        put_event(out, before.count, b"timer")?;
+        put_end(out, now.timer)?;
+        cases_text::end_line(out)?;
     }
+    Ok(())
 }
 
 // Whether a candidate is another but for so much on its age.
@@ -187,31 +190,32 @@ fn is_older(a: Held, b: Held, by: u64) -> bool {
         & (a.taken_at == b.taken_at)
 }
 
-fn put_candidate(count: u64, before: Held, now: Held) {
+fn put_candidate(out: &mut impl Write, count: u64, before: Held, now: Held) -> io::Result<()> {
     if is_older(now, before, 0) {
-        return;
+        return Ok(());
     }
     if is_older(now, before, 1) {
-        put_event(count, b"age");
-        put_kind(now.kind);
-        cases_text::put_count(now.age);
+        put_event(out, count, b"age")?;
+        put_kind(out, now.kind)?;
+        cases_text::put_count(out, now.age)?;
     } else {
-        put_event(count, b"take");
-        put_held(now);
+        put_event(out, count, b"take")?;
+        put_held(out, now)?;
     }
-    cases_text::end_line();
+    cases_text::end_line(out)
 }
 
 // That a wait runs down is no event.
-fn put_wait(before: Seen, now: Seen) {
+fn put_wait(out: &mut impl Write, before: Seen, now: Seen) -> io::Result<()> {
     let was = before.wait;
     let is = now.wait;
     let run_down = if 1 < was.left { was.left - 1 } else { 0 };
     if is.left != run_down {
-        put_event(before.count, b"wait");
-        put_waited(is);
-        cases_text::end_line();
+        put_event(out, before.count, b"wait")?;
+        put_waited(out, is)?;
+        cases_text::end_line(out)?;
     }
+    Ok(())
 }
 
 // A candidate whose frame comes due goes with it.
@@ -224,9 +228,9 @@ fn still_held(before: Seen) -> Held {
     }
 }
 
-pub(crate) fn put_changes(before: Seen, now: Seen) {
+pub(crate) fn put_changes(out: &mut impl Write, before: Seen, now: Seen) -> io::Result<()> {
     let found = now.held;
-    put_timer(before, now);
-    put_candidate(before.count, still_held(before), found);
-    put_wait(before, now);
+    put_timer(out, before, now)?;
+    put_candidate(out, before.count, still_held(before), found)?;
+    put_wait(out, before, now)
 }

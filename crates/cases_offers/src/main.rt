@@ -1,11 +1,15 @@
 // Replays the lists `offers`, `stretches` and `carry_over` of both rates: reads their streams of samples with their scripts of replies,
 // feeds them to the receiver, and writes each line again with what it led to.
+#![tactic(auto)]
+
 mod changes;
 mod stream;
 mod stretch;
 
 ghost use Rattle.std.specs.Prelude.{◌≡◌, ◌<◌, length};
 
+use cases_text::Lines;
+use std::io::{self, BufWriter, Write};
 use stream::Session;
 
 // The sample that a pattern of 16 bits is, in two's complement.
@@ -19,35 +23,37 @@ fn of_pattern(pattern: u64) -> i16 {
 }
 
 // Four digits are a sample.
-fn feed_samples(session: Session, digits: &[u8]) -> Session {
+fn feed_samples(out: &mut impl Write, session: Session, digits: &[u8]) -> io::Result<Session> {
     let mut next = session;
     let mut at: usize = 0;
     while 4 <= digits.len() - at {
         let end = at + 4;
-        next = stream::fed(next, of_pattern(cases_text::hexadecimal(&digits[at..end])));
+        next = stream::fed(
+            out,
+            next,
+            of_pattern(cases_text::hexadecimal(&digits[at..end])),
+        )?;
         at = end;
     }
-    next
+    Ok(next)
 }
 
-fn feed_zeros(session: Session, count: u64) -> Session {
+fn feed_zeros(out: &mut impl Write, session: Session, count: u64) -> io::Result<Session> {
     let mut next = session;
     let mut rest = count;
     while 0 < rest {
-        next = stream::fed(next, 0);
+        next = stream::fed(out, next, 0)?;
         rest -= 1;
     }
-    next
+    Ok(next)
 }
 
 fn script(letters: &[u8]) -> [u8; 16] {
     let mut script = [b'-'; 16];
-    let mut i: usize = 0;
-    while i < 16 {
+    for i in 0..16 {
         if i < letters.len() {
             script[i] = letters[i];
         }
-        i += 1;
     }
     script
 }
@@ -67,18 +73,16 @@ fn sample(digits: &[u8], i: usize) -> i16
 
 fn samples_of(digits: &[u8]) -> [i16; 610] {
     let mut samples = [0i16; 610];
-    let mut i: usize = 0;
-    while i < 610 {
+    for i in 0..610 {
         samples[i] = sample(digits, i);
-        i += 1;
     }
     samples
 }
 
 // All samples of a line in one stretch.
-fn feed_stretch(session: Session, digits: &[u8]) -> Session {
+fn feed_stretch(out: &mut impl Write, session: Session, digits: &[u8]) -> io::Result<Session> {
     let samples = samples_of(digits);
-    stretch::feed_all(session, stretch::front(&samples, digits.len() / 4))
+    stretch::feed_all(out, session, stretch::front(&samples, digits.len() / 4))
 }
 
 // A stream's line has its name, its rate and the replies; one in stretches has the count before them.
@@ -96,55 +100,47 @@ fn begun_at(line: &[u8]) -> Session {
     )
 }
 
-fn put_end(session: Session) {
+fn put_end(out: &mut impl Write, session: Session) -> io::Result<()> {
     let receiver = session.receiver;
     let control = receiver.control;
-    cases_text::put_count(control.sample);
-    cases_text::put_count(receiver.filter_cursor as u64);
-    cases_text::put_count(receiver.rx_cursor as u64);
-    cases_text::end_line();
+    cases_text::put_count(out, control.sample)?;
+    cases_text::put_count(out, receiver.filter_cursor as u64)?;
+    cases_text::put_count(out, receiver.rx_cursor as u64)?;
+    cases_text::end_line(out)
 }
 
-fn answer_line(session: Session, line: &[u8]) -> Session {
+fn answer_line(out: &mut impl Write, session: Session, line: &[u8]) -> io::Result<Session> {
     let name = cases_text::word(line, 0);
-    io::write_all(1, line);
+    out.write_all(line)?;
     if check::same(name, b"end") {
-        put_end(session);
-        return session;
+        put_end(out, session)?;
+        return Ok(session);
     }
-    cases_text::end_line();
+    cases_text::end_line(out)?;
     if check::same(name, b"samples") {
-        feed_samples(session, cases_text::word(line, 1))
+        feed_samples(out, session, cases_text::word(line, 1))
     } else if check::same(name, b"zeros") {
-        feed_zeros(session, cases_text::decimal(cases_text::word(line, 1)))
+        feed_zeros(out, session, cases_text::decimal(cases_text::word(line, 1)))
     } else if check::same(name, b"feed") {
-        feed_stretch(session, cases_text::word(line, 1))
+        feed_stretch(out, session, cases_text::word(line, 1))
     } else if check::same(name, b"stretches") {
-        begun_at(line)
+        Ok(begun_at(line))
     } else {
-        begun(line)
+        Ok(begun(line))
     }
 }
 
-fn replay(text: &[u8]) {
+fn replay(out: &mut impl Write, text: &[u8]) -> io::Result<()> {
     let mut session = stream::fresh(48_000, [b'-'; 16]);
-    let mut at: usize = 0;
-    while at < text.len() {
-        let end = bytes::scan::find(text, at, text.len(), b'\n');
-        session = answer_line(session, &text[at..end]);
-        at = end + 1;
+    for line in Lines::of(text) {
+        session = answer_line(out, session, line)?;
     }
+    Ok(())
 }
 
-// Room for the streams. Only its length is told, which lending it as a slice needs.
-fn room() -> [u8; 524_288]
-    ensures { 524288 ≡ length result }
-{
-    [0; 524_288]
-}
-
-fn main() {
-    let mut text = room();
-    let length = io::read_full(0, &mut text);
-    replay(&text[..length]);
+fn main(rt: HostRuntime) -> io::Result<()> {
+    let mut out = BufWriter::new(rt.alloc(), io::writer(&rt))?;
+    let text = cases_text::read_all(&rt, rt.alloc())?;
+    replay(&mut out, &text)?;
+    out.flush()
 }

@@ -2,6 +2,7 @@
 use crate::changes;
 use crate::changes::Seen;
 use demodulator::{Heard, Offer, Replied, Reply, SoftDemodulator};
+use std::io::{self, Write};
 use std::num::wrapping_add_u64;
 
 #[derive(Clone, Copy)]
@@ -26,34 +27,42 @@ pub(crate) fn fresh(rate: u32, script: [u8; 16]) -> Session {
 }
 
 // The sample is finished.
-fn finished(session: Session, receiver: SoftDemodulator) -> Session {
+fn finished(
+    out: &mut impl Write,
+    session: Session,
+    receiver: SoftDemodulator,
+) -> io::Result<Session> {
     let before = session.seen;
     let now = changes::look_at(receiver);
-    changes::put_changes(before, now);
+    changes::put_changes(out, before, now)?;
     let mut next = session;
     next.receiver = receiver;
     next.seen = now;
-    next
+    Ok(next)
 }
 
-fn put_symbols(room: [f32; 192]) {
-    let mut i: usize = 0;
-    while i < 192 {
-        cases_text::put_float(room[i]);
-        i += 1;
+fn put_symbols(out: &mut impl Write, room: [f32; 192]) -> io::Result<()> {
+    for i in 0..192 {
+        cases_text::put_float(out, room[i])?;
     }
+    Ok(())
 }
 
-pub(crate) fn put_offer(before: u64, offer: Offer, room: [f32; 192]) {
+pub(crate) fn put_offer(
+    out: &mut impl Write,
+    before: u64,
+    offer: Offer,
+    room: [f32; 192],
+) -> io::Result<()> {
     let kind = offer.kind;
-    changes::put_event(before, b"offer");
-    changes::put_kind(changes::kind_number(kind));
-    cases_text::put_count(offer.sample);
-    cases_text::put_count(offer.taken_at);
-    cases_text::put_count(offer.age as u64);
-    cases_text::put_count(offer.replaced as u64);
-    cases_text::put_float(offer.gain);
-    put_symbols(room);
+    changes::put_event(out, before, b"offer")?;
+    changes::put_kind(out, changes::kind_number(kind))?;
+    cases_text::put_count(out, offer.sample)?;
+    cases_text::put_count(out, offer.taken_at)?;
+    cases_text::put_count(out, offer.age as u64)?;
+    cases_text::put_count(out, offer.replaced as u64)?;
+    cases_text::put_float(out, offer.gain)?;
+    put_symbols(out, room)
 }
 
 // Past the script's end every offer is rejected.
@@ -67,13 +76,17 @@ pub(crate) fn is_accepted(session: Session) -> bool {
     }
 }
 
-pub(crate) fn put_refusal(number: u32) {
-    io::write_all(1, b"refused");
-    cases_text::put_count(number as u64);
-    cases_text::end_line();
+pub(crate) fn put_refusal(out: &mut impl Write, number: u32) -> io::Result<()> {
+    out.write_all(b"refused")?;
+    cases_text::put_count(out, number as u64)?;
+    cases_text::end_line(out)
 }
 
-pub(crate) fn settled(receiver: SoftDemodulator, accepted: bool) -> SoftDemodulator {
+pub(crate) fn settled(
+    out: &mut impl Write,
+    receiver: SoftDemodulator,
+    accepted: bool,
+) -> io::Result<SoftDemodulator> {
     let reply = if accepted {
         Reply::Accepted
     } else {
@@ -82,41 +95,48 @@ pub(crate) fn settled(receiver: SoftDemodulator, accepted: bool) -> SoftDemodula
     let left = receiver.reply(reply);
     let answer = left.answer;
     if let Replied::Refused(why) = answer {
-        put_refusal(why.number());
+        put_refusal(out, why.number())?;
     }
-    left.demodulator
+    Ok(left.demodulator)
 }
 
-pub(crate) fn put_reply(accepted: bool) {
+pub(crate) fn put_reply(out: &mut impl Write, accepted: bool) -> io::Result<()> {
     if accepted {
-        io::write_all(1, b" accept\n");
+        out.write_all(b" accept\n")
     } else {
-        io::write_all(1, b" reject\n");
+        out.write_all(b" reject\n")
     }
 }
 
-fn offered(session: Session, receiver: SoftDemodulator, offer: Offer, room: [f32; 192]) -> Session {
+fn offered(
+    out: &mut impl Write,
+    session: Session,
+    receiver: SoftDemodulator,
+    offer: Offer,
+    room: [f32; 192],
+) -> io::Result<Session> {
     let before = session.seen;
     let accepted = is_accepted(session);
-    put_offer(before.count, offer, room);
-    put_reply(accepted);
-    let mut next = finished(session, settled(receiver, accepted));
+    put_offer(out, before.count, offer, room)?;
+    put_reply(out, accepted)?;
+    let after = settled(out, receiver, accepted)?;
+    let mut next = finished(out, session, after)?;
     next.replies = wrapping_add_u64(next.replies, 1);
-    next
+    Ok(next)
 }
 
-pub(crate) fn fed(session: Session, sample: i16) -> Session {
+pub(crate) fn fed(out: &mut impl Write, session: Session, sample: i16) -> io::Result<Session> {
     let mut room = [0.0f32; 192];
     let receiver = session.receiver;
     let heard = receiver.demod(sample, &mut room);
     let answer = heard.answer;
     let after = heard.demodulator;
     match answer {
-        Heard::Quiet => finished(session, after),
-        Heard::Offered(offer) => offered(session, after, offer, room),
+        Heard::Quiet => finished(out, session, after),
+        Heard::Offered(offer) => offered(out, session, after, offer, room),
         Heard::Refused(why) => {
-            put_refusal(why.number());
-            session
+            put_refusal(out, why.number())?;
+            Ok(session)
         }
     }
 }

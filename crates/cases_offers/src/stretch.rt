@@ -4,6 +4,7 @@ ghost use Rattle.std.specs.Prelude.{◌≤◌};
 use crate::stream::Session;
 use crate::{changes, stream};
 use demodulator::{Heard, Offer, SoftDemodulator};
+use std::io::{self, Write};
 use std::num::{wrapping_add_u64, wrapping_add_usize, wrapping_sub_u64};
 
 // A call of `feed`: how many samples went in, and whether the rest is given again.
@@ -37,36 +38,42 @@ pub(crate) fn front(samples: &[i16], count: usize) -> &[i16] {
     &samples[0..most]
 }
 
-fn put_left(receiver: SoftDemodulator) {
+fn put_left(out: &mut impl Write, receiver: SoftDemodulator) -> io::Result<()> {
     let seen = changes::look_at(receiver);
     let held = seen.held;
     let wait = seen.wait;
-    io::print_decimal(1, seen.count);
-    io::write_all(1, b" left");
-    changes::put_end(seen.timer);
-    changes::put_held(held);
-    changes::put_waited(wait);
-    cases_text::end_line();
+    write!(out, "{}", seen.count)?;
+    out.write_all(b" left")?;
+    changes::put_end(out, seen.timer)?;
+    changes::put_held(out, held)?;
+    changes::put_waited(out, wait)?;
+    cases_text::end_line(out)
 }
 
-fn put_refused(receiver: SoftDemodulator, number: u32) {
+fn put_refused(out: &mut impl Write, receiver: SoftDemodulator, number: u32) -> io::Result<()> {
     let control = receiver.control;
-    io::print_decimal(1, control.sample);
-    io::write_all(1, b" ");
-    stream::put_refusal(number);
+    write!(out, "{}", control.sample)?;
+    out.write_all(b" ")?;
+    stream::put_refusal(out, number)
 }
 
-fn offered(session: Session, receiver: SoftDemodulator, offer: Offer, room: [f32; 192]) -> Session {
+fn offered(
+    out: &mut impl Write,
+    session: Session,
+    receiver: SoftDemodulator,
+    offer: Offer,
+    room: [f32; 192],
+) -> io::Result<Session> {
     let accepted = stream::is_accepted(session);
-    stream::put_offer(wrapping_sub_u64(offer.sample, 1), offer, room);
-    stream::put_reply(accepted);
+    stream::put_offer(out, wrapping_sub_u64(offer.sample, 1), offer, room)?;
+    stream::put_reply(out, accepted)?;
     let mut next = session;
-    next.receiver = stream::settled(receiver, accepted);
+    next.receiver = stream::settled(out, receiver, accepted)?;
     next.replies = wrapping_add_u64(next.replies, 1);
-    next
+    Ok(next)
 }
 
-fn feed_some(session: Session, samples: &[i16]) -> Turn {
+fn feed_some(out: &mut impl Write, session: Session, samples: &[i16]) -> io::Result<Turn> {
     let mut room = [0.0f32; 192];
     let receiver = session.receiver;
     let heard = receiver.feed(samples, &mut room);
@@ -77,42 +84,46 @@ fn feed_some(session: Session, samples: &[i16]) -> Turn {
         Heard::Quiet => {
             let mut next = session;
             next.receiver = after;
-            Turn {
+            Ok(Turn {
                 session: next,
                 fed,
                 more: true,
-            }
+            })
         }
-        Heard::Offered(offer) => Turn {
-            session: offered(session, after, offer, room),
+        Heard::Offered(offer) => Ok(Turn {
+            session: offered(out, session, after, offer, room)?,
             fed,
             more: true,
-        },
+        }),
         Heard::Refused(why) => {
-            put_refused(receiver, why.number());
-            Turn {
+            put_refused(out, receiver, why.number())?;
+            Ok(Turn {
                 session,
                 fed,
                 more: false,
-            }
+            })
         }
     }
 }
 
 // What did not go in is given again, until it is refused. Each other call takes a sample at least, so no stretch of a list needs more calls.
-pub(crate) fn feed_all(session: Session, samples: &[i16]) -> Session {
+pub(crate) fn feed_all(
+    out: &mut impl Write,
+    session: Session,
+    samples: &[i16],
+) -> io::Result<Session> {
     let mut next = session;
     let mut at: usize = 0;
     let mut calls: usize = 611;
     while 0 < calls {
         calls -= 1;
-        let turn = feed_some(next, &samples[at..]);
+        let turn = feed_some(out, next, &samples[at..])?;
         next = turn.session;
         at = least(wrapping_add_usize(at, turn.fed), samples.len());
         if !turn.more | (at == samples.len()) {
             calls = 0;
         }
     }
-    put_left(next.receiver);
-    next
+    put_left(out, next.receiver)?;
+    Ok(next)
 }

@@ -2,6 +2,7 @@
 ghost use Rattle.std.specs.Prelude.{◌≤◌, ◌<◌, length};
 
 use plain::Listing;
+use std::io::{self, Write};
 
 // The rooms' content before a call: of no offer.
 const UNUSED: u64 = 7_777_777;
@@ -25,12 +26,10 @@ fn at_most(number: u64, most: usize) -> usize
 // A letter for each reply, `a` to accept.
 fn replies_of(letters: &[u8]) -> [bool; 16] {
     let mut replies = [false; 16];
-    let mut i: usize = 0;
-    while i < 16 {
+    for i in 0..16 {
         if i < letters.len() {
             replies[i] = letters[i] == b'a';
         }
-        i += 1;
     }
     replies
 }
@@ -45,49 +44,57 @@ fn reply_count(letters: &[u8]) -> usize
     }
 }
 
-fn put_kind(kind: u64) {
+fn put_kind(out: &mut impl Write, kind: u64) -> io::Result<()> {
     if kind == 0 {
-        io::write_all(1, b" lsf");
+        out.write_all(b" lsf")
     } else if kind == 1 {
-        io::write_all(1, b" bert");
+        out.write_all(b" bert")
     } else if kind == 2 {
-        io::write_all(1, b" stream");
+        out.write_all(b" stream")
     } else if kind == 3 {
-        io::write_all(1, b" packet");
+        out.write_all(b" packet")
     } else {
-        io::write_all(1, b" none");
+        out.write_all(b" none")
     }
 }
 
-fn put_symbols(symbols: &[f32]) {
-    let mut i: usize = 0;
-    while i < symbols.len() {
-        cases_text::put_float(symbols[i]);
-        i += 1;
+fn put_symbols(out: &mut impl Write, symbols: &[f32]) -> io::Result<()> {
+    for i in 0..symbols.len() {
+        cases_text::put_float(out, symbols[i])?;
     }
+    Ok(())
 }
 
-fn put_offer(offer: usize, numbers: [u64; 60], symbols: [f32; 2304])
+fn put_offer(
+    out: &mut impl Write,
+    offer: usize,
+    numbers: [u64; 60],
+    symbols: [f32; 2304],
+) -> io::Result<()>
     requires { offer < 12 }
 {
     let at = 5 * offer;
-    put_kind(numbers[at]);
-    cases_text::put_count(numbers[at + 1]);
-    cases_text::put_count(numbers[at + 2]);
-    cases_text::put_count(numbers[at + 3]);
-    cases_text::put_count(numbers[at + 4]);
+    put_kind(out, numbers[at])?;
+    cases_text::put_count(out, numbers[at + 1])?;
+    cases_text::put_count(out, numbers[at + 2])?;
+    cases_text::put_count(out, numbers[at + 3])?;
+    cases_text::put_count(out, numbers[at + 4])?;
     let window = 192 * offer;
     let end = window + 192;
-    put_symbols(&symbols[window..end]);
+    put_symbols(out, &symbols[window..end])
 }
 
-fn put_offers(count: usize, numbers: [u64; 60], symbols: [f32; 2304]) {
+fn put_offers(
+    out: &mut impl Write,
+    count: usize,
+    numbers: [u64; 60],
+    symbols: [f32; 2304],
+) -> io::Result<()> {
     let listed = at_most(count as u64, OFFERS);
-    let mut offer: usize = 0;
-    while offer < listed {
-        put_offer(offer, numbers, symbols);
-        offer += 1;
+    for offer in 0..listed {
+        put_offer(out, offer, numbers, symbols)?;
     }
+    Ok(())
 }
 
 fn are_unused(numbers: [u64; 60], from: usize) -> bool {
@@ -116,34 +123,45 @@ fn is_rest_kept(count: usize, numbers: [u64; 60], symbols: [f32; 2304]) -> bool 
     are_unused(numbers, 5 * listed) & are_blank(symbols, 192 * listed)
 }
 
-fn put_answer(listing: Listing, in_full: bool, numbers: [u64; 60], symbols: [f32; 2304]) {
+fn put_answer(
+    out: &mut impl Write,
+    listing: Listing,
+    in_full: bool,
+    numbers: [u64; 60],
+    symbols: [f32; 2304],
+) -> io::Result<()> {
     match listing {
         Listing::Refused(why) => {
-            io::write_all(1, b" = refused");
-            cases_text::put_count(why.number() as u64);
-            put_kept(is_rest_kept(0, numbers, symbols));
+            out.write_all(b" = refused")?;
+            cases_text::put_count(out, why.number() as u64)?;
+            put_kept(out, is_rest_kept(0, numbers, symbols))
         }
         Listing::Listed(count) => {
-            io::write_all(1, b" = listed");
-            cases_text::put_count(count as u64);
+            out.write_all(b" = listed")?;
+            cases_text::put_count(out, count as u64)?;
             if in_full {
-                put_offers(count, numbers, symbols);
+                put_offers(out, count, numbers, symbols)?;
             }
-            put_kept(is_rest_kept(count, numbers, symbols));
+            put_kept(out, is_rest_kept(count, numbers, symbols))
         }
     }
 }
 
 // No stored line has the word.
-fn put_kept(kept: bool) {
+fn put_kept(out: &mut impl Write, kept: bool) -> io::Result<()> {
     if !kept {
-        io::write_all(1, b" and changed");
+        out.write_all(b" and changed")?;
     }
-    cases_text::end_line();
+    cases_text::end_line(out)
 }
 
 // A line has the rate, the replies, and how many numbers and symbols there is room for.
-pub(crate) fn put_listing(line: &[u8], recording: &[i16], in_full: bool) {
+pub(crate) fn put_listing(
+    out: &mut impl Write,
+    line: &[u8],
+    recording: &[i16],
+    in_full: bool,
+) -> io::Result<()> {
     let rate = cases_text::decimal(cases_text::word(line, 1)) % 100_000;
     let letters = cases_text::word(line, 2);
     let replies = replies_of(letters);
@@ -159,5 +177,5 @@ pub(crate) fn put_listing(line: &[u8], recording: &[i16], in_full: bool) {
         &mut numbers[0..numbered],
         &mut symbols[0..written],
     );
-    put_answer(listing, in_full, numbers, symbols);
+    put_answer(out, listing, in_full, numbers, symbols)
 }

@@ -1,51 +1,53 @@
 // Replays the list `listings` of both rates: reads recordings, lists the offers of each with the replies and the rooms that a line names, and writes the line again with the answer.
+#![tactic(auto)]
+
 mod answer;
 mod recording;
 
-ghost use Rattle.std.specs.Prelude.{◌≡◌, ◌≤◌, length};
+ghost use Rattle.std.specs.Prelude.{◌≡◌, ◌≤◌, IfOk, length};
+
+use cases_text::Lines;
+use std::io::{self, BufWriter, Write};
 
 // A line adds samples, asks, or begins a recording. Gives how many samples there now are.
-fn answer_line(line: &[u8], samples: &mut [i16], count: usize) -> usize
+fn answer_line(
+    out: &mut impl Write,
+    line: &[u8],
+    samples: &mut [i16],
+    count: usize,
+) -> io::Result<usize>
     requires { count ≤ length samples.old }
-    ensures { (result ≤ length samples.new) × (length samples.new ≡ length samples.old) }
+    ensures count { IfOk result (λ n. n ≤ length samples.new) }
+    ensures room { length samples.new ≡ length samples.old }
 {
     let name = cases_text::word(line, 0);
-    io::write_all(1, line);
+    out.write_all(line)?;
     if check::same(name, b"samples") {
-        cases_text::end_line();
-        return recording::add_samples(cases_text::word(line, 1), samples, count);
+        cases_text::end_line(out)?;
+        return Ok(recording::add_samples(cases_text::word(line, 1), samples, count));
     }
     if check::same(name, b"zeros") {
-        cases_text::end_line();
-        return recording::add_zeros(
+        cases_text::end_line(out)?;
+        return Ok(recording::add_zeros(
             cases_text::decimal(cases_text::word(line, 1)),
             samples,
             count,
-        );
+        ));
     }
     if check::same(name, b"recording") {
-        cases_text::end_line();
-        return 0;
+        cases_text::end_line(out)?;
+        return Ok(0);
     }
-    answer::put_listing(line, &samples[0..count], check::same(name, b"list"));
-    count
+    answer::put_listing(out, line, &samples[0..count], check::same(name, b"list"))?;
+    Ok(count)
 }
 
-fn replay(text: &[u8], samples: &mut [i16]) {
+fn replay(out: &mut impl Write, text: &[u8], samples: &mut [i16]) -> io::Result<()> {
     let mut count: usize = 0;
-    let mut at: usize = 0;
-    while at < text.len() {
-        let end = bytes::scan::find(text, at, text.len(), b'\n');
-        count = answer_line(&text[at..end], samples, count);
-        at = end + 1;
+    for line in Lines::of(text) {
+        count = answer_line(out, line, samples, count)?;
     }
-}
-
-// Room for the text. Only its length is told, which lending it as a slice needs.
-fn text_room() -> [u8; 524_288]
-    ensures { 524288 ≡ length result }
-{
-    [0; 524_288]
+    Ok(())
 }
 
 // Room for one sample more than a recording may have.
@@ -55,9 +57,10 @@ fn sample_room() -> [i16; 65_537]
     [0; 65_537]
 }
 
-fn main() {
-    let mut text = text_room();
+fn main(rt: HostRuntime) -> io::Result<()> {
+    let mut out = BufWriter::new(rt.alloc(), io::writer(&rt))?;
     let mut samples = sample_room();
-    let length = io::read_full(0, &mut text);
-    replay(&text[..length], &mut samples);
+    let text = cases_text::read_all(&rt, rt.alloc())?;
+    replay(&mut out, &text, &mut samples)?;
+    out.flush()
 }

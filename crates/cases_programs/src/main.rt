@@ -1,15 +1,29 @@
 // Replays the lists `programs` and `offsets`: does with their texts and recordings what send and receive do between their reads and their writes, and writes each line again with what came of it.
+#![tactic(auto)]
+
 mod pieces;
 mod received;
 mod sent;
+
+ghost use Rattle.std.specs.Prelude.{◌≡◌, length};
+
+use cases_text::Lines;
+use std::io::{self, BufWriter, Write};
 
 fn decimal(line: &[u8], k: usize) -> usize {
     cases_text::decimal(cases_text::word(line, k)) as usize
 }
 
+// Room for a recording. Only its length is told, which lending it as a slice needs.
+fn room() -> [u8; 65_536]
+    ensures { 65536 ≡ length result }
+{
+    [0; 65_536]
+}
+
 // A sample of zero is two bytes of zero.
 fn silence(recording: &mut [u8], samples: usize) -> usize {
-    let zeros = io::large_buffer();
+    let zeros = room();
     let half = pieces::put(recording, 0, &zeros, samples);
     pieces::put(recording, half, &zeros, samples)
 }
@@ -21,43 +35,47 @@ fn append(recording: &mut [u8], recorded: usize, digits: &[u8]) -> usize {
 
 // What comes back is how many bytes of the recording count after the line.
 // `was` tells what the Rust found with nothing amended: it is only written again.
-fn answer_line(line: &[u8], recording: &mut [u8], recorded: usize) -> usize {
-    io::write_all(1, line);
+fn answer_line(
+    out: &mut impl Write,
+    line: &[u8],
+    recording: &mut [u8],
+    recorded: usize,
+) -> io::Result<usize> {
+    out.write_all(line)?;
     let name = cases_text::word(line, 0);
     if check::same(name, b"send") {
-        return sent::send(cases_text::word(line, 2), recording);
+        return sent::send(out, cases_text::word(line, 2), recording);
     }
-    cases_text::end_line();
+    cases_text::end_line(out)?;
     if check::same(name, b"zeros") {
-        silence(recording, decimal(line, 1))
+        Ok(silence(recording, decimal(line, 1)))
     } else if check::same(name, b"append") {
-        append(recording, recorded, cases_text::word(line, 1))
+        Ok(append(recording, recorded, cases_text::word(line, 1)))
     } else if check::same(name, b"offset") {
         pieces::offset(recording, recorded, decimal(line, 1));
-        recorded
+        Ok(recorded)
     } else if check::same(name, b"was") {
-        recorded
+        Ok(recorded)
     } else {
         let size = decimal(line, 1);
         let room = decimal(line, 2);
-        received::receive(pieces::front(recording, recorded), size, room);
-        recorded
+        received::receive(out, pieces::front(recording, recorded), size, room)?;
+        Ok(recorded)
     }
 }
 
-fn replay(text: &[u8]) {
-    let mut recording = io::large_buffer();
+fn replay(out: &mut impl Write, text: &[u8]) -> io::Result<()> {
+    let mut recording = room();
     let mut recorded: usize = 0;
-    let mut at: usize = 0;
-    while at < text.len() {
-        let end = bytes::scan::find(text, at, text.len(), b'\n');
-        recorded = answer_line(&text[at..end], &mut recording, recorded);
-        at = end + 1;
+    for line in Lines::of(text) {
+        recorded = answer_line(out, line, &mut recording, recorded)?;
     }
+    Ok(())
 }
 
-fn main() {
-    let mut text = io::large_buffer();
-    let length = io::read_full(0, &mut text);
-    replay(&text[..length]);
+fn main(rt: HostRuntime) -> io::Result<()> {
+    let mut out = BufWriter::new(rt.alloc(), io::writer(&rt))?;
+    let text = cases_text::read_all(&rt, rt.alloc())?;
+    replay(&mut out, &text)?;
+    out.flush()
 }

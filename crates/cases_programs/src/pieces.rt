@@ -44,10 +44,8 @@ fn byte(digits: &[u8], i: usize) -> u8
 // Of a text no more than a line comes at once.
 pub(crate) fn bytes_of(digits: &[u8]) -> [u8; 97] {
     let mut bytes = [0u8; 97];
-    let mut i: usize = 0;
-    while i < 97 {
+    for i in 0..97 {
         bytes[i] = byte(digits, i);
-        i += 1;
     }
     bytes
 }
@@ -65,10 +63,8 @@ fn put_byte(recording: &mut [u8], at: usize, byte: u8) -> usize {
 pub(crate) fn put(recording: &mut [u8], at: usize, bytes: &[u8], count: usize) -> usize {
     let most = least(count, bytes.len());
     let mut end = at;
-    let mut i: usize = 0;
-    while i < most {
+    for i in 0..most {
         end = put_byte(recording, end, bytes[i]);
-        i += 1;
     }
     end
 }
@@ -81,12 +77,10 @@ fn raised(low: u8, high: u8, by: usize) -> [u8; 2] {
 
 pub(crate) fn offset(recording: &mut [u8], recorded: usize, by: usize) {
     let samples = least(recorded, recording.len()) / 2;
-    let mut i: usize = 0;
-    while i < samples {
+    for i in 0..samples {
         let at = 2 * i;
         let next = at + 1;
         let bytes = raised(recording[at], recording[next], by);
         put(recording, at, &bytes, 2);
-        i += 1;
     }
 }

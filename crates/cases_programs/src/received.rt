@@ -1,8 +1,9 @@
 // A recording, in reads of a size and with room for lines, through the library of receive.
-ghost use Rattle.std.specs.Prelude.{◌≤◌, length};
+ghost use Rattle.std.specs.Prelude.{◌≤◌, IfOk, length};
 
 use crate::pieces;
 use receiving::Receiving;
+use std::io::{self, Write};
 use std::num::wrapping_add_u64;
 
 // What the last call consumed, and how many lines there are by now.
@@ -14,30 +15,36 @@ struct Turn {
 }
 
 // The lines are written as they come, and counted.
-fn hear_into(turn: Turn, bytes: &[u8], lines: &mut [u8]) -> Turn
-    ensures { result.consumed ≤ length bytes.now }
+fn hear_into(out: &mut impl Write, turn: Turn, bytes: &[u8], lines: &mut [u8]) -> io::Result<Turn>
+    ensures { IfOk result (λ t. t.consumed ≤ length bytes.now) }
 {
     let receiving = turn.receiving;
     let after = receiving.hear(bytes, lines);
     let written = after.written;
-    cases_text::put_front(lines, written);
+    cases_text::put_front(out, lines, written)?;
     let next = after.receiving;
-    Turn {
+    Ok(Turn {
         receiving: next,
         consumed: after.consumed,
         found: wrapping_add_u64(turn.found, (written / 97) as u64),
-    }
+    })
 }
 
-fn hear_some(turn: Turn, bytes: &[u8], lines: &mut [u8], room: usize) -> Turn
-    ensures { result.consumed ≤ length bytes.now }
+fn hear_some(
+    out: &mut impl Write,
+    turn: Turn,
+    bytes: &[u8],
+    lines: &mut [u8],
+    room: usize,
+) -> io::Result<Turn>
+    ensures { IfOk result (λ t. t.consumed ≤ length bytes.now) }
 {
     let places = pieces::least(room, lines.len());
-    hear_into(turn, bytes, &mut lines[..places])
+    hear_into(out, turn, bytes, &mut lines[..places])
 }
 
 // What a call does not consume begins the next read. There are places for a line of each sample that a call looks at.
-fn hear_all(recording: &[u8], size: usize, room: usize) -> u64 {
+fn hear_all(out: &mut impl Write, recording: &[u8], size: usize, room: usize) -> io::Result<u64> {
     let mut turn = Turn {
         receiving: Receiving::new(),
         consumed: 0,
@@ -47,19 +54,24 @@ fn hear_all(recording: &[u8], size: usize, room: usize) -> u64 {
     let mut at: usize = 0;
     while at < recording.len() {
         let end = pieces::read_end(at, size, recording.len());
-        turn = hear_some(turn, &recording[at..end], &mut lines, room);
+        turn = hear_some(out, turn, &recording[at..end], &mut lines, room)?;
         let consumed = turn.consumed;
         if consumed == 0 {
-            return turn.found;
+            return Ok(turn.found);
         }
         at += consumed;
     }
-    turn.found
+    Ok(turn.found)
 }
 
-pub(crate) fn receive(recording: &[u8], size: usize, room: usize) {
-    let found = hear_all(recording, size, room);
-    io::write_all(1, b"found");
-    cases_text::put_count(found);
-    cases_text::end_line();
+pub(crate) fn receive(
+    out: &mut impl Write,
+    recording: &[u8],
+    size: usize,
+    room: usize,
+) -> io::Result<()> {
+    let found = hear_all(out, recording, size, room)?;
+    out.write_all(b"found")?;
+    cases_text::put_count(out, found)?;
+    cases_text::end_line(out)
 }

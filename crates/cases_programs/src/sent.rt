@@ -3,6 +3,7 @@ ghost use Rattle.std.specs.Prelude.{◌<◌};
 
 use crate::pieces;
 use sending::{AfterPart, Sending};
+use std::io::{self, Write};
 use std::num::wrapping_add_u64;
 
 // Reads come in pieces of at most so many bytes: no line comes in one.
@@ -76,36 +77,34 @@ fn added(so_far: Sums, byte: u8) -> Sums
 // A line tells a whole recording by it.
 fn adler(recording: &[u8]) -> u64 {
     let mut so_far = Sums { bytes: 1, sums: 0 };
-    let mut i: usize = 0;
-    while i < recording.len() {
+    for i in 0..recording.len() {
         so_far = added(so_far, recording[i]);
-        i += 1;
     }
     65536 * so_far.sums + so_far.bytes
 }
 
-fn put_words(part: AfterPart) {
+fn put_words(out: &mut impl Write, part: AfterPart) -> io::Result<()> {
     let text = part.last_words(true, true);
     if text.length > 0 {
-        io::write_all(1, b" ");
+        out.write_all(b" ")?;
         let bytes = text.bytes;
-        cases_text::put_front(&bytes, text.length);
+        cases_text::put_front(out, &bytes, text.length)
     } else {
-        cases_text::end_line();
+        cases_text::end_line(out)
     }
 }
 
-fn put_answer(last: Turn, recording: &[u8]) {
-    io::write_all(1, b" =");
-    cases_text::put_count((last.length / 2) as u64);
-    cases_text::put_count(adler(pieces::front(recording, last.length)));
-    put_words(last.part);
+fn put_answer(out: &mut impl Write, last: Turn, recording: &[u8]) -> io::Result<()> {
+    out.write_all(b" =")?;
+    cases_text::put_count(out, (last.length / 2) as u64)?;
+    cases_text::put_count(out, adler(pieces::front(recording, last.length)))?;
+    put_words(out, last.part)
 }
 
 // What comes back is the recording's length.
-pub(crate) fn send(digits: &[u8], recording: &mut [u8]) -> usize {
+pub(crate) fn send(out: &mut impl Write, digits: &[u8], recording: &mut [u8]) -> io::Result<usize> {
     let taken = take_all(digits, recording);
     let last = end(taken, recording);
-    put_answer(last, recording);
-    last.length
+    put_answer(out, last, recording)?;
+    Ok(last.length)
 }

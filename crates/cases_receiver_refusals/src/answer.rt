@@ -1,4 +1,5 @@
 // The answer to a call, and how it is written.
+use std::io::{self, Write};
 
 // What an offer reports of its burst: the sample at which it was taken, 0 where there is no offer, the age at which its wait was set, and the mark.
 #[derive(Clone, Copy)]
@@ -111,63 +112,74 @@ pub(crate) const MADE: usize = 25;
 
 const UNUSED_CHANGED: usize = 26;
 
-pub(crate) fn put_text(k: usize) {
+pub(crate) fn put_text(out: &mut impl Write, k: usize) -> io::Result<()> {
     let texts =
         b"refused|quiet|offered|done|admitted|no|yes|; | in| places| and changed|,| new| written| past|, age||, unchanged|no such call| fed| taken|, a byte waits|, taken at|, kept age|, marked|made|, unused changed";
-    io::write_all(1, cases_text::cell(texts, k));
+    out.write_all(cases_text::cell(texts, k))
 }
 
-fn put_part(yes: bool, before: usize, n: u64, after: usize) {
+fn put_part(
+    out: &mut impl Write,
+    yes: bool,
+    before: usize,
+    n: u64,
+    after: usize,
+) -> io::Result<()> {
     if yes {
-        put_text(before);
-        cases_text::put_count(n);
-        put_text(after);
+        put_text(out, before)?;
+        cases_text::put_count(out, n)?;
+        put_text(out, after)?;
     }
+    Ok(())
 }
 
-fn put_refusal(number: u32, changed: bool) {
-    cases_text::put_count(number as u64);
+fn put_refusal(out: &mut impl Write, number: u32, changed: bool) -> io::Result<()> {
+    cases_text::put_count(out, number as u64)?;
     if changed {
-        put_text(CHANGED);
+        put_text(out, CHANGED)?;
     }
+    Ok(())
 }
 
-fn put_found(found: Found) {
+fn put_found(out: &mut impl Write, found: Found) -> io::Result<()> {
     let offered = 0 < found.at;
-    put_part(offered, TAKEN_AT, found.at, NOTHING);
-    put_part(offered, KEPT, found.kept, NOTHING);
+    put_part(out, offered, TAKEN_AT, found.at, NOTHING)?;
+    put_part(out, offered, KEPT, found.kept, NOTHING)?;
     if found.marked {
-        put_text(MARKED);
+        put_text(out, MARKED)?;
     }
+    Ok(())
 }
 
-fn put_taken(a: Answer) {
+fn put_taken(out: &mut impl Write, a: Answer) -> io::Result<()> {
     let offered = (0 < a.written) | (0 < a.past);
     let found = a.found;
-    put_part(a.counted != NOTHING, COMMA, a.count, a.counted);
-    put_part(true, COMMA, a.new, NEW);
-    put_part(offered, COMMA, a.written, WRITTEN);
-    put_part(offered, COMMA, a.past, PAST);
-    put_part(a.age < 256, AGE, a.age, NOTHING);
-    put_found(found);
+    put_part(out, a.counted != NOTHING, COMMA, a.count, a.counted)?;
+    put_part(out, true, COMMA, a.new, NEW)?;
+    put_part(out, offered, COMMA, a.written, WRITTEN)?;
+    put_part(out, offered, COMMA, a.past, PAST)?;
+    put_part(out, a.age < 256, AGE, a.age, NOTHING)?;
+    put_found(out, found)?;
     if a.waits {
-        put_text(WAITS);
+        put_text(out, WAITS)?;
     }
     if !a.changed {
-        put_text(UNCHANGED);
+        put_text(out, UNCHANGED)?;
     }
     if a.unused_changed {
-        put_text(UNUSED_CHANGED);
+        put_text(out, UNUSED_CHANGED)?;
     }
+    Ok(())
 }
 
-pub(crate) fn put(a: Answer) {
-    put_text(a.word);
+pub(crate) fn put(out: &mut impl Write, a: Answer) -> io::Result<()> {
+    put_text(out, a.word)?;
     if a.word == REFUSED {
-        put_refusal(a.number, a.changed);
-        return;
+        put_refusal(out, a.number, a.changed)?;
+        return Ok(());
     }
     if a.word < NO {
-        put_taken(a);
+        put_taken(out, a)?;
     }
+    Ok(())
 }

@@ -1,6 +1,7 @@
 // A call's answer on the record that a line makes up, and in how many places of the ring its value brings the same.
 use crate::answer::Answer;
 use crate::{answer, calls, layout, made};
+use std::io::{self, Write};
 use std::num::wrapping_add_u64;
 
 // In how many of so many places, a symbol apart, back from the first, the value in that place only brings this answer.
@@ -18,14 +19,15 @@ fn alike(answer: Answer, words: &[u8], call: &[u8], from: usize, places: u64) ->
     alike
 }
 
-pub(crate) fn put_answer(words: &[u8], call: &[u8]) {
+pub(crate) fn put_answer(out: &mut impl Write, words: &[u8], call: &[u8]) -> io::Result<()> {
     let from = cases_text::count_behind(words, b"from", 0) as usize;
     let places = cases_text::count_behind(words, b"places", 0);
     let answer = calls::called(words, call, from);
-    answer::put(answer);
+    answer::put(out, answer)?;
     if 0 < places {
-        answer::put_text(answer::IN);
-        cases_text::put_count(alike(answer, words, call, from, places));
-        answer::put_text(answer::PLACES);
+        answer::put_text(out, answer::IN)?;
+        cases_text::put_count(out, alike(answer, words, call, from, places))?;
+        answer::put_text(out, answer::PLACES)?;
     }
+    Ok(())
 }

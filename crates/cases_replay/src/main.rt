@@ -1,8 +1,13 @@
 // Replays the list `replays` of both rates, and the refusals that are written by hand: reads recordings and the samples at which they are
 // opened, and writes each line again with what it is answered.
+#![tactic(auto)]
+
 mod answer;
 
 ghost use Rattle.std.specs.Prelude.{◌≡◌, length};
+
+use cases_text::Lines;
+use std::io::{self, BufWriter, Write};
 
 // The recording's rate, and how many of its samples were read.
 #[derive(Clone, Copy)]
@@ -56,72 +61,77 @@ fn begun(line: &[u8]) -> Tape {
     }
 }
 
-fn open_part(rate: u32, recording: &[i16], asked: u64, places: usize) {
+fn open_part(
+    out: &mut impl Write,
+    rate: u32,
+    recording: &[i16],
+    asked: u64,
+    places: usize,
+) -> io::Result<()> {
     let mut room = [answer::BLANK; 200];
     if places <= 200 {
         let opened = replay::open(rate, recording, asked, &mut room[..places]);
-        answer::put_answer(opened, room);
+        answer::put_answer(out, opened, room)?;
     }
+    Ok(())
 }
 
 // The line that opens has the sample, and how many places the room has.
-fn open(tape: Tape, samples: &[i16], line: &[u8]) {
+fn open(out: &mut impl Write, tape: Tape, samples: &[i16], line: &[u8]) -> io::Result<()> {
     let asked = cases_text::decimal(cases_text::word(line, 1));
     let places = cases_text::decimal(cases_text::word(line, 2)) as usize;
     let count = tape.count;
-    io::write_all(1, b" =");
+    out.write_all(b" =")?;
     if count <= samples.len() {
-        open_part(tape.rate, &samples[..count], asked, places);
+        open_part(out, tape.rate, &samples[..count], asked, places)?;
     }
+    Ok(())
 }
 
-fn answer_line(tape: Tape, samples: &mut [i16], line: &[u8]) -> Tape {
+fn answer_line(
+    out: &mut impl Write,
+    tape: Tape,
+    samples: &mut [i16],
+    line: &[u8],
+) -> io::Result<Tape> {
     let name = cases_text::word(line, 0);
-    io::write_all(1, line);
+    out.write_all(line)?;
     if check::same(name, b"open") {
-        open(tape, samples, line);
-        cases_text::end_line();
-        return tape;
+        open(out, tape, samples, line)?;
+        cases_text::end_line(out)?;
+        return Ok(tape);
     }
-    cases_text::end_line();
+    cases_text::end_line(out)?;
     if check::same(name, b"samples") {
         let count = add_samples(cases_text::word(line, 1), samples, tape.count);
-        return Tape {
+        return Ok(Tape {
             rate: tape.rate,
             count,
-        };
+        });
     }
     if check::same(name, b"zeros") {
         let zeros = cases_text::decimal(cases_text::word(line, 1));
         let count = add_zeros(zeros, samples, tape.count);
-        return Tape {
+        return Ok(Tape {
             rate: tape.rate,
             count,
-        };
+        });
     }
-    begun(line)
+    Ok(begun(line))
 }
 
-fn replay(text: &[u8], samples: &mut [i16]) {
+fn replay(out: &mut impl Write, text: &[u8], samples: &mut [i16]) -> io::Result<()> {
     let mut tape = Tape { rate: 0, count: 0 };
-    let mut at: usize = 0;
-    while at < text.len() {
-        let end = bytes::scan::find(text, at, text.len(), b'\n');
-        tape = answer_line(tape, samples, &text[at..end]);
-        at = end + 1;
+    for line in Lines::of(text) {
+        tape = answer_line(out, tape, samples, line)?;
     }
+    Ok(())
 }
 
-// Room for the lines, and for a recording. Only its length is told, which lending it as a slice needs.
-fn text_room() -> [u8; 196_608]
-    ensures { 196608 ≡ length result }
-{
-    [0; 196_608]
-}
-
-fn main() {
-    let mut text = text_room();
+fn main(rt: HostRuntime) -> io::Result<()> {
+    let mut out = BufWriter::new(rt.alloc(), io::writer(&rt))?;
     let mut samples = [0i16; 16_384];
-    let length = io::read_full(0, &mut text);
-    replay(&text[..length], &mut samples);
+    let text = cases_text::read_all(&rt, rt.alloc())?;
+    replay(&mut out, &text, &mut samples)?;
+    out.flush()
 }

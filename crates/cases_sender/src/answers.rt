@@ -2,56 +2,57 @@
 ghost use Rattle.std.specs.Prelude.{◌≤◌};
 
 use modulator::{EndReport, ModulatorAction, SoftModulator};
+use std::io::{self, Write};
 
 // What is in each place of the room before a read.
 pub(crate) const UNWRITTEN: i16 = 12345;
 
 // No line of the list has these words.
-pub(crate) fn put_refusal(number: u32) {
-    io::write_all(1, b" refused");
-    cases_text::put_count(number as u64);
+pub(crate) fn put_refusal(out: &mut impl Write, number: u32) -> io::Result<()> {
+    out.write_all(b" refused")?;
+    cases_text::put_count(out, number as u64)
 }
 
 // The samples that were written; of the rest only what is not as it was laid.
-pub(crate) fn put_room(room: [i16; 4000], written: usize) {
-    cases_text::put_count(written as u64);
-    let mut i: usize = 0;
-    while i < 4000 {
+pub(crate) fn put_room(out: &mut impl Write, room: [i16; 4000], written: usize) -> io::Result<()> {
+    cases_text::put_count(out, written as u64)?;
+    for i in 0..4000 {
         let sample = room[i];
         if i < written {
-            cases_text::put_signed(sample);
+            cases_text::put_signed(out, sample)?;
         } else if sample != UNWRITTEN {
-            io::write_all(1, b" and past them");
-            cases_text::put_signed(sample);
+            out.write_all(b" and past them")?;
+            cases_text::put_signed(out, sample)?;
         }
-        i += 1;
     }
+    Ok(())
 }
 
-pub(crate) fn put_action(action: ModulatorAction) {
+pub(crate) fn put_action(out: &mut impl Write, action: ModulatorAction) -> io::Result<()> {
     match action {
-        ModulatorAction::Refused(why) => put_refusal(why.number()),
+        ModulatorAction::Refused(why) => put_refusal(out, why.number())?,
         ModulatorAction::TransmissionWillEnd(end) => {
-            io::write_all(1, b" end");
-            cases_text::put_count(end.0 as u64);
+            out.write_all(b" end")?;
+            cases_text::put_count(out, end.0 as u64)?;
         }
         ModulatorAction::ReadOutput => {
-            io::write_all(1, b" read");
+            out.write_all(b" read")?;
         }
         ModulatorAction::SetIdle(idle) => {
             if idle {
-                io::write_all(1, b" idle yes");
+                out.write_all(b" idle yes")?;
             } else {
-                io::write_all(1, b" idle no");
+                out.write_all(b" idle no")?;
             }
         }
         ModulatorAction::GetNextFrame => {
-            io::write_all(1, b" frame");
+            out.write_all(b" frame")?;
         }
         ModulatorAction::Nothing => {
-            io::write_all(1, b" nothing");
+            out.write_all(b" nothing")?;
         }
     }
+    Ok(())
 }
 
 // The places of the window that a rate uses.
@@ -61,50 +62,47 @@ fn window_places(rate: u32) -> usize
     if rate == 24000 { 41 } else { 81 }
 }
 
-pub(crate) fn put_window(m: SoftModulator) {
-    cases_text::put_count(m.filter_cursor as u64);
+pub(crate) fn put_window(out: &mut impl Write, m: SoftModulator) -> io::Result<()> {
+    cases_text::put_count(out, m.filter_cursor as u64)?;
     let window = m.filter_win;
     let places = window_places(m.rate);
-    let mut i: usize = 0;
-    while i < places {
-        cases_text::put_float(window[i]);
-        i += 1;
+    for i in 0..places {
+        cases_text::put_float(out, window[i])?;
     }
+    Ok(())
 }
 
-fn put_flag(flag: bool) {
+fn put_flag(out: &mut impl Write, flag: bool) -> io::Result<()> {
     if flag {
-        io::write_all(1, b"1");
+        out.write_all(b"1")
     } else {
-        io::write_all(1, b"0");
+        out.write_all(b"0")
     }
 }
 
-fn put_report(report: EndReport) {
+fn put_report(out: &mut impl Write, report: EndReport) -> io::Result<()> {
     match report {
-        EndReport::Nothing => {
-            io::write_all(1, b" none");
-        }
-        EndReport::After(end) => cases_text::put_count(end.0 as u64),
+        EndReport::Nothing => out.write_all(b" none"),
+        EndReport::After(end) => cases_text::put_count(out, end.0 as u64),
     }
 }
 
 // Length, read place and padding, the three flags, the reported end, and the card's buffer.
-pub(crate) fn put_kept(m: SoftModulator) {
+pub(crate) fn put_kept(out: &mut impl Write, m: SoftModulator) -> io::Result<()> {
     let progress = m.progress;
     let pending = m.pending;
     let report = pending.report_tx_end;
     let buffer = m.buffer;
-    io::write_all(1, b" :");
-    cases_text::put_count(progress.next_len as u64);
-    cases_text::put_count(progress.next_read as u64);
-    cases_text::put_count(progress.tx_delay_padding.0 as u64);
-    io::write_all(1, b" ");
-    put_flag(pending.update_idle);
-    put_flag(pending.try_get_frame);
-    put_flag(pending.calculate_tx_end);
-    put_report(report);
-    cases_text::put_count(buffer.samples_in_buf.0 as u64);
-    cases_text::put_count(buffer.buf_capacity.0 as u64);
-    cases_text::put_count(buffer.output_latency.0 as u64);
+    out.write_all(b" :")?;
+    cases_text::put_count(out, progress.next_len as u64)?;
+    cases_text::put_count(out, progress.next_read as u64)?;
+    cases_text::put_count(out, progress.tx_delay_padding.0 as u64)?;
+    out.write_all(b" ")?;
+    put_flag(out, pending.update_idle)?;
+    put_flag(out, pending.try_get_frame)?;
+    put_flag(out, pending.calculate_tx_end)?;
+    put_report(out, report)?;
+    cases_text::put_count(out, buffer.samples_in_buf.0 as u64)?;
+    cases_text::put_count(out, buffer.buf_capacity.0 as u64)?;
+    cases_text::put_count(out, buffer.output_latency.0 as u64)
 }

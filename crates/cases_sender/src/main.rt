@@ -1,37 +1,41 @@
 // Replays the list `sender` of both rates: reads the calls of its sessions, makes them on the sender, and writes each line again with the answer and what the sender keeps.
+#![tactic(auto)]
+
 mod answers;
 mod calls;
 
 ghost use Rattle.std.specs.Prelude.{◌≡◌, length};
 
+use cases_text::Lines;
 use given_symbols::Traffic;
 use modulator::{ModulatorFrame, SoftModulator};
+use std::io::{self, BufWriter, Write};
 
-fn answer(m: SoftModulator, line: &[u8]) -> SoftModulator {
+fn answer(out: &mut impl Write, m: SoftModulator, line: &[u8]) -> io::Result<SoftModulator> {
     let name = cases_text::word(line, 0);
     if check::same(name, b"none") {
-        calls::provided(m, ModulatorFrame::Nothing, line)
+        calls::provided(out, m, ModulatorFrame::Nothing, line)
     } else if check::same(name, b"preamble") {
-        calls::preamble(m, Traffic::Ordinary, line)
+        calls::preamble(out, m, Traffic::Ordinary, line)
     } else if check::same(name, b"bert-preamble") {
-        calls::preamble(m, Traffic::Bert, line)
+        calls::preamble(out, m, Traffic::Bert, line)
     } else if check::same(name, b"symbols") {
-        calls::provided(m, ModulatorFrame::Symbols(Traffic::Ordinary), line)
+        calls::provided(out, m, ModulatorFrame::Symbols(Traffic::Ordinary), line)
     } else if check::same(name, b"bert") {
-        calls::provided(m, ModulatorFrame::Symbols(Traffic::Bert), line)
+        calls::provided(out, m, ModulatorFrame::Symbols(Traffic::Bert), line)
     } else if check::same(name, b"end") {
-        calls::provided(m, ModulatorFrame::EndOfTransmission, line)
+        calls::provided(out, m, ModulatorFrame::EndOfTransmission, line)
     } else if check::same(name, b"read") {
-        calls::read(m, line)
+        calls::read(out, m, line)
     } else if check::same(name, b"update") {
-        calls::updated(m, line)
+        calls::updated(out, m, line)
     } else if check::same(name, b"run") {
-        calls::ran(m)
+        calls::ran(out, m)
     } else if check::same(name, b"look") {
-        answers::put_window(m);
-        m
+        answers::put_window(out, m)?;
+        Ok(m)
     } else {
-        calls::windowed(m, line)
+        Ok(calls::windowed(m, line))
     }
 }
 
@@ -43,38 +47,30 @@ fn begun(line: &[u8]) -> SoftModulator {
 }
 
 // A line that names a session starts afresh.
-fn answer_line(m: SoftModulator, line: &[u8]) -> SoftModulator {
-    io::write_all(1, line);
+fn answer_line(out: &mut impl Write, m: SoftModulator, line: &[u8]) -> io::Result<SoftModulator> {
+    out.write_all(line)?;
     if check::same(cases_text::word(line, 0), b"session") {
-        cases_text::end_line();
-        return begun(line);
+        cases_text::end_line(out)?;
+        return Ok(begun(line));
     }
-    io::write_all(1, b" =");
-    let next = answer(m, line);
-    answers::put_kept(next);
-    cases_text::end_line();
-    next
+    out.write_all(b" =")?;
+    let next = answer(out, m, line)?;
+    answers::put_kept(out, next)?;
+    cases_text::end_line(out)?;
+    Ok(next)
 }
 
-fn replay(text: &[u8]) {
+fn replay(out: &mut impl Write, text: &[u8]) -> io::Result<()> {
     let mut m = begun(text);
-    let mut at: usize = 0;
-    while at < text.len() {
-        let end = bytes::scan::find(text, at, text.len(), b'\n');
-        m = answer_line(m, &text[at..end]);
-        at = end + 1;
+    for line in Lines::of(text) {
+        m = answer_line(out, m, line)?;
     }
+    Ok(())
 }
 
-// Room for the whole list. Only its length is told, which lending it as a slice needs.
-fn list_room() -> [u8; 262_144]
-    ensures { 262144 ≡ length result }
-{
-    [0; 262_144]
-}
-
-fn main() {
-    let mut text = list_room();
-    let length = io::read_full(0, &mut text);
-    replay(&text[..length]);
+fn main(rt: HostRuntime) -> io::Result<()> {
+    let mut out = BufWriter::new(rt.alloc(), io::writer(&rt))?;
+    let text = cases_text::read_all(&rt, rt.alloc())?;
+    replay(&mut out, &text)?;
+    out.flush()
 }

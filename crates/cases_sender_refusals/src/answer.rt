@@ -3,6 +3,7 @@ ghost use Rattle.std.specs.Prelude.{◌≤◌};
 
 use modulator::{Made, ModulatorAction, Provided, Read, Updated};
 use protocol::{Place, Refusal};
+use std::io::{self, Write};
 
 #[derive(Clone, Copy)]
 pub(crate) struct Answer {
@@ -114,10 +115,8 @@ pub(crate) fn of_action(answer: ModulatorAction, kept: bool) -> Answer {
 
 fn same_room(a: [i16; 16], b: [i16; 16]) -> bool {
     let mut all = true;
-    let mut i: usize = 0;
-    while i < 16 {
+    for i in 0..16 {
         all = all & (a[i] == b[i]);
-        i += 1;
     }
     all
 }
@@ -166,61 +165,62 @@ pub(crate) fn same(a: Answer, b: Answer) -> bool {
         & same_room(room, other)
 }
 
-fn put_words(words: usize) {
+fn put_words(out: &mut impl Write, words: usize) -> io::Result<()> {
     let list =
         b" refused| wrote| transmit end| read output| idle yes| idle no| get a frame| nothing| done| done, as with none| done, not as with none| and changed";
-    io::write_all(1, cases_text::cell(list, words));
+    out.write_all(cases_text::cell(list, words))
 }
 
-fn put_sample(sample: i16) {
+fn put_sample(out: &mut impl Write, sample: i16) -> io::Result<()> {
     if sample == UNWRITTEN {
-        io::write_all(1, b" -");
+        out.write_all(b" -")
     } else {
-        cases_text::put_signed(sample);
+        cases_text::put_signed(out, sample)
     }
 }
 
-fn put_room(room: [i16; 16], size: usize)
+fn put_room(out: &mut impl Write, room: [i16; 16], size: usize) -> io::Result<()>
     requires { size ≤ 16 }
 {
-    io::write_all(1, b":");
-    let mut i: usize = 0;
-    while i < size {
-        put_sample(room[i]);
-        i += 1;
+    out.write_all(b":")?;
+    for i in 0..size {
+        put_sample(out, room[i])?;
     }
+    Ok(())
 }
 
-fn put_place(place: Place) {
+fn put_place(out: &mut impl Write, place: Place) -> io::Result<()> {
     match place {
         Place::Nothing => (),
         Place::Symbol(at) => {
-            io::write_all(1, b" at");
-            cases_text::put_count(at as u64);
+            out.write_all(b" at")?;
+            cases_text::put_count(out, at as u64)?;
         }
         Place::Line(line) => {
-            io::write_all(1, b" line");
-            cases_text::put_count(line as u64);
+            out.write_all(b" line")?;
+            cases_text::put_count(out, line as u64)?;
         }
     }
+    Ok(())
 }
 
 // What is in the room is shown where the line says how large it is.
-pub(crate) fn put(answer: Answer, parts: &[u8]) {
+pub(crate) fn put(out: &mut impl Write, answer: Answer, parts: &[u8]) -> io::Result<()> {
     let room = answer.room;
     let place = answer.place;
-    put_words(answer.words);
+    put_words(out, answer.words)?;
     if answer.words <= TRANSMIT_END {
-        cases_text::put_count(answer.number);
+        cases_text::put_count(out, answer.number)?;
     }
-    put_place(place);
+    put_place(out, place)?;
     if answer.changed {
-        put_words(AND_CHANGED);
+        put_words(out, AND_CHANGED)?;
     }
     if answer.words == WROTE {
         let size = cases_text::count_behind(parts, b"room", 17) as usize;
         if size <= 16 {
-            put_room(room, size);
+            put_room(out, room, size)?;
         }
     }
+    Ok(())
 }

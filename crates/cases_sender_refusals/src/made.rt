@@ -44,11 +44,9 @@ pub(crate) fn count(parts: &[u8], place: usize) -> usize {
 // A sample of its own in each place, so that none can move unseen: place i holds 1000 + i.
 fn store() -> [i16; 4000] {
     let mut store = [0i16; 4000];
-    let mut place: usize = 0;
-    while place < 4000 {
+    for place in 0..4000 {
         let sample = place + 1000;
         store[place] = sample as i16;
-        place += 1;
     }
     store
 }
@@ -57,11 +55,9 @@ fn store() -> [i16; 4000] {
 fn ramp() -> [f32; 81] {
     let mut window = [0.0f32; 81];
     let mut value: f32 = 1.0;
-    let mut place: usize = 0;
-    while place < 81 {
+    for place in 0..81 {
         window[place] = value;
         value = value + 1.0;
-        place += 1;
     }
     window
 }

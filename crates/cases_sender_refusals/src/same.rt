@@ -3,20 +3,16 @@ use modulator::{EndReport, OutputBuffer, Pending, Progress, SoftModulator};
 
 fn same_store(a: [i16; 4000], b: [i16; 4000]) -> bool {
     let mut all = true;
-    let mut i: usize = 0;
-    while i < 4000 {
+    for i in 0..4000 {
         all = all & (a[i] == b[i]);
-        i += 1;
     }
     all
 }
 
 fn same_window(a: [f32; 81], b: [f32; 81]) -> bool {
     let mut all = true;
-    let mut i: usize = 0;
-    while i < 81 {
+    for i in 0..81 {
         all = all & cases_text::same_float(a[i], b[i]);
-        i += 1;
     }
     all
 }

@@ -1,54 +1,57 @@
 // A look at a record.
 use modulator::{EndReport, OutputBuffer, Pending, Progress, SoftModulator};
+use std::io::{self, Write};
 
-fn put_label(label: usize) {
+fn put_label(out: &mut impl Write, label: usize) -> io::Result<()> {
     let list = b" length| read| padding| fill| capacity| latency| owed| end| wished| idle";
-    io::write_all(1, cases_text::cell(list, label));
+    out.write_all(cases_text::cell(list, label))
 }
 
-fn put_number(label: usize, n: usize) {
-    put_label(label);
-    cases_text::put_count(n as u64);
+fn put_number(out: &mut impl Write, label: usize, n: usize) -> io::Result<()> {
+    put_label(out, label)?;
+    cases_text::put_count(out, n as u64)
 }
 
-fn put_numbers(progress: Progress, buffer: OutputBuffer) {
-    put_number(0, progress.next_len);
-    put_number(1, progress.next_read);
-    put_number(2, progress.tx_delay_padding.0);
-    put_number(3, buffer.samples_in_buf.0);
-    put_number(4, buffer.buf_capacity.0);
-    put_number(5, buffer.output_latency.0);
+fn put_numbers(out: &mut impl Write, progress: Progress, buffer: OutputBuffer) -> io::Result<()> {
+    put_number(out, 0, progress.next_len)?;
+    put_number(out, 1, progress.next_read)?;
+    put_number(out, 2, progress.tx_delay_padding.0)?;
+    put_number(out, 3, buffer.samples_in_buf.0)?;
+    put_number(out, 4, buffer.buf_capacity.0)?;
+    put_number(out, 5, buffer.output_latency.0)
 }
 
-fn put_report(report: EndReport) {
+fn put_report(out: &mut impl Write, report: EndReport) -> io::Result<()> {
     if let EndReport::After(end) = report {
-        put_number(7, end.0);
+        put_number(out, 7, end.0)?;
     }
+    Ok(())
 }
 
-fn put_pending(pending: Pending) {
+fn put_pending(out: &mut impl Write, pending: Pending) -> io::Result<()> {
     let report = pending.report_tx_end;
     if pending.calculate_tx_end {
-        put_label(6);
+        put_label(out, 6)?;
     }
-    put_report(report);
+    put_report(out, report)?;
     if pending.try_get_frame {
-        put_label(8);
+        put_label(out, 8)?;
     }
     if pending.update_idle {
-        put_label(9);
+        put_label(out, 9)?;
     }
+    Ok(())
 }
 
 // All but the store and the window.
-pub(crate) fn all(m: SoftModulator) -> SoftModulator {
-    put_numbers(m.progress, m.buffer);
-    put_pending(m.pending);
-    m
+pub(crate) fn all(out: &mut impl Write, m: SoftModulator) -> io::Result<SoftModulator> {
+    put_numbers(out, m.progress, m.buffer)?;
+    put_pending(out, m.pending)?;
+    Ok(m)
 }
 
 // The first sample of the store.
-pub(crate) fn first(m: SoftModulator) -> SoftModulator {
-    cases_text::put_signed(m.next_transmission[0]);
-    m
+pub(crate) fn first(out: &mut impl Write, m: SoftModulator) -> io::Result<SoftModulator> {
+    cases_text::put_signed(out, m.next_transmission[0])?;
+    Ok(m)
 }

@@ -4,6 +4,7 @@ use crate::answer;
 use crate::same::same;
 use modulator::{Provided, SoftModulator};
 use sending::{AfterPart, Sending};
+use std::io::{self, Write};
 
 // 55F7 and 92 digits 0, and a line feed.
 fn whole_case() -> [u8; 97] {
@@ -54,41 +55,46 @@ fn is_silent(after: AfterPart) -> bool {
         & !after.last
 }
 
-fn put_label(label: usize) {
+fn put_label(out: &mut impl Write, label: usize) -> io::Result<()> {
     let list = b" taken| length| have| number| bad| last";
-    io::write_all(1, cases_text::cell(list, label));
+    out.write_all(cases_text::cell(list, label))
 }
 
-fn put_number(label: usize, n: u64) {
-    put_label(label);
-    cases_text::put_count(n);
+fn put_number(out: &mut impl Write, label: usize, n: u64) -> io::Result<()> {
+    put_label(out, label)?;
+    cases_text::put_count(out, n)
 }
 
-fn put_done(after: AfterPart) {
+fn put_done(out: &mut impl Write, after: AfterPart) -> io::Result<()> {
     let sending = after.sending;
-    put_number(0, after.taken as u64);
-    put_number(1, after.length as u64);
-    put_number(2, sending.have as u64);
-    put_number(3, sending.number);
+    put_number(out, 0, after.taken as u64)?;
+    put_number(out, 1, after.length as u64)?;
+    put_number(out, 2, sending.have as u64)?;
+    put_number(out, 3, sending.number)?;
     if after.bad {
-        put_label(4);
+        put_label(out, 4)?;
     }
     if after.last {
-        put_label(5);
+        put_label(out, 5)?;
     }
+    Ok(())
 }
 
 // What comes back is the sender's record.
-pub(crate) fn turn(m: SoftModulator, parts: &[u8]) -> SoftModulator {
+pub(crate) fn turn(
+    out: &mut impl Write,
+    m: SoftModulator,
+    parts: &[u8],
+) -> io::Result<SoftModulator> {
     let before = start(m, parts);
     let n = cases_text::count_behind(parts, b"bytes", 0) as usize;
     let after = before.turn(read_bytes(parts), n);
     let answer = after.answer;
     let next = after.sending;
     let kept = is_same(before, next) & is_silent(after);
-    answer::put(answer::of_frame(answer, kept, answer::DONE), parts);
+    answer::put(out, answer::of_frame(answer, kept, answer::DONE), parts)?;
     if let Provided::Done = answer {
-        put_done(after);
+        put_done(out, after)?;
     }
-    next.modulator
+    Ok(next.modulator)
 }

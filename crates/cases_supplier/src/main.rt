@@ -1,9 +1,13 @@
 // Replays the list `supplier`: holds stretches of samples, whole and damaged, beside what the sender sends of a text, and writes each line again with what the checker says.
+#![tactic(auto)]
+
 mod pieces;
 
 ghost use Rattle.std.specs.Prelude.{◌≡◌, length};
 
+use cases_text::Lines;
 use protocol::{Place, Refusal};
+use std::io::{self, BufWriter, Write};
 use supplier::Checked;
 
 // How many bytes the text has, and how many samples the recording.
@@ -18,83 +22,88 @@ fn decimal(line: &[u8], k: usize) -> usize {
 }
 
 // A bad line's number after the refusal's own.
-fn put_refusal(why: Refusal) {
-    io::write_all(1, b" refused");
-    cases_text::put_count(why.number() as u64);
+fn put_refusal(out: &mut impl Write, why: Refusal) -> io::Result<()> {
+    out.write_all(b" refused")?;
+    cases_text::put_count(out, why.number() as u64)?;
     let place = why.place();
     match place {
-        Place::Nothing => {}
-        Place::Symbol(at) => cases_text::put_count(at as u64),
-        Place::Line(number) => cases_text::put_count(number as u64),
+        Place::Nothing => Ok(()),
+        Place::Symbol(at) => cases_text::put_count(out, at as u64),
+        Place::Line(number) => cases_text::put_count(out, number as u64),
     }
 }
 
-fn put_answer(answer: Checked) {
-    io::write_all(1, b" =");
+fn put_answer(out: &mut impl Write, answer: Checked) -> io::Result<()> {
+    out.write_all(b" =")?;
     match answer {
-        Checked::Refused(why) => put_refusal(why),
-        Checked::Yes => {
-            io::write_all(1, b" yes");
-        }
+        Checked::Refused(why) => put_refusal(out, why)?,
+        Checked::Yes => out.write_all(b" yes")?,
         Checked::Differs(sample) => {
-            io::write_all(1, b" differs");
-            cases_text::put_count(sample as u64);
+            out.write_all(b" differs")?;
+            cases_text::put_count(out, sample as u64)?;
         }
-        Checked::Short => {
-            io::write_all(1, b" short");
-        }
-        Checked::Long => {
-            io::write_all(1, b" long");
-        }
+        Checked::Short => out.write_all(b" short")?,
+        Checked::Long => out.write_all(b" long")?,
     }
-    cases_text::end_line();
+    cases_text::end_line(out)
 }
 
 // The padding that is stated; zeros, the recording after them, and zeros after it, up to a length; one sample of these raised.
-fn check(line: &[u8], text: &[u8], recording: &[i16], stretch: &mut [i16]) {
+fn check(
+    out: &mut impl Write,
+    line: &[u8],
+    text: &[u8],
+    recording: &[i16],
+    stretch: &mut [i16],
+) -> io::Result<()> {
     let padding = decimal(line, 1);
     let zeros = decimal(line, 2);
     let count = pieces::lay(stretch, recording, zeros, decimal(line, 3));
     pieces::raise(stretch, decimal(line, 4), decimal(line, 5));
-    put_answer(supplier::check(padding, text, pieces::samples_front(stretch, count)));
+    put_answer(
+        out,
+        supplier::check(padding, text, pieces::samples_front(stretch, count)),
+    )
 }
 
 fn answer_line(
+    out: &mut impl Write,
     line: &[u8],
     text: &mut [u8],
     recording: &mut [i16],
     stretch: &mut [i16],
     lengths: Lengths,
-) -> Lengths {
-    io::write_all(1, line);
+) -> io::Result<Lengths> {
+    out.write_all(line)?;
     let name = cases_text::word(line, 0);
     if check::same(name, b"check") {
         check(
+            out,
             line,
             pieces::bytes_front(text, lengths.text),
             pieces::samples_front(recording, lengths.recording),
             stretch,
-        );
-        return lengths;
+        )?;
+        return Ok(lengths);
     }
-    cases_text::end_line();
+    cases_text::end_line(out)?;
     if check::same(name, b"text") {
-        Lengths {
+        Ok(Lengths {
             text: pieces::put_bytes(text, cases_text::word(line, 2)),
             recording: 0,
-        }
+        })
     } else if check::same(name, b"samples") {
-        Lengths {
+        Ok(Lengths {
             text: lengths.text,
             recording: pieces::put_samples(recording, lengths.recording, cases_text::word(line, 1)),
-        }
+        })
     } else {
-        lengths
+        Ok(lengths)
     }
 }
 
 // Room for four lines, for what is sent of them, and for the longest padding before it.
-fn replay(list: &[u8]) {
+fn replay(out: &mut impl Write, list: &[u8]) -> io::Result<()> {
     let mut text = [0u8; 400];
     let mut recording = [0i16; 12_400];
     let mut stretch = [0i16; 134_900];
@@ -102,29 +111,15 @@ fn replay(list: &[u8]) {
         text: 0,
         recording: 0,
     };
-    let mut at: usize = 0;
-    while at < list.len() {
-        let end = bytes::scan::find(list, at, list.len(), b'\n');
-        lengths = answer_line(
-            &list[at..end],
-            &mut text,
-            &mut recording,
-            &mut stretch,
-            lengths,
-        );
-        at = end + 1;
+    for line in Lines::of(list) {
+        lengths = answer_line(out, line, &mut text, &mut recording, &mut stretch, lengths)?;
     }
+    Ok(())
 }
 
-// Room for the list. Only its length is told, which lending it as a slice needs.
-fn room() -> [u8; 196_608]
-    ensures { 196608 ≡ length result }
-{
-    [0; 196_608]
-}
-
-fn main() {
-    let mut list = room();
-    let length = io::read_full(0, &mut list);
-    replay(&list[..length]);
+fn main(rt: HostRuntime) -> io::Result<()> {
+    let mut out = BufWriter::new(rt.alloc(), io::writer(&rt))?;
+    let list = cases_text::read_all(&rt, rt.alloc())?;
+    replay(&mut out, &list)?;
+    out.flush()
 }

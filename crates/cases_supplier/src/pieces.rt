@@ -38,11 +38,9 @@ fn sample_of(pattern: usize) -> i16 {
 // Two digits are a byte. The text's length comes back.
 pub(crate) fn put_bytes(text: &mut [u8], digits: &[u8]) -> usize {
     let most = least(digits.len() / 2, text.len());
-    let mut i: usize = 0;
-    while i < most {
+    for i in 0..most {
         let first = 2 * i;
         text[i] = (number_at(digits, first, 2) % 256) as u8;
-        i += 1;
     }
     most
 }
@@ -52,12 +50,10 @@ pub(crate) fn put_samples(recording: &mut [i16], at: usize, digits: &[u8]) -> us
     let begin = least(at, recording.len());
     let room = recording.len() - begin;
     let count = least(digits.len() / 4, room);
-    let mut i: usize = 0;
-    while i < count {
+    for i in 0..count {
         let place = begin + i;
         let first = 4 * i;
         recording[place] = sample_of(number_at(digits, first, 4));
-        i += 1;
     }
     begin + count
 }
@@ -74,10 +70,8 @@ fn sample_at(recording: &[i16], zeros: usize, place: usize) -> i16 {
 // So many samples of the stretch, as far as there is room. How many comes back.
 pub(crate) fn lay(stretch: &mut [i16], recording: &[i16], zeros: usize, count: usize) -> usize {
     let most = least(count, stretch.len());
-    let mut i: usize = 0;
-    while i < most {
+    for i in 0..most {
         stretch[i] = sample_at(recording, zeros, i);
-        i += 1;
     }
     most
 }

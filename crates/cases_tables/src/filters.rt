@@ -1,6 +1,9 @@
 // The list `filters`: the samples of each run go into a window of its own, and each line is written again with the filtered value.
 ghost use Rattle.std.specs.Prelude.{◌<◌, ◌≤◌};
 
+use cases_text::Lines;
+use std::io::{self, Write};
+
 // The samples in a symbol are `p`.
 #[derive(Clone, Copy)]
 struct Window {
@@ -56,28 +59,26 @@ fn fed(window: Window, sample: i16) -> Window {
 }
 
 // A line that names a run starts afresh.
-fn answer_line(window: Window, line: &[u8]) -> Window {
-    io::write_all(1, line);
+fn answer_line(out: &mut impl Write, window: Window, line: &[u8]) -> io::Result<Window> {
+    out.write_all(line)?;
     if cases_text::begins(line, b'r') {
-        cases_text::end_line();
-        return begun(line);
+        cases_text::end_line(out)?;
+        return Ok(begun(line));
     }
     let next = fed(window, cases_text::sample(line));
     let p = next.p;
     let oldest = next.oldest;
     let value = shaping::filter_samples(p, &next.samples, oldest);
-    io::write_all(1, b" =");
-    cases_text::put_float(value);
-    cases_text::end_line();
-    next
+    out.write_all(b" =")?;
+    cases_text::put_float(out, value)?;
+    cases_text::end_line(out)?;
+    Ok(next)
 }
 
-pub(crate) fn replay(text: &[u8]) {
+pub(crate) fn replay(out: &mut impl Write, text: &[u8]) -> io::Result<()> {
     let mut window = fresh(10);
-    let mut at: usize = 0;
-    while at < text.len() {
-        let end = bytes::scan::find(text, at, text.len(), b'\n');
-        window = answer_line(window, &text[at..end]);
-        at = end + 1;
+    for line in Lines::of(text) {
+        window = answer_line(out, window, line)?;
     }
+    Ok(())
 }

@@ -1,54 +1,57 @@
 // Writes the lists `taps` of both rates, `bursts` and `frames` from the port's tables, and replays the list `filters` of both rates.
+#![tactic(auto)]
+
 use protocol::{Kind, SyncBurst};
+use std::io::{self, BufWriter, Write};
 
 mod filters;
 
-fn put_tap(i: usize, tap: f32) {
-    io::print_decimal(1, i as u64);
-    cases_text::put_float(tap);
-    cases_text::end_line();
+fn put_tap(out: &mut impl Write, i: usize, tap: f32) -> io::Result<()> {
+    write!(out, "{}", i as u64)?;
+    cases_text::put_float(out, tap)?;
+    cases_text::end_line(out)
 }
 
-fn put_taps(taps: &[f32]) {
-    let mut i: usize = 0;
-    while i < taps.len() {
-        put_tap(i, taps[i]);
-        i += 1;
+fn put_taps(out: &mut impl Write, taps: &[f32]) -> io::Result<()> {
+    for i in 0..taps.len() {
+        put_tap(out, i, taps[i])?;
     }
+    Ok(())
 }
 
-fn put_burst(name: &[u8], burst: SyncBurst) {
-    io::write_all(1, name);
+fn put_burst(out: &mut impl Write, name: &[u8], burst: SyncBurst) -> io::Result<()> {
+    out.write_all(name)?;
     let signs = burst.target();
     for i in 0..8 {
-        cases_text::put_signed(signs[i] as i16);
+        cases_text::put_signed(out, signs[i] as i16)?;
     }
-    cases_text::end_line();
+    cases_text::end_line(out)
 }
 
-fn put_frame(name: &[u8], symbols: [f32; 192]) {
-    io::write_all(1, name);
+fn put_frame(out: &mut impl Write, name: &[u8], symbols: [f32; 192]) -> io::Result<()> {
+    out.write_all(name)?;
     for i in 0..192 {
-        cases_text::put_float(symbols[i]);
+        cases_text::put_float(out, symbols[i])?;
     }
-    cases_text::end_line();
+    cases_text::end_line(out)
 }
 
-fn main() {
+fn main(rt: HostRuntime) -> io::Result<()> {
+    let mut out = BufWriter::new(rt.alloc(), io::writer(&rt))?;
     let taps = shaping::rrc_48k();
     let half = shaping::rrc_24k();
-    put_taps(&taps);
-    put_taps(&half);
-    put_burst(b"preamble", SyncBurst::Preamble);
-    put_burst(b"end", SyncBurst::EndOfTransmission);
-    put_burst(b"lsf", SyncBurst::Frame(Kind::Lsf));
-    put_burst(b"bert", SyncBurst::Frame(Kind::Bert));
-    put_burst(b"stream", SyncBurst::Frame(Kind::Stream));
-    put_burst(b"packet", SyncBurst::Frame(Kind::Packet));
-    put_frame(b"preamble", encode::generate_preamble());
-    put_frame(b"bert-preamble", encode::generate_bert_preamble());
-    put_frame(b"end", encode::generate_end_of_transmission());
-    let mut text = io::large_buffer();
-    let length = io::read_full(0, &mut text);
-    filters::replay(&text[..length]);
+    put_taps(&mut out, &taps)?;
+    put_taps(&mut out, &half)?;
+    put_burst(&mut out, b"preamble", SyncBurst::Preamble)?;
+    put_burst(&mut out, b"end", SyncBurst::EndOfTransmission)?;
+    put_burst(&mut out, b"lsf", SyncBurst::Frame(Kind::Lsf))?;
+    put_burst(&mut out, b"bert", SyncBurst::Frame(Kind::Bert))?;
+    put_burst(&mut out, b"stream", SyncBurst::Frame(Kind::Stream))?;
+    put_burst(&mut out, b"packet", SyncBurst::Frame(Kind::Packet))?;
+    put_frame(&mut out, b"preamble", encode::generate_preamble())?;
+    put_frame(&mut out, b"bert-preamble", encode::generate_bert_preamble())?;
+    put_frame(&mut out, b"end", encode::generate_end_of_transmission())?;
+    let text = cases_text::read_all(&rt, rt.alloc())?;
+    filters::replay(&mut out, &text)?;
+    out.flush()
 }

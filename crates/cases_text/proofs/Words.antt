@@ -8,8 +8,10 @@ use native.Mathlib.Numerals.{add-one}
 use native.Mathlib.Omega.{arith}
 use borrow.Author.Tests.{eqb-true, eq-eqb, lt-ltb, le-ltb}
 use lib.Dec.{eqb}
-use lib.ListN.{length}
-use Rattle.cases_text.specs.Places.{begin_of, end_of, between, part_of, word_of}
+use lib.ListN.{length, get_or, drop}
+use Rattle.std.proofs.Math.Seq.{drop-cons}
+use Rattle.std.proofs.lemmas.List.{drop_all}
+use Rattle.cases_text.specs.Places.{index_of, begin_of, end_of, between, part_of, word_of}
 use Rattle.cases_text.specs.Behind.{same_word, behind_to}
 
 -- two tests of one fact agree
@@ -41,6 +43,19 @@ as_itself (x ∷ u) = rw (eq-eqb x x refl) (as_itself u)
 pub same_word_lem : (a b : List ℕ) (r : Bool) → (r ≡ true → a ≡ b) → (a ≡ b → r ≡ true) → r ≡ same_word a b
 same_word_lem a b r told seen =
     same_test r (same_word a b) told seen (same_letters a b) (λ e. subst (λ (w : List ℕ). same_word a w ≡ true) e (as_itself a))
+
+-- a letter that stands at a place is the first from there on, one that does not is looked for from the next place on, and past the end there is none
+pub index_here : (letter : ℕ) (line : List ℕ) (k : ℕ) → k < length line → get_or line k 0 ≡ letter → index_of letter (drop k line) ≡ 0
+unfolding index_of
+index_here letter line k l e = rw (drop-cons line k 0 l, eq-eqb _ _ e)
+
+pub index_passed : (letter : ℕ) (line : List ℕ) (k : ℕ) → k < length line → eqb (get_or line k 0) letter ≡ false → index_of letter (drop k line) ≡ index_of letter (drop (k + 1) line) + 1
+unfolding index_of
+index_passed letter line k l e = rw (drop-cons line k 0 l, e, add-one k, add-one (index_of letter (drop (suc k) line)))
+
+pub index_at_end : (letter : ℕ) (line : List ℕ) (k : ℕ) → length line ≤ k → index_of letter (drop k line) ≡ 0
+unfolding index_of
+index_at_end letter line k h = rw (drop_all k line h)
 
 -- the next part begins after the end of this one, at most at the line's end
 pub next_begins : (letter : ℕ) (line : List ℕ) (k at end : ℕ) → at ≡ begin_of letter line k → end ≡ end_of letter line at → min (end + 1) (length line) ≡ begin_of letter line (k + 1)

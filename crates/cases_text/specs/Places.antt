@@ -1,13 +1,17 @@
 -- Where the parts of a line lie that a letter stands between: its words, one space apart (32), and its cells, between bars (124). Assumes nothing.
-use Rattle.std.specs.Prelude.{◌≡◌, Bool, ◌&&◌, List, ℕ, zero, suc, ◌+◌, ◌-◌, ◌≤◌, min, ltb, eqb, length, get_or, take, drop}
-use Rattle.bytes.specs.Bytes.{index_of, slice}
+use Rattle.std.specs.Prelude.{◌≡◌, Bool, ◌&&◌, cond, List, [], ◌∷◌, ℕ, zero, suc, ◌+◌, ◌-◌, ◌≤◌, min, ltb, eqb, length, get_or, take, drop}
 
 unfoldable pub begins : List ℕ → ℕ → Bool
 begins word letter = ltb 0 (length word) && eqb (get_or word 0 0) letter
 
+-- how many letters stand before the first that is the given one, and all where none is
+unfoldable pub index_of : ℕ → List ℕ → ℕ
+index_of letter [] = 0
+index_of letter (a ∷ line) = cond (eqb a letter) 0 (suc (index_of letter line))
+
 -- the end of the part that begins at a place: the next such letter, or the line's end
 unfoldable pub end_of : ℕ → List ℕ → ℕ → ℕ
-end_of letter line at = at + index_of letter (slice at (length line) line)
+end_of letter line at = at + index_of letter (drop at line)
 
 -- part k begins after the letter that ends the part before it; past the last part, at the line's end
 unfoldable pub begin_of : ℕ → List ℕ → ℕ → ℕ

@@ -1,7 +1,7 @@
 // What a line of words names, and what is after a name.
 ghost use Rattle.cases_text.specs.Behind.{PlaceBehindSays, NamesSays, CountBehindSays, FloatBehindSays};
 
-use crate::places::next;
+use crate::places::{find, next};
 use crate::{decimal, float, word};
 
 // The place after the last word that is the name, 0 where none is.
@@ -12,7 +12,7 @@ pub fn place_behind(words: &[u8], name: &[u8]) -> usize
     let mut at: usize = 0;
     let mut k: usize = 0;
     while at < words.len() {
-        let end = bytes::scan::find(words, at, words.len(), b' ');
+        let end = find(words, b' ', at);
         if check::same(&words[at..end], name) {
             place = k + 1;
         }

@@ -1,6 +1,6 @@
 // Where the parts of a line begin and end.
 ghost use Rattle.std.specs.Prelude.{◌≡◌, ◌+◌, ◌≤◌, min, length};
-ghost use Rattle.cases_text.specs.Places.{PartBegins, part_of, BeginsSays, WordSays, CellSays};
+ghost use Rattle.cases_text.specs.Places.{PartBegins, end_of, part_of, BeginsSays, WordSays, CellSays};
 
 pub fn begins(word: &[u8], letter: u8) -> bool
     ensures { BeginsSays word.now letter result }
@@ -10,6 +10,20 @@ pub fn begins(word: &[u8], letter: u8) -> bool
     } else {
         false
     }
+}
+
+// The next such letter from a place on, or the line's end.
+pub(crate) fn find(line: &[u8], letter: u8, at: usize) -> usize
+    requires { at ≤ length line.now }
+    ensures value { result ≡ end_of letter line.now at }
+    ensures low { at ≤ result }
+    ensures high { result ≤ length line.now }
+{
+    let mut end = at;
+    while end < line.len() && line[end] != letter {
+        end += 1;
+    }
+    end
 }
 
 // The place after one, at most the line's end.
@@ -27,7 +41,7 @@ fn begin(line: &[u8], letter: u8, k: usize) -> usize
     let mut at: usize = 0;
     let mut i: usize = 0;
     while i < k {
-        let end = bytes::scan::find(line, at, line.len(), letter);
+        let end = find(line, letter, at);
         at = next(line, end);
         i += 1;
     }
@@ -38,7 +52,7 @@ fn part(line: &[u8], letter: u8, k: usize) -> &[u8]
     ensures { result.now ≡ part_of letter line.now k }
 {
     let at = begin(line, letter, k);
-    let end = bytes::scan::find(line, at, line.len(), letter);
+    let end = find(line, letter, at);
     &line[at..end]
 }
 

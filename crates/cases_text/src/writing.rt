@@ -1,49 +1,48 @@
-// Answers on standard output, each after a space. No contract can say what is written there.
-ghost use Rattle.std.specs.Prelude.{◌≡◌, nat_abs};
+// Answers, each after a space.
+ghost use Rattle.std.specs.Prelude.{◌≤◌, [], ◌∷◌, ◌++◌, OnOk, length, take};
+ghost use Rattle.std.specs.Fmt.{decimal, signed_decimal};
+ghost use Rattle.std.specs.Io.KnownBytes.{Appends};
+ghost use Rattle.cases_text.specs.Written.{float_text};
 
-pub fn end_line() {
-    io::write_all(1, b"\n");
+use std::io::{self, Write};
+
+pub fn end_line<W: Write>(out: &mut W) -> io::Result<()>
+    ensures { OnOk result (Appends (W.contents out.old) (W.contents out.new) (10 ∷ [])) }
+{
+    out.write_all(b"\n")
 }
 
-pub fn put_count(n: u64) {
-    io::write_all(1, b" ");
-    io::print_decimal(1, n);
+pub fn put_count<W: Write>(out: &mut W, n: u64) -> io::Result<()>
+    ensures { OnOk result (Appends (W.contents out.old) (W.contents out.new) (32 ∷ decimal n)) }
+{
+    write!(out, " {n}")
 }
 
 // The eight digits of the bit pattern, or `nan`, which has no pattern of its own.
-pub fn put_float(x: f32) {
-    if x != x {
-        io::write_all(1, b" nan");
-    } else {
-        io::write_all(1, b" ");
-        let pattern = f32::to_bits(x);
-        io::print_hex(1, pattern as u64, 8);
-    }
-}
-
-fn size(z: i16) -> u64
-    ensures { result ≡ nat_abs z }
+pub fn put_float<W: Write>(out: &mut W, x: f32) -> io::Result<()>
+    ensures { OnOk result (Appends (W.contents out.old) (W.contents out.new) (32 ∷ float_text x)) }
 {
-    let wide = z as i64;
-    if wide < 0 {
-        (-wide) as u64
+    if x != x {
+        out.write_all(b" nan")
     } else {
-        wide as u64
+        let pattern = f32::to_bits(x);
+        write!(out, " {pattern:08x}")
     }
 }
 
-pub fn put_signed(z: i16) {
-    if z < 0 {
-        io::write_all(1, b" -");
-    } else {
-        io::write_all(1, b" ");
-    }
-    io::print_decimal(1, size(z));
+pub fn put_signed<W: Write>(out: &mut W, z: i16) -> io::Result<()>
+    ensures { OnOk result (Appends (W.contents out.old) (W.contents out.new) (32 ∷ signed_decimal z)) }
+{
+    write!(out, " {z}")
 }
 
-// The first `length` of the bytes; none where there are fewer.
-pub fn put_front(bytes: &[u8], length: usize) {
-    if length <= bytes.len() {
-        io::write_all(1, &bytes[..length]);
+// The first `count` of the bytes; none where there are fewer.
+pub fn put_front<W: Write>(out: &mut W, bytes: &[u8], count: usize) -> io::Result<()>
+    ensures { OnOk result (count ≤ length bytes.now → Appends (W.contents out.old) (W.contents out.new) (take count bytes.now)) }
+{
+    if count <= bytes.len() {
+        out.write_all(&bytes[..count])
+    } else {
+        Ok(())
     }
 }

@@ -1,10 +1,12 @@
 // Reads lines of the house format from standard input, and writes the samples of their transmission to standard output, two bytes each,
 // the low one first. Where a read or a write fails it stops and says so on standard error; what it wrote by then begins the right output.
+#![tactic(auto)]
+
 ghost use Rattle.std.specs.Prelude.{◌≤◌};
 
 use house::Text;
-use libc::{STDIN_FILENO, STDOUT_FILENO};
 use sending::{AfterPart, Sending};
+use std::io::{Read, Write};
 
 // The part that came last, whether all went well until here, and what is said if the program stops with it.
 #[derive(Clone, Copy)]
@@ -22,12 +24,12 @@ struct Got {
 }
 
 // From a fresh start no turn is refused. A refused one has taken no byte of its read and gives nothing to be written: the program cannot go on.
-fn put(part: AfterPart) -> Turn
+fn put(out: &mut impl Write, part: AfterPart) -> Turn
     requires { part.length ≤ 5440 }
 {
     let bytes = part.bytes;
     let length = part.length;
-    let written = io::write_all(STDOUT_FILENO, &bytes[..length]);
+    let written = out.write_all(&bytes[..length]).is_ok();
     let words = part.last_words(true, written);
     let admitted = part.is_admitted();
     Turn {
@@ -37,20 +39,22 @@ fn put(part: AfterPart) -> Turn
     }
 }
 
-fn read_some(room: &mut [u8]) -> Got {
-    let got = libc::read(STDIN_FILENO, room);
-    Got {
-        fine: got >= 0,
-        count: io::count(got, room),
+fn read_some(input: &mut impl Read, room: &mut [u8]) -> Got {
+    match input.read(room) {
+        Ok(count) => Got { fine: true, count },
+        Err(_) => Got {
+            fine: false,
+            count: 0,
+        },
     }
 }
 
 // Reads once, no more than the line at hand lacks.
-fn next_turn(before: AfterPart) -> Turn {
+fn next_turn(input: &mut impl Read, out: &mut impl Write, before: AfterPart) -> Turn {
     let sending = before.sending;
     let mut bytes = [0u8; 97];
     let wanted = sending.lacks();
-    let got = read_some(&mut bytes[..wanted]);
+    let got = read_some(input, &mut bytes[..wanted]);
     if !got.fine {
         let words = before.last_words(false, true);
         return Turn {
@@ -59,16 +63,18 @@ fn next_turn(before: AfterPart) -> Turn {
             words,
         };
     }
-    put(sending.turn(bytes, got.count))
+    put(out, sending.turn(bytes, got.count))
 }
 
 // A proved loop has to end, and nothing says that the input does: the turns are counted down, from a number that no run uses up.
-fn main() {
-    let mut turn = put(Sending::open());
+fn main(rt: HostRuntime) {
+    let mut input = rt.stdin();
+    let mut out = rt.stdout();
+    let mut turn = put(&mut out, Sending::open());
     let mut turns = u64::MAX;
     while turns > 0 && turn.fine && !turn.part.last {
-        turn = next_turn(turn.part);
+        turn = next_turn(&mut input, &mut out, turn.part);
         turns -= 1;
     }
-    telling::tell(turn.words);
+    telling::tell(&mut rt.stderr(), turn.words);
 }

@@ -12,11 +12,9 @@ pub(crate) fn text_room() -> [u8; 9_700]
 
 // The line again and again.
 pub(crate) fn put_lines(text: &mut [u8], line: [u8; 97]) {
-    let mut i: usize = 0;
-    while i < text.len() {
+    for i in 0..text.len() {
         let from = i % 97;
         text[i] = line[from];
-        i += 1;
     }
 }
 

@@ -16,13 +16,11 @@ fn at_most(count: usize) -> usize
 fn with_offers(count: usize, numbers: [u64; 405], symbols: [f32; 15_552]) -> u64 {
     let listed = at_most(count);
     let mut sum: u64 = 0;
-    let mut offer: usize = 0;
-    while offer < listed {
+    for offer in 0..listed {
         let sample = 5 * offer + 1;
         let window = 192 * offer;
         let end = window + 192;
         sum = sums::with_floats(sums::with(sum, numbers[sample]), &symbols[window..end]);
-        offer += 1;
     }
     sum
 }

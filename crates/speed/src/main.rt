@@ -5,9 +5,11 @@
 // all of it is read, one byte is written, and after one byte more of input the job is done and its checksum written, eight bytes, the low
 // one first. So whoever asks can time the job alone, and hold the checksum to the Rust's; that of `c` is
 // whether the checker says yes. The end of the input ends it, and so does a request that is none.
+#![tactic(auto)]
+
 ghost use Rattle.std.specs.Prelude.{◌≤◌, length};
 
-use libc::{STDIN_FILENO, STDOUT_FILENO};
+use std::io::{Read, Write};
 
 mod checker;
 mod listing;
@@ -25,19 +27,19 @@ fn number(first: u8, second: u8, third: u8, fourth: u8) -> u32 {
 }
 
 // Says that the request is read, and waits for the word to begin.
-fn begin() -> bool {
+fn begin(input: &mut impl Read, out: &mut impl Write) -> bool {
     let mut word = [0u8; 1];
-    if !io::write_all(STDOUT_FILENO, b"!") {
+    if out.write_all(b"!").is_err() {
         return false;
     }
-    io::read_full(STDIN_FILENO, &mut word) == 1
+    input.read_exact(&mut word).is_ok()
 }
 
 fn low_byte(n: u64) -> u8 {
     (n % 0x100) as u8
 }
 
-fn tell(sum: u64) -> bool {
+fn tell(out: &mut impl Write, sum: u64) -> bool {
     let bytes = [
         low_byte(sum),
         low_byte(sum / 0x100),
@@ -48,7 +50,7 @@ fn tell(sum: u64) -> bool {
         low_byte(sum / 0x1_0000_0000_0000),
         low_byte(sum / 0x100_0000_0000_0000),
     ];
-    io::write_all(STDOUT_FILENO, &bytes)
+    out.write_all(&bytes).is_ok()
 }
 
 #[derive(Clone, Copy)]
@@ -59,97 +61,105 @@ enum Way {
     Opened,
 }
 
-fn hear_into(rate: u32, way: Way, samples: &mut [i16]) -> bool
+fn hear_into(
+    input: &mut impl Read,
+    out: &mut impl Write,
+    rate: u32,
+    way: Way,
+    samples: &mut [i16],
+) -> bool
     requires { length samples.old ≤ 192000 }
 {
-    if !reading::read_samples(samples) {
+    if !reading::read_samples(input, samples) {
         return false;
     }
-    if !begin() {
+    if !begin(input, out) {
         return false;
     }
     match way {
-        Way::Singly => tell(receiver::by_sample(rate, samples)),
-        Way::InStretches => tell(receiver::by_stretch(rate, samples)),
-        Way::Listed => tell(listing::of_recording(rate, samples)),
-        Way::Opened => tell(replayed::at_its_last(rate, samples)),
+        Way::Singly => tell(out, receiver::by_sample(rate, samples)),
+        Way::InStretches => tell(out, receiver::by_stretch(rate, samples)),
+        Way::Listed => tell(out, listing::of_recording(rate, samples)),
+        Way::Opened => tell(out, replayed::at_its_last(rate, samples)),
     }
 }
 
-fn hear(rate: u32, way: Way, count: usize) -> bool {
+fn hear(input: &mut impl Read, out: &mut impl Write, rate: u32, way: Way, count: usize) -> bool {
     let mut room = reading::sample_room();
     if room.len() < count {
         return false;
     }
-    hear_into(rate, way, &mut room[..count])
+    hear_into(input, out, rate, way, &mut room[..count])
 }
 
-fn send(rate: u32, frames: u32) -> bool {
+fn send(input: &mut impl Read, out: &mut impl Write, rate: u32, frames: u32) -> bool {
     let mut line = [0u8; 97];
-    if io::read_full(STDIN_FILENO, &mut line) < 97 {
+    if input.read_exact(&mut line).is_err() {
         return false;
     }
     let read = house::line_symbols(line);
     let symbols = read.symbols;
-    if !begin() {
+    if !begin(input, out) {
         return false;
     }
-    tell(sender::frames(rate, frames, symbols))
+    tell(out, sender::frames(rate, frames, symbols))
 }
 
-fn check_into(samples: &mut [i16]) -> bool
+fn check_into(input: &mut impl Read, out: &mut impl Write, samples: &mut [i16]) -> bool
     requires { length samples.old ≤ 192000 }
 {
     let mut line = [0u8; 97];
     let mut text = checker::text_room();
-    if !reading::read_samples(samples) {
+    if !reading::read_samples(input, samples) {
         return false;
     }
-    if io::read_full(STDIN_FILENO, &mut line) < 97 {
+    if input.read_exact(&mut line).is_err() {
         return false;
     }
     checker::put_lines(&mut text, line);
-    if !begin() {
+    if !begin(input, out) {
         return false;
     }
-    tell(checker::is_sent(&text, samples))
+    tell(out, checker::is_sent(&text, samples))
 }
 
-fn check(count: usize) -> bool {
+fn check(input: &mut impl Read, out: &mut impl Write, count: usize) -> bool {
     let mut room = reading::sample_room();
     if room.len() < count {
         return false;
     }
-    check_into(&mut room[..count])
+    check_into(input, out, &mut room[..count])
 }
 
 // Whether to go on.
-fn answer() -> bool {
+fn answer(input: &mut impl Read, out: &mut impl Write) -> bool {
     let mut header = [0u8; 5];
-    if io::read_full(STDIN_FILENO, &mut header) < 5 {
+    if input.read_exact(&mut header).is_err() {
         return false;
     }
     let count = number(header[1], header[2], header[3], header[4]);
     match header[0] {
-        b'd' => hear(48_000, Way::Singly, count as usize),
-        b'f' => hear(48_000, Way::InStretches, count as usize),
-        b'l' => hear(48_000, Way::Listed, count as usize),
-        b'o' => hear(48_000, Way::Opened, count as usize),
-        b's' => send(48_000, count),
-        b'c' => check(count as usize),
-        b'D' => hear(24_000, Way::Singly, count as usize),
-        b'F' => hear(24_000, Way::InStretches, count as usize),
-        b'L' => hear(24_000, Way::Listed, count as usize),
-        b'O' => hear(24_000, Way::Opened, count as usize),
-        b'S' => send(24_000, count),
+        b'd' => hear(input, out, 48_000, Way::Singly, count as usize),
+        b'f' => hear(input, out, 48_000, Way::InStretches, count as usize),
+        b'l' => hear(input, out, 48_000, Way::Listed, count as usize),
+        b'o' => hear(input, out, 48_000, Way::Opened, count as usize),
+        b's' => send(input, out, 48_000, count),
+        b'c' => check(input, out, count as usize),
+        b'D' => hear(input, out, 24_000, Way::Singly, count as usize),
+        b'F' => hear(input, out, 24_000, Way::InStretches, count as usize),
+        b'L' => hear(input, out, 24_000, Way::Listed, count as usize),
+        b'O' => hear(input, out, 24_000, Way::Opened, count as usize),
+        b'S' => send(input, out, 24_000, count),
         _ => false,
     }
 }
 
 // A proved loop has to end, and nothing says that the input does: the turns are counted down, from a number that no run uses up.
-fn main() {
+fn main(rt: HostRuntime) {
+    let mut input = rt.stdin();
+    let mut out = rt.stdout();
     let mut turns = u64::MAX;
-    while turns > 0 && answer() {
+    while turns > 0 && answer(&mut input, &mut out) {
         turns -= 1;
     }
 }

@@ -1,7 +1,7 @@
 // A request's samples, two bytes each, the low one first.
 ghost use Rattle.std.specs.Prelude.{◌≡◌, ◌*◌, ◌≤◌, length};
 
-use libc::STDIN_FILENO;
+use std::io::Read;
 
 // Room for the most that a request has. Only its length is told, which lending it as a slice needs.
 pub(crate) fn sample_room() -> [i16; 192_000]
@@ -20,19 +20,17 @@ fn byte_room() -> [u8; 384_000]
 fn put_samples(bytes: &[u8], samples: &mut [i16])
     requires { 2 * length samples.old ≤ length bytes.now }
 {
-    let mut i: usize = 0;
-    while i < samples.len() {
+    for i in 0..samples.len() {
         let low = 2 * i;
         let high = low + 1;
         samples[i] = house::i16_of_bytes(bytes[low], bytes[high]);
-        i += 1;
     }
 }
 
-fn read_bytes(bytes: &mut [u8], samples: &mut [i16]) -> bool
+fn read_bytes(input: &mut impl Read, bytes: &mut [u8], samples: &mut [i16]) -> bool
     requires { 2 * length samples.old ≤ length bytes.old }
 {
-    if io::read_full(STDIN_FILENO, bytes) < bytes.len() {
+    if input.read_exact(bytes).is_err() {
         return false;
     }
     put_samples(bytes, samples);
@@ -40,10 +38,10 @@ fn read_bytes(bytes: &mut [u8], samples: &mut [i16]) -> bool
 }
 
 // As many samples as there is room for.
-pub(crate) fn read_samples(samples: &mut [i16]) -> bool
+pub(crate) fn read_samples(input: &mut impl Read, samples: &mut [i16]) -> bool
     requires { length samples.old ≤ 192000 }
 {
     let mut bytes = byte_room();
     let size = 2 * samples.len();
-    read_bytes(&mut bytes[..size], samples)
+    read_bytes(input, &mut bytes[..size], samples)
 }

@@ -73,8 +73,7 @@ pub(crate) fn by_sample(rate: u32, samples: &[i16]) -> u64 {
     let mut receiver = begun.demodulator;
     let mut room = [0.0f32; 192];
     let mut sum: u64 = 0;
-    let mut i: usize = 0;
-    while i < samples.len() {
+    for i in 0..samples.len() {
         let after = receiver.demod(samples[i], &mut room);
         receiver = after.demodulator;
         sum = with_newest(sum, &receiver.rx_win, places, receiver.rx_cursor, 1);
@@ -85,7 +84,6 @@ pub(crate) fn by_sample(rate: u32, samples: &[i16]) -> u64 {
             let settled = receiver.reply(Reply::Accepted);
             receiver = settled.demodulator;
         }
-        i += 1;
     }
     with_control(sum, receiver.control)
 }

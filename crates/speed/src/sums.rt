@@ -16,10 +16,8 @@ pub(crate) fn with_float(sum: u64, x: f32) -> u64 {
 
 pub(crate) fn with_floats(sum: u64, values: &[f32]) -> u64 {
     let mut longer = sum;
-    let mut i: usize = 0;
-    while i < values.len() {
+    for i in 0..values.len() {
         longer = with_float(longer, values[i]);
-        i += 1;
     }
     longer
 }
@@ -36,10 +34,8 @@ fn with_sample(sum: u64, sample: i16) -> u64 {
 
 pub(crate) fn with_samples(sum: u64, samples: &[i16]) -> u64 {
     let mut longer = sum;
-    let mut i: usize = 0;
-    while i < samples.len() {
+    for i in 0..samples.len() {
         longer = with_sample(longer, samples[i]);
-        i += 1;
     }
     longer
 }

@@ -1,11 +1,13 @@
-// What a program says on standard error when it stops. No contract can say what is written there.
+// What a program says on standard error when it stops.
+#![tactic(auto)]
+
 ghost use Rattle.telling.specs.Texts.{TellSays};
 
 use house::Text;
-use libc::STDERR_FILENO;
+use std::io::Write;
 
-// Tells a text that lies within its bytes, and says whether it does: of one that is said to be longer nothing is written.
-pub fn tell(text: Text) -> bool
+// Tells a text that lies within its bytes, and says whether it does: of one that is said to be longer nothing is written. A write that fails has no place left to be told.
+pub fn tell(errors: &mut impl Write, text: Text) -> bool
     ensures { TellSays text result }
 {
     let bytes = text.bytes;
@@ -13,6 +15,6 @@ pub fn tell(text: Text) -> bool
     if length > bytes.len() {
         return false;
     }
-    io::write_all(STDERR_FILENO, &bytes[..length]);
+    let _ = errors.write_all(&bytes[..length]);
     true
 }

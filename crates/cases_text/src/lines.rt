@@ -1,0 +1,40 @@
+// A program's input, and its lines.
+ghost use Rattle.std.specs.Prelude.{length};
+ghost use Rattle.std.specs.Iterator.{at_most};
+
+use crate::places::{find, next};
+use std::alloc::Global;
+use std::io::{self, Read};
+
+// All that is on standard input.
+pub fn read_all(rt: &impl Input, alloc: Global) -> io::Result<Vec<u8>> {
+    let mut text = Vec::new(alloc);
+    rt.reader().read_to_end(&mut text)?;
+    Ok(text)
+}
+
+// What is left of a text: its lines, each without the letter that ends it.
+#[derive(Drop)]
+pub struct Lines<'a>(&'a [u8]);
+
+impl<'a> Lines<'a> {
+    pub fn of(text: &'a [u8]) -> Lines<'a> {
+        Lines(text)
+    }
+}
+
+impl<'a> Iterator for Lines<'a> {
+    type Item = &'a [u8];
+
+    ghost remaining = { λ s. at_most (length s.0.now) };
+
+    fn next(&mut self) -> Option<&'a [u8]> {
+        let text = self.0;
+        if text.is_empty() {
+            return None;
+        }
+        let end = find(text, b'\n', 0);
+        self.0 = &text[next(text, end)..];
+        Some(&text[..end])
+    }
+}
