@@ -1,5 +1,7 @@
 // The house format of the two programs: a frame's symbols as a line of text and back, samples as bytes and back, the texts that name a bad line and a failure,
 // and the rule by which a program accepts an offered window. All goes by value in arrays of fixed length: no caller can bring too little room.
+#![tactic(auto)]
+
 ghost use Rattle.std.specs.Prelude.{◌≡◌};
 ghost use Rattle.house.specs.Line.{bits_of};
 

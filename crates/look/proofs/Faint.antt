@@ -5,7 +5,7 @@ use Prim.Native.Nat.{ℕ, ◌≤◌, ◌<◌}
 use native.Mathlib.Nat.{zero-lt-suc}
 use native.Mathlib.Omega.{arith}
 use lib.Dec.{T, T_not, not_T, lit≤}
-use lib.Ieee.{Float, nan, inf, fin, binary32, of_bits, sub, neg, lt, le}
+use lib.Ieee.{Float, nan, inf, fin, binary32, of_bits, sub, neg, lt}
 use lib.Ieee.Bits.{is_false}
 use lib.Ieee.Exact.{HasValue}
 use lib.Ieee.Fits.{and_l, and_r}

@@ -1,5 +1,7 @@
 // Which of 48 samples are worth a search: at the others no burst can match. The filtered values lie in a row, a place a sample, and what is
 // asked of 48 samples is asked of them side by side: the compiler makes vector code of loops over arrays of 48 that nothing leaves early.
+#![tactic(auto)]
+
 ghost use Rattle.std.specs.Prelude.{◌≡◌, [], ◌∷◌};
 ghost use Rattle.decode.specs.Parts.{values_of};
 ghost use Rattle.look.specs.Marks.{upper, lower, top_of, bottom_of, mark_of, MarksSays};

@@ -1,4 +1,6 @@
 // What the M17 specification fixes for both ends of a channel: the four kinds of frame, the six sync bursts with their signs, and the refusals of documents 01 and 02 with their numbers.
+#![tactic(auto)]
+
 ghost use Rattle.protocol.specs.Bursts.{TargetSays};
 ghost use Rattle.protocol.specs.Refusals.{NumberSays, PlaceSays};
 

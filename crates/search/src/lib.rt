@@ -1,4 +1,6 @@
 // The receiver's control: the candidate, the wait, the carrier timer, whether a reply is owed, and the count. What a sample, a search and a reply do to it reads no ring. Where a span is a number of symbols, the samples in a symbol, p, are handed in.
+#![tactic(auto)]
+
 use protocol::Kind;
 
 mod bursts;

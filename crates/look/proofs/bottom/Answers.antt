@@ -1,5 +1,4 @@
 -- `bottom` meets its contract. Assumes nothing.
-use borrow.Author.Rules.{rules}
 use Rattle.look.specs.Marks.{bottom_of}
 use Rattle.look.proofs.bottom.Goals as goal
 

@@ -1,13 +1,10 @@
 -- `is_faint` meets its contract: after i turns the answer is that of the first i values. Assumes nothing.
-use mathlib.Core.Path.{◌≡◌, refl, ◌∙◌}
+use mathlib.Core.Path.{◌≡◌}
 use Prim.Native.Nat.{ℕ, ◌-◌, ◌≤◌}
-use native.Mathlib.Numerals.{add-one}
-use native.Mathlib.Omega.{arith}
-use borrow.Author.Rules.{rules}
 use lib.ListN.{length}
 use Rattle.numbers.specs.Below.{all_below}
 use Rattle.decode.specs.Parts.{values_of}
-use Rattle.look.specs.Rows.{value_faint, row_faint}
+use Rattle.look.specs.Rows.{value_faint}
 use Rattle.look.proofs.is_faint.Given as goal
 
 abbrev pub invariant-loop-i : goal.invariant-loop-i

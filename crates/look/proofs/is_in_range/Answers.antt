@@ -1,13 +1,10 @@
 -- `is_in_range` meets its contract: after i turns the answer is that of the first i values. Assumes nothing.
 use mathlib.Core.Path.{◌≡◌, refl, ◌∙◌}
-use Prim.Native.Nat.{ℕ, ◌-◌, ◌≤◌}
 use native.Mathlib.Numerals.{add-one}
 use native.Mathlib.Omega.{arith}
 use borrow.Author.Rules.{rules}
 use lib.ListN.{length}
 use Rattle.numbers.specs.Below.{all_below}
-use Rattle.decode.specs.Correlator.{in_range}
-use Rattle.decode.specs.Parts.{values_of}
 use Rattle.look.specs.Rows.{row_in_range}
 use Rattle.look.proofs.is_in_range.Goals as goal
 

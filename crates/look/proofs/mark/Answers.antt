@@ -3,7 +3,6 @@ use mathlib.Core.Path.{◌≡◌}
 use mathlib.Core.List.{[], ◌∷◌}
 use Prim.Native.Nat.{ℕ}
 use lib.Ieee.{Float}
-use borrow.Author.Rules.{rules}
 use Rattle.decode.specs.Correlator.{zero_unsigned, gain_of, shift_of}
 use Rattle.decode.specs.Parts.{values_of}
 use Rattle.look.specs.Marks.{top_of, bottom_of, mark_of}

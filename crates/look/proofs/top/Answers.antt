@@ -1,5 +1,4 @@
 -- `top` meets its contract. Assumes nothing.
-use borrow.Author.Rules.{rules}
 use Rattle.look.specs.Marks.{top_of}
 use Rattle.look.proofs.top.Goals as goal
 

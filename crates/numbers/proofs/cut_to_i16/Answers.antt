@@ -1,6 +1,5 @@
 -- `numbers::cut_to_i16` meets its contract: what the two parts answer is what `cut_by_pattern` says of the pattern. Assumes nothing.
 use mathlib.Core.Path.{sym, ap, ◌∙◌, subst}
-use borrow.Author.Rules.{rules}
 use lib.Dec.{T, lit≤}
 use lib.Ieee.{binary32, to_signed}
 use lib.Ieee.Compare.{differs_from_itself}

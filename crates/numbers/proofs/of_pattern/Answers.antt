@@ -1,7 +1,6 @@
 -- `of_pattern` meets its contract: a pattern is no number's exactly if it lies above infinity's, the sign left out. Assumes nothing.
 use mathlib.Core.Path.{◌≡◌, refl, sym, ◌∙◌, subst}
 use mathlib.Core.Bool.{Bool, true, not, true≢false}
-use borrow.Author.Rules.{rules}
 use borrow.Author.Tests.{lt-ltb, le-ltb}
 use lib.Dec.{T}
 use lib.Ieee.{Float, nan, inf, fin, binary32, of_bits, is_nan, div}

@@ -1,6 +1,5 @@
 -- `numbers::whole_part` meets its contract: a law of proofs/Cut.antt for each range of the exponent's field. Assumes nothing.
 use mathlib.Core.Path.{sym}
-use borrow.Author.Rules.{rules}
 use lib.Ieee.{binary32}
 use Rattle.numbers.proofs.Cut.{below_one, below_limit, from_limit}
 use Rattle.numbers.proofs.whole_part.Goals as goal

@@ -2,7 +2,6 @@
 use mathlib.Core.Path.{ap, ◌∙◌}
 use native.Mathlib.Omega.{arith}
 use lib.ListN.{length}
-use borrow.Author.Rules.{rules}
 use Rattle.shaping.proofs.Table.{taps_number, even_taps_number}
 use Rattle.shaping.proofs.RateFacts.{table_48, table_other}
 use Rattle.shaping.proofs.Dot.{sum_of_part}

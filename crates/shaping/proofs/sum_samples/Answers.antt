@@ -1,14 +1,13 @@
 -- `shaping::sum_samples` meets its contract. The loop's invariant: the sum so far is that of the products passed. Assumes nothing.
-use mathlib.Core.Path.{◌≡◌, refl}
-use Prim.Native.Nat.{◌≤◌, ◌-◌}
+use mathlib.Core.Path.{refl}
 use native.Mathlib.Omega.{arith}
 use borrow.Author.Rules.{rules, sfits_of}
 use mir.Syntax.{w16}
 use mir.Facts.{to_z-of_z}
 use lib.IntN.{pos}
-use lib.ListN.{length, get_or}
+use lib.ListN.{get_or}
 use Rattle.shaping.specs.Sum.{sample_in}
-use Rattle.shaping.proofs.Dot.{so_far, begun, step, ended}
+use Rattle.shaping.proofs.Dot.{begun, step, ended}
 use Rattle.shaping.proofs.sum_samples.Goals as goal
 
 pub loop-i-init : goal.loop-i-init

@@ -1,5 +1,4 @@
 -- `accept::accepts` meets its contract. Assumes nothing.
-use borrow.Author.Rules.{rules}
 use Rattle.house.specs.Accept.{accepted}
 use Rattle.house.proofs.accept.accepts.Goals as goal
 

@@ -1,9 +1,7 @@
 -- `accept::sliced_word` meets its contract: so many symbols read make a number of so many times two bits. Assumes nothing.
 use mathlib.Core.Path.{◌≡◌, refl}
-use Prim.Native.Nat.{◌≤◌, ◌-◌}
 use native.Mathlib.Omega.{arith}
 use native.Mathlib.Numerals.{add-one}
-use borrow.Author.Rules.{rules}
 use Rattle.house.specs.Accept.{read_bits, symbol_at}
 use Rattle.house.proofs.Bits.{bits_below}
 use Rattle.house.proofs.Word.{read_below, read_step}

@@ -1,12 +1,11 @@
 -- `bad_line::bad_line_text` meets its contract: the text is written up to `at`, and the weight is that of the digit to come. Assumes nothing.
 use mathlib.Core.Path.{◌≡◌, refl, sym, ap, ◌∙◌}
-use Prim.Native.Nat.{ℕ, ◌≤◌, ◌<◌, ◌-◌, ◌+◌, ◌/◌, ◌%◌, ◌^◌}
+use Prim.Native.Nat.{ℕ, ◌<◌, ◌-◌, ◌+◌, ◌/◌, ◌%◌, ◌^◌}
 use native.Mathlib.Omega.{arith}
 use native.Mathlib.Numerals.{add-one}
-use borrow.Author.Rules.{rules}
 use lib.Dec.{lit≤}
-use lib.ListN.{length, length-set}
-use Rattle.numbers.specs.Firsts.{firsts, written}
+use lib.ListN.{length-set}
+use Rattle.numbers.specs.Firsts.{firsts}
 use Rattle.numbers.proofs.Firsts.{written_step}
 use Rattle.house.specs.BadLine.{tens, bad_line_lem}
 use Rattle.house.proofs.Decimal.{tens_below}

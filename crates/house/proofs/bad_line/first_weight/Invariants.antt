@@ -1,10 +1,7 @@
 -- `bad_line::first_weight` meets its contract: the weight that is found, times the first weight of what is left, is the first weight of n. Assumes nothing.
-use mathlib.Core.Path.{◌≡◌, sym, ◌∙◌}
-use Prim.Native.Nat.{ℕ, ◌≤◌, ◌*◌, ◌/◌, ◌^◌}
-use native.Mathlib.Nat.{pow-succ', mul_assoc, mul_comm, mul-le-mul_left}
-use native.Mathlib.Omega.{arith}
+use mathlib.Core.Path.{◌≡◌}
+use Prim.Native.Nat.{◌≤◌, ◌*◌, ◌^◌}
 use Rattle.house.specs.BadLine.{tens}
-use Rattle.house.proofs.Decimal.{tens_small, tens_step}
 use Rattle.house.proofs.bad_line.first_weight.Given as goal
 
 abbrev pub invariant-loop-rest : goal.invariant-loop-rest

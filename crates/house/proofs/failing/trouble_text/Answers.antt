@@ -1,5 +1,4 @@
 -- `trouble_text` meets its contract.
-use borrow.Author.Rules.{rules}
 use Rattle.house.specs.BadLine.{in_room}
 use Rattle.house.specs.Trouble.{program_name, reason, trouble_text_lem}
 use Rattle.house.proofs.failing.trouble_text.Goals as goal

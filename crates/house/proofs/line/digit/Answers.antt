@@ -1,5 +1,4 @@
 -- `line::digit` meets its contract. Assumes nothing.
-use borrow.Author.Rules.{rules}
 use borrow.Author.Tests.{lt-ltb, le-ltb}
 use Rattle.house.proofs.Digits.{by_step}
 use Rattle.house.proofs.line.digit.Goals as goal

@@ -1,8 +1,6 @@
 -- `line::line_symbols` meets its contract. Assumes nothing.
 use mathlib.Core.Path.{◌≡◌, sym, ◌∙◌}
 use mathlib.Core.Bool.{true, false}
-use borrow.Author.Rules.{rules}
-use borrow.Author.Tests.{not-true, not-false}
 use Rattle.house.specs.Line.{good_line, no_symbols}
 use Rattle.house.proofs.Lines.{read_good, read_bad}
 use Rattle.house.proofs.line.line_symbols.Goals as goal

@@ -1,15 +1,12 @@
 -- `line::symbols_line` meets its contract: the first i digits are written, and the rest is line feeds. Assumes nothing.
 use mathlib.Core.Path.{◌≡◌}
-use mathlib.Core.List.{List}
-use Prim.Native.Nat.{ℕ, ◌≤◌, ◌<◌, ◌-◌, ◌+◌, ◌*◌}
+use Prim.Native.Nat.{◌<◌, ◌+◌, ◌*◌}
 use native.Mathlib.Omega.{arith}
 use native.Mathlib.Numerals.{add-one}
 use borrow.Author.Rules.{rules}
-use lib.ListN.{length, replicate, length-set}
-use lib.Ieee.{Float}
-use Rattle.numbers.specs.Firsts.{firsts, written}
+use lib.ListN.{replicate, length-set}
+use Rattle.numbers.specs.Firsts.{firsts}
 use Rattle.numbers.proofs.Firsts.{written_step}
-use Rattle.house.specs.Digits.{digit_of}
 use Rattle.house.specs.Line.{line_feed, four_at, line_of}
 use Rattle.house.proofs.Lines.{four_below}
 use Rattle.house.proofs.line.symbols_line.Invariants.{digit_in}

@@ -1,21 +1,11 @@
 -- `line::symbols_of` meets its contract: the first i symbols are those of the line. Assumes nothing.
-use mathlib.Core.Path.{◌≡◌, sym, ◌∙◌, subst⁻¹}
+use mathlib.Core.Path.{◌≡◌}
 use mathlib.Core.List.{List}
-use mathlib.Core.Logic.{⊎_elim}
-use Prim.Native.Nat.{ℕ, ◌≤◌, ◌-◌, ◌/◌, ◌%◌}
-use native.Mathlib.Omega.{arith}
-use native.Mathlib.Numerals.{add-one}
-use borrow.Author.Rules.{rules}
-use borrow.Author.Tests.{eq-eqb, ne_eqb}
-use lib.Dec.{T, ltb→lt}
-use lib.ListN.{length, get_or, take, length-set}
-use lib.Seq.{take_all}
+use Prim.Native.Nat.{ℕ, ◌≤◌, ◌-◌}
+use lib.ListN.{length, take}
 use lib.Ieee.{Float}
 use Rattle.numbers.specs.Firsts.{firsts}
-use Rattle.numbers.proofs.Firsts.{prefix_step}
-use Rattle.house.specs.Digits.{value_of}
-use Rattle.house.specs.Line.{symbol_of, bits_at, symbols_of_lem}
-use Rattle.house.proofs.Lines.{good_digit, pair_below}
+use Rattle.house.specs.Line.{symbol_of, bits_at}
 use Rattle.house.proofs.line.symbols_of.Given as goal
 
 abbrev pub symbol_in : List ℕ → ℕ → Float

@@ -1,6 +1,5 @@
 -- `line::value` meets its contract: the two stretches of the bytes in which the digits stand. Assumes nothing.
 use native.Mathlib.Omega.{arith}
-use borrow.Author.Rules.{rules}
 use borrow.Author.Tests.{lt-ltb, le-ltb}
 use Rattle.house.proofs.Digits.{by_range}
 use Rattle.house.proofs.line.value.Goals as goal

@@ -2,8 +2,6 @@
 use mathlib.Core.Path.{◌≡◌, sym, ap, ◌∙◌}
 use mathlib.Core.Bool.{Bool, true, false}
 use mathlib.Core.List.{[]}
-use borrow.Author.Rules.{rules}
-use borrow.Author.Tests.{not-true, not-false}
 use Rattle.house.specs.declared.Program.{Program}
 use Rattle.house.specs.declared.Trouble.TheVariants.{Reading, Writing, Refused}
 use Rattle.house.specs.BadLine.{in_room}

@@ -1,6 +1,5 @@
 -- `sample::bytes_of_i16` meets its contract. Assumes nothing.
 use mir.Facts.{to_z-of_z}
-use borrow.Author.Rules.{rules}
 use Rattle.house.specs.Samples.{bytes_of}
 use Rattle.house.proofs.sample.bytes_of_i16.Goals as goal
 

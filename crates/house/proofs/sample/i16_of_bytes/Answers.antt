@@ -6,7 +6,7 @@ use lib.IntN.{negsuc, ◌-ℤ◌}
 use mir.Syntax.{w16}
 use mir.Val.{SFits, to_z}
 use mir.Facts.{to_z-of_z, to_z_pos}
-use borrow.Author.Rules.{rules, sfits_of}
+use borrow.Author.Rules.{sfits_of}
 use Rattle.house.specs.Samples.{sample_of}
 use Rattle.house.proofs.Samples.{number_above, number_below, less_positive}
 use Rattle.house.proofs.sample.i16_of_bytes.Goals as goal

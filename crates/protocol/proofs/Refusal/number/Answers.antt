@@ -1,6 +1,5 @@
 -- `Refusal::number` meets its contract. Assumes nothing.
 use mathlib.Core.Path.{sym, ap}
-use borrow.Author.Rules.{rules}
 use Rattle.protocol.specs.declared.Refusal.{Refusal}
 use Rattle.protocol.specs.Refusals.{on_paper, number_of}
 use Rattle.protocol.proofs.Refusal.number.Goals as goal

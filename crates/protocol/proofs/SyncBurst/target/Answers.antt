@@ -1,6 +1,5 @@
 -- `SyncBurst::target` meets its contract: each row of the table is what its word spells.
 use Rattle.protocol.specs.Bursts.{signs_of, spelled, sign_of, word_of}
-use borrow.Author.Rules.{rules}
 use Rattle.protocol.proofs.SyncBurst.target.Goals as goal
 
 pub returns-in-Lsf : goal.returns-in-Lsf

@@ -3,7 +3,6 @@ use mathlib.Core.Bool.{true, false}
 use mathlib.Core.Path.{◌≡◌}
 use lib.Ieee.{lt}
 use Rattle.search.specs.Search.{matched}
-use borrow.Author.Rules.{rules}
 use Rattle.search.proofs.bursts.age_or_take.Goals as goal
 
 pub returns-then-diff-m : goal.returns-then-diff-m

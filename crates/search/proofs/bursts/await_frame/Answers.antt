@@ -2,7 +2,6 @@
 use mathlib.Core.Path.{◌≡◌, sym, ◌∙◌}
 use borrow.Author.Tests.{eq-eqb, ne_eqb}
 use Rattle.search.specs.Search.{rank, missed}
-use borrow.Author.Rules.{rules}
 use Rattle.search.proofs.bursts.await_frame.Goals as goal
 
 pub returns-then-rank : goal.returns-then-rank

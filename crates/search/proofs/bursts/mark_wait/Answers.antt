@@ -1,6 +1,5 @@
 -- `mark_wait` meets its contract. Assumes nothing.
 use Rattle.search.specs.Search.{marked}
-use borrow.Author.Rules.{rules}
 use Rattle.search.proofs.bursts.mark_wait.Goals as goal
 
 pub returns-in-Free : goal.returns-in-Free

@@ -14,7 +14,6 @@ use Rattle.search.specs.Fit.{held}
 use Rattle.search.proofs.Fitness.{both}
 use Rattle.search.proofs.Compared.{match_own, Sensed, compared_own}
 use Rattle.search.proofs.Silent.{silent_search, faint, unmatched}
-use borrow.Author.Rules.{rules}
 use Rattle.search.proofs.bursts.searched.Goals as goal
 use Rattle.search.proofs.bursts.searched.Goals.{After-spread_of-spread, After-is_held-free, After-compare-packet}
 

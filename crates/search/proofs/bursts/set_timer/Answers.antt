@@ -2,7 +2,6 @@
 use mathlib.Core.Path.{sym, ◌∙◌}
 use Rattle.search.specs.Search.{carried}
 use Rattle.search.proofs.Compared.{match_own}
-use borrow.Author.Rules.{rules}
 use Rattle.search.proofs.bursts.set_timer.Goals as goal
 
 pub returns-then-is_match : goal.returns-then-is_match

@@ -2,7 +2,6 @@
 use mathlib.Core.Path.{sym, ◌∙◌}
 use Rattle.search.specs.Search.{tried}
 use Rattle.search.proofs.Compared.{match_own}
-use borrow.Author.Rules.{rules}
 use Rattle.search.proofs.bursts.try_kind.Goals as goal
 
 pub returns-then-is_match : goal.returns-then-is_match

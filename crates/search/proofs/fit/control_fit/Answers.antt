@@ -1,6 +1,5 @@
 -- `control_fit` meets its contract: the definition's tests are the code's. Assumes nothing.
 use Rattle.search.specs.Fit.{control_fit_lem}
-use borrow.Author.Rules.{rules}
 use Rattle.search.proofs.fit.control_fit.Goals as goal
 
 pub returns : goal.returns

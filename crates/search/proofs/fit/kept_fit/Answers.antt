@@ -1,5 +1,4 @@
 -- `kept_fit` meets its contract. Assumes nothing.
-use borrow.Author.Rules.{rules}
 use Rattle.search.proofs.fit.kept_fit.Goals as goal
 
 pub returns-in-Due : goal.returns-in-Due

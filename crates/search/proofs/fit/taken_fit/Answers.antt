@@ -1,5 +1,4 @@
 -- `taken_fit` meets its contract: the definition's tests are the code's. Assumes nothing.
-use borrow.Author.Rules.{rules}
 use Rattle.search.proofs.fit.taken_fit.Goals as goal
 
 pub returns-in-Held : goal.returns-in-Held

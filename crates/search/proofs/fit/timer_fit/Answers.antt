@@ -1,5 +1,4 @@
 -- `timer_fit` meets its contract. Assumes nothing.
-use borrow.Author.Rules.{rules}
 use Rattle.search.proofs.fit.timer_fit.Goals as goal
 
 pub returns-in-Until : goal.returns-in-Until

@@ -1,6 +1,5 @@
 -- `fall_due` meets its contract. Assumes nothing.
 use Rattle.search.specs.Turn.{due_turn}
-use borrow.Author.Rules.{rules}
 use Rattle.search.proofs.turns.fall_due.Goals as goal
 
 pub returns-in-Nothing : goal.returns-in-Nothing

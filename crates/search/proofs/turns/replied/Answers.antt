@@ -1,6 +1,5 @@
 -- `replied` meets its contract. Assumes nothing.
 use Rattle.search.specs.Turn.{replied}
-use borrow.Author.Rules.{rules}
 use Rattle.search.proofs.turns.replied.Goals as goal
 
 pub returns-in-Accepted : goal.returns-in-Accepted

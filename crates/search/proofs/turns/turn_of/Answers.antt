@@ -2,7 +2,6 @@
 use mathlib.Core.Path.{◌∙◌}
 use borrow.Author.Tests.{lt-ltb, le-ltb}
 use Rattle.search.specs.Turn.{waited_turn}
-use borrow.Author.Rules.{rules}
 use Rattle.search.proofs.turns.turn_of.Goals as goal
 
 pub returns-then-left-gt1 : goal.returns-then-left-gt1
