@@ -12,7 +12,7 @@ use Rattle.shaping.specs.Rate.{rate_of, samples_in_lem}
 use Rattle.demodulator.specs.declared.SoftDemodulator.{SoftDemodulator}
 use Rattle.demodulator.specs.declared.Offer.{Offer}
 use Rattle.demodulator.specs.Calls.{nothing, frame, is_refusal, Left, answered}
-use Rattle.demodulator.specs.Singles.{sample, reply, left_at, blank}
+use Rattle.demodulator.specs.Singles.{reply, left_at, blank}
 use Rattle.demodulator_laws.proofs.SampleComes.{Comes, silent, offering, stuck, comes}
 use Rattle.demodulator_run.proofs.Refused.{rate_kept}
 use Rattle.listening.specs.Listener.{listed_of}

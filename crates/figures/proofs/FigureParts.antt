@@ -14,8 +14,7 @@ use Rattle.machine.specs.Runs.{Machine, run, answers}
 use Rattle.machine.proofs.Parts.{run_joined}
 use Rattle.demodulator.specs.declared.SoftDemodulator.{SoftDemodulator}
 use Rattle.demodulator.specs.Calls.{Paper, refusal, nothing, frame, done, carrier, is_refusal, refused}
-use Rattle.demodulator.specs.Singles.{Single, Said, sample, reply, blank}
-use Rattle.demodulator.specs.Feed.{fed}
+use Rattle.demodulator.specs.Singles.{Single, Said, blank}
 use Rattle.listening.specs.Listener.{Listed, Rule, listed_of, listed_in, listener, offers, own_record}
 use Rattle.listening.specs.Verdict.{verdict}
 use Rattle.listening.specs.Listen.{listed_at_end, left_by_stretch, stretch_of}

@@ -18,7 +18,7 @@ use Rattle.search.specs.Turn.{cleared}
 use Rattle.demodulator.specs.declared.SoftDemodulator.{SoftDemodulator}
 use Rattle.demodulator.specs.declared.Offer.{Offer}
 use Rattle.demodulator.specs.Calls.{Paper, refusal, nothing, frame, done, carrier, is_refusal, timer_held, Left, answered}
-use Rattle.demodulator.specs.Singles.{sample, left_at, blank}
+use Rattle.demodulator.specs.Singles.{left_at, blank}
 use Rattle.demodulator.specs.Feed.{Stretch, stops_before, fed_from, rest_from}
 use Rattle.demodulator_laws.proofs.SampleComes.{Comes, silent, offering, stuck, comes, fed_silent, fed_offering, fed_stuck}
 use Rattle.listening.specs.Listener.{listed_of, reply_to, own_record}

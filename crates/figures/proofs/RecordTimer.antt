@@ -22,7 +22,7 @@ use Rattle.demodulator.specs.declared.SoftDemodulator.{SoftDemodulator}
 use Rattle.demodulator.specs.Spans.{eight}
 use Rattle.demodulator.specs.Record.{back, stored}
 use Rattle.demodulator.specs.Fit.{fit_for_sample_lem, fit_for_reply_lem}
-use Rattle.demodulator.specs.Calls.{is_refusal, Left, refused, finished, admitted_by, demodulated, answered}
+use Rattle.demodulator.specs.Calls.{is_refusal, Left, finished, admitted_by, demodulated, answered}
 use Rattle.figures.proofs.CarrierTimer.{Lasts, Kept, searched_kept, sampled_kept}
 
 -- ---- a sample that is not refused

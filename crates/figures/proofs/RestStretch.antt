@@ -25,7 +25,7 @@ use Rattle.demodulator.specs.Spans.{eight}
 use Rattle.demodulator.specs.Record.{back, stored}
 use Rattle.demodulator.specs.Fit.{fit_for_sample_lem}
 use Rattle.demodulator.specs.Calls.{refusal, nothing, frame, is_refusal, timer_held, Left, finished, admitted_by, demodulated}
-use Rattle.demodulator.specs.Singles.{sample, blank}
+use Rattle.demodulator.specs.Singles.{blank}
 use Rattle.demodulator.specs.Feed.{Stretch, stops_before, fed_from, rest_from}
 use Rattle.demodulator_laws.proofs.SampleComes.{Comes, silent, offering, stuck, comes, fed_silent, fed_stuck}
 use Rattle.listening.specs.Listener.{listed_of}

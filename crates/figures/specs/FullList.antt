@@ -1,9 +1,8 @@
 -- Document 02 l): the figures of one recording, by its full list of offers. Assumes nothing.
-use Rattle.std.specs.Prelude.{Bool, true, false, not, cond, ◌&&◌, ◌||◌, List, [], ◌∷◌, ℕ, ◌+◌, eqb, leb, ℤ}
+use Rattle.std.specs.Prelude.{Bool, not, cond, ◌&&◌, ◌||◌, List, [], ◌∷◌, ℕ, ◌+◌, eqb, leb, ℤ}
 use Rattle.numbers.specs.Firsts.{firsts}
 use Rattle.machine.specs.Runs.{Machine}
 use Rattle.shaping.specs.Rate.{Rate}
-use Rattle.protocol.specs.declared.Kind.{Kind}
 use Rattle.search.specs.declared.Reply.{Reply}
 use Rattle.search.specs.declared.Reply.TheVariants.{Accepted, Rejected}
 use Rattle.search.specs.Search.{rank}
@@ -15,7 +14,7 @@ use Rattle.listening.specs.Listener.{Listed, Rule, listener, offers, own_record}
 use Rattle.listening.specs.Verdict.{verdict}
 use Rattle.listening.specs.Rules.{rules_at}
 use Rattle.figures.specs.declared.Gain.{Gain}
-use Rattle.figures.specs.declared.Gain.TheVariants.{Nothing, Of}
+use Rattle.figures.specs.declared.Gain.TheVariants.{Of}
 use Rattle.figures.specs.declared.Figures.{Figures}
 use Rattle.figures.specs.Totals.{total_at, lesser, greater, no_figures_lem}
 

@@ -1,4 +1,6 @@
 // Document 02 l): a month's figures. A report is handed in and out by value, one recording after the other, the two rates apart.
+#![tactic(auto)]
+
 ghost use Rattle.figures.specs.Answers.{NewSays, AddSays, MergeSays};
 
 use protocol::Refusal;

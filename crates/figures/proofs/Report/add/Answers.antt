@@ -2,8 +2,7 @@
 use mathlib.Core.Path.{◌≡◌, sym, ◌∙◌}
 use mathlib.Core.Bool.{true, false}
 use mathlib.Core.List.{List}
-use borrow.Author.Tests.{not-true, not-false, eq-eqb, ne_eqb}
-use borrow.Author.Rules.{rules}
+use borrow.Author.Tests.{eq-eqb, ne_eqb}
 use lib.Dec.{eqb}
 use lib.IntN.{ℤ}
 use mir.Syntax.{w16}
@@ -47,11 +46,11 @@ module _ (n : After-no_figures-none) where
   is_24 = report_24 n.args.rate xs _ _ figures_are n.no_figures-none.ensures
 
   fits_here : report_fit_lem (report_of n.args.rate xs) ≡ true
-  fits_here = report_fit_law n.args.rate fit xs each n.if-recording-gt9223372036854775808.left
+  fits_here = report_fit_law n.args.rate fit xs each n.if-recording-gt9223372036854775808.false
 
   joins_here : added n.args.self n.args.rate xs ≡ joined n.args.self (report_of n.args.rate xs)
   joins_here =
-      added_joined n.args.self n.args.rate xs fit (fit_here n.before.before.before.before) n.if-recording-gt9223372036854775808.left
+      added_joined n.args.self n.args.rate xs fit (fit_here n.before.before.before.before) n.if-recording-gt9223372036854775808.false
 
 tested_48 : (c : Then-samples_in-eq10) → eqb (samples_in_lem c.args.rate) 10 ≡ true
 tested_48 c = eq-eqb _ 10 (sym c.samples_in.ensures ∙ c.if-samples_in-eq10.true)

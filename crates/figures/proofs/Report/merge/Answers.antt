@@ -1,8 +1,6 @@
 -- `Report::merge` meets its contract. Assumes nothing.
 use mathlib.Core.Path.{◌≡◌, sym, ◌∙◌}
 use mathlib.Core.Bool.{◌&&◌}
-use borrow.Author.Tests.{not-true, not-false}
-use borrow.Author.Rules.{rules}
 use Rattle.figures.specs.Totals.{report_fit_lem}
 use Rattle.figures.proofs.JoinLaws.{merged_unfit, merged_fit, fit_both}
 use Rattle.figures.proofs.Report.merge.Goals as goal

@@ -1,5 +1,4 @@
 -- `Report::new` meets its contract. Assumes nothing.
-use borrow.Author.Rules.{rules}
 use Rattle.figures.proofs.Report.new.Goals as goal
 
 pub returns : goal.returns

@@ -1,6 +1,4 @@
 -- `hear::take_turn` meets its contract. Assumes nothing.
-use mathlib.Core.Path.{◌≡◌}
-use borrow.Author.Rules.{rules}
 use Rattle.figures.proofs.TurnLaws.{turn_says_lem}
 use Rattle.figures.proofs.hear.take_turn.Goals as goal
 

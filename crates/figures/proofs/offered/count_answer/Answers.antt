@@ -1,6 +1,4 @@
 -- `offered::count_answer` meets its contract. Assumes nothing.
-use mathlib.Core.Path.{◌≡◌}
-use borrow.Author.Rules.{rules}
 use Rattle.figures.specs.Turn.{offered_figures}
 use Rattle.figures.proofs.offered.count_answer.Goals as goal
 

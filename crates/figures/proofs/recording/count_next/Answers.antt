@@ -1,6 +1,5 @@
 -- `recording::count_next` meets its contract. Assumes nothing.
 use native.Mathlib.Omega.{arith}
-use borrow.Author.Rules.{rules}
 use Rattle.figures.proofs.recording.count_next.Goals as goal
 
 pub returns-then-lasts-eq0 : goal.returns-then-lasts-eq0

@@ -1,5 +1,4 @@
 -- `sums::add_figures` meets its contract. Assumes nothing.
-use borrow.Author.Rules.{rules}
 use Rattle.figures.specs.Totals.{plus}
 use Rattle.figures.proofs.sums.add_figures.Goals as goal
 

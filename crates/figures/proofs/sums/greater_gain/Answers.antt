@@ -1,5 +1,4 @@
 -- `sums::greater_gain` meets its contract. Assumes nothing.
-use borrow.Author.Rules.{rules}
 use Rattle.figures.specs.Totals.{greater}
 use Rattle.figures.proofs.sums.greater_gain.Goals as goal
 

@@ -1,15 +1,9 @@
 -- `sums::has_fit_totals` meets its contract. Assumes nothing.
-use mathlib.Core.Path.{◌≡◌, refl, sym}
+use mathlib.Core.Path.{◌≡◌}
 use mathlib.Core.Bool.{true}
 use Prim.Native.Nat.{◌-◌, ◌≤◌}
-use native.Mathlib.Omega.{arith}
-use native.Mathlib.Numerals.{add-one}
-use borrow.Author.Rules.{rules}
-use borrow.Author.Tests.{le-leb}
 use Rattle.numbers.specs.Below.{all_below}
-use Rattle.numbers.proofs.Below.{all_more}
-use Rattle.figures.specs.Totals.{totals_fit}
-use Rattle.figures.proofs.TotalLaws.{fit_at, fits_not}
+use Rattle.figures.proofs.TotalLaws.{fit_at}
 use Rattle.figures.proofs.sums.has_fit_totals.Given as goal
 
 abbrev pub invariant-loop-i : goal.invariant-loop-i

@@ -1,5 +1,4 @@
 -- `sums::is_fit` meets its contract. Assumes nothing.
-use borrow.Author.Rules.{rules}
 use Rattle.figures.proofs.sums.is_fit.Goals as goal
 
 pub returns : goal.returns

@@ -1,5 +1,4 @@
 -- `sums::is_pair_fit` meets its contract. Assumes nothing.
-use borrow.Author.Rules.{rules}
 use Rattle.figures.proofs.sums.is_pair_fit.Goals as goal
 
 pub returns-in-Of-largest-2 : goal.returns-in-Of-largest-2

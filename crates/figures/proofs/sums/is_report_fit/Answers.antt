@@ -1,5 +1,4 @@
 -- `sums::is_report_fit` meets its contract. Assumes nothing.
-use borrow.Author.Rules.{rules}
 use Rattle.figures.specs.Totals.{report_fit_lem}
 use Rattle.figures.proofs.sums.is_report_fit.Goals as goal
 

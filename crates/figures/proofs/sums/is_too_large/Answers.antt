@@ -1,6 +1,5 @@
 -- `sums::is_too_large` meets its contract. Assumes nothing.
 use mathlib.Core.Path.{◌≡◌, refl, sym}
-use mathlib.Core.Bool.{true}
 use Prim.Native.Nat.{◌-◌, ◌^◌, ◌≤◌, ◌<◌}
 use native.Mathlib.Omega.{arith}
 use native.Mathlib.Numerals.{add-one}
@@ -8,7 +7,7 @@ use borrow.Author.Rules.{rules}
 use borrow.Author.Tests.{le-leb}
 use Rattle.numbers.specs.Below.{all_below}
 use Rattle.numbers.proofs.Below.{all_more}
-use Rattle.figures.specs.Totals.{total_at, totals_fit, summed_at}
+use Rattle.figures.specs.Totals.{total_at, summed_at}
 use Rattle.figures.proofs.TotalLaws.{sum_fit_at, fit_below, passes, passes_not}
 use Rattle.figures.proofs.sums.is_too_large.Goals as goal
 

@@ -1,15 +1,10 @@
 -- `sums::is_too_large` meets its contract. Assumes nothing.
-use mathlib.Core.Path.{◌≡◌, refl, sym}
+use mathlib.Core.Path.{◌≡◌}
 use mathlib.Core.Bool.{true}
-use Prim.Native.Nat.{◌-◌, ◌^◌, ◌≤◌, ◌<◌}
-use native.Mathlib.Omega.{arith}
-use native.Mathlib.Numerals.{add-one}
-use borrow.Author.Rules.{rules}
-use borrow.Author.Tests.{le-leb}
+use Prim.Native.Nat.{◌-◌, ◌≤◌}
 use Rattle.numbers.specs.Below.{all_below}
-use Rattle.numbers.proofs.Below.{all_more}
-use Rattle.figures.specs.Totals.{total_at, totals_fit, summed_at}
-use Rattle.figures.proofs.TotalLaws.{sum_fit_at, fit_below, passes, passes_not}
+use Rattle.figures.specs.Totals.{totals_fit}
+use Rattle.figures.proofs.TotalLaws.{sum_fit_at}
 use Rattle.figures.proofs.sums.is_too_large.Given as goal
 
 abbrev pub invariant-loop-i : goal.invariant-loop-i

@@ -1,5 +1,4 @@
 -- `sums::lesser_gain` meets its contract. Assumes nothing.
-use borrow.Author.Rules.{rules}
 use Rattle.figures.specs.Totals.{lesser}
 use Rattle.figures.proofs.sums.lesser_gain.Goals as goal
 

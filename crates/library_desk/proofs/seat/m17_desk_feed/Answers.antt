@@ -1,0 +1,22 @@
+-- `m17_desk_feed` meets its contract. Assumes nothing.
+use mathlib.Core.List.{[]}
+use Rattle.demodulator_run.specs.Calls.{stretch}
+use Rattle.desk_run.specs.Seat.{giving}
+use Rattle.library_desk.proofs.InSeat.{far}
+use Rattle.library_desk.proofs.Entry.{below, gives, turned_away, goes_on}
+use Rattle.library_desk.proofs.Given.{FeedSays}
+use borrow.Author.Rules.{rules}
+use Rattle.library_desk.proofs.seat.m17_desk_feed.Reads as reads
+use Rattle.library_desk.proofs.seat.m17_desk_feed.Lts as lts
+use Rattle.library_desk.proofs.passage.turn_away.Reads as turn-away-reads
+use Rattle.library_receiver.proofs.m17_receiver_feed.Reads as m17-receiver-feed-reads
+use Rattle.library_desk.proofs.seat.m17_desk_feed.Goals as goal
+
+pub returns-then-seat-gt7 : goal.returns-then-seat-gt7
+returns-then-seat-gt7 c = far _ _ _ _ [] c.if-seat-gt7.true (giving (stretch _ _))
+
+pub returns-then-turned-gt0 : goal.returns-then-turned-gt0
+returns-then-turned-gt0 c = turned_away _ _ (below c.if-seat-gt7.false) (gives (stretch _ _)) _ _ [] _ c.turn_away-turned.ensures c.if-turned-gt0.true
+
+pub returns : goal.returns
+returns c = FeedSays _ _ (below c.if-seat-gt7.false) (goes_on _ _ c.turn_away-turned.ensures c.if-turned-gt0.false) _ _ _ _ _ _ _ _ _ c.m17_receiver_feed.ensures
