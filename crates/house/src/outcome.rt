@@ -4,6 +4,7 @@ ghost use Rattle.house.specs.Trouble.{OutcomeTextSays};
 use crate::failing::trouble_text;
 use crate::{Program, Text, Trouble};
 
+#[tactic(auto, unfolding(crate::specs::Trouble::outcome_text_lem, crate::specs::BadLine::in_room))]
 pub fn outcome_text(program: Program, read: bool, written: bool, admitted: bool) -> Text
     ensures { OutcomeTextSays program read written admitted result }
 {
