@@ -1,4 +1,6 @@
 // The filter in blocks: 48 tap sums at once, side by side, each the single sum in its fixed order.
+#![tactic(auto)]
+
 ghost use Rattle.bulk.specs.Sums.{TapSumsSays, IsStillSays};
 
 // The tap sums of the 48 windows that begin at the row's first 48 places. Each window has as many values as there are taps, so the row has

@@ -1,4 +1,6 @@
 // From symbols to bits, and from eight filtered values to a burst: the slicer and the correlator of the Rust's decode.rs.
+#![tactic(auto)]
+
 use protocol::Refusal;
 
 mod correlator;

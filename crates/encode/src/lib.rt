@@ -1,4 +1,6 @@
 // The frames with fixed symbols, of the Rust's encode.rs and of document 02: what a transmission begins and ends with.
+#![tactic(auto)]
+
 ghost use Rattle.std.specs.Prelude.{◌≡◌};
 ghost use Rattle.protocol.specs.Bursts.{signs_of};
 ghost use Rattle.encode.specs.Frames.{frame_of, repeated_sign, GeneratePreambleSays, GenerateBertPreambleSays, GenerateEndOfTransmissionSays, GenerateEndingSays};

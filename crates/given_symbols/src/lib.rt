@@ -1,4 +1,6 @@
 // Which of the symbols given for a frame is wrong, and how; and the burst that heads a BERT frame. What the sender's calls refuse a frame of symbols for, but for the record's own state.
+#![tactic(auto)]
+
 ghost use Rattle.std.specs.Prelude.{◌≡◌, length};
 ghost use Rattle.given_symbols.specs.Offender.{verdict_paper, judged, earlier, judged_below, bert_headed, head_judged, JudgeFrameSays};
 

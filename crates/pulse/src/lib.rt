@@ -1,5 +1,7 @@
 // The way of symbols through the filter's window: a symbol's pulse enters and then zeros, ten values in all or five by the rate, and each makes one sample.
 // Where the window holds nothing but pulses, one to a symbol, the zeros between them are skipped.
+#![tactic(auto)]
+
 ghost use Rattle.std.specs.Prelude.{◌*◌, ◌≤◌, ◌<◌, length};
 ghost use Rattle.shaping.specs.Rate.{Known, rate_at, tap_count};
 ghost use Rattle.pulse.specs.Pulse.{pulses, listed, line_at, Sent};

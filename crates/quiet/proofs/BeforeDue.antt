@@ -1,7 +1,7 @@
 -- The walk over n samples takes those before an awaited frame is due, and no others: so no more need be tried. Assumes nothing.
 use mathlib.Core.Path.{◌≡◌, refl, sym, ap, ◌∙◌}
 use mathlib.Core.Bool.{Bool, true, false}
-use Prim.Native.Nat.{ℕ, zero, suc, ◌+◌, ◌-◌, ◌≤◌, ◌<◌, min}
+use Prim.Native.Nat.{ℕ, zero, suc, ◌+◌, ◌≤◌, ◌<◌}
 use native.Mathlib.Nat.{le_refl}
 use native.Mathlib.Omega.{arith}
 use borrow.Author.Tests.{leb-false}
@@ -10,9 +10,9 @@ use Rattle.search.specs.declared.Waiting.{Waiting}
 use Rattle.search.specs.declared.Wait.{Wait}
 use Rattle.search.specs.declared.Wait.TheVariants.{Free, Due}
 use Rattle.search.specs.declared.Control.{Control}
-use Rattle.search.specs.Turn.{counted, nearer, waiting_on, control_of, sampled}
+use Rattle.search.specs.Turn.{nearer, control_of, sampled}
 use Rattle.search.proofs.SampleByWait.{sampled_rest}
-use Rattle.quiet.specs.Walk.{is_due_lem, goes_on_lem, walked_to, walked_from, walked, before_due}
+use Rattle.quiet.specs.Walk.{is_due_lem, goes_on_lem, walked_from, before_due}
 use Rattle.quiet.proofs.GoesOn.{goes}
 use Rattle.quiet.proofs.WalkLaws.{walk_stops}
 

@@ -2,7 +2,7 @@
 use mathlib.Core.Path.{◌≡◌, refl}
 use mathlib.Core.Bool.{true, false}
 use mathlib.Core.List.{List, [], ◌∷◌}
-use Prim.Native.Nat.{ℕ, ◌<◌}
+use Prim.Native.Nat.{ℕ}
 use lib.Dec.{lit≤, lit<}
 use lib.Ieee.{Float, binary32, of_bits, of_int, add, sub, div, neg, lt, le, eq}
 use Rattle.numbers.specs.Below.{any_below, all_below}

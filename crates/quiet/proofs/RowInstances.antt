@@ -22,7 +22,7 @@ use Rattle.look.specs.Rows.{row_in_range, row_faint}
 use Rattle.look.specs.Marks.{eight_from, marks_of}
 use Rattle.quiet.specs.Walk.{goes_on_lem, walked_to, walked_from, walked}
 use Rattle.quiet.specs.Parts.{InRange, Marked, Block, Blocks, LastCarrier}
-use Rattle.quiet.proofs.GoesOn.{Goes, goes, goes_back}
+use Rattle.quiet.proofs.GoesOn.{Goes, goes_back}
 use Rattle.quiet.proofs.Rows.{uncarried, faint_all, marked, row_range}
 use Rattle.quiet.proofs.BlockLaws.{counted_block, no_carrier}
 use Rattle.quiet.proofs.WalkLaws.{row_many, row_short, row_out, row_ready, walk_stops, walk_ends, walk_on, fewer_in_range}

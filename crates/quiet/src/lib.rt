@@ -1,5 +1,7 @@
 // Quiet stretches: what many samples at once do to the control, where nothing refuses them and none brings an offer. The filtered values lie
 // in a row, so that no ring is read here.
+#![tactic(auto)]
+
 ghost use Rattle.std.specs.Prelude.{◌≡◌, ◌≤◌};
 ghost use Rattle.quiet.specs.Walk.{is_due_lem, goes_on_lem, WalkSays};
 ghost use Rattle.quiet.specs.Parts.{Asked, Walks};

@@ -1,7 +1,6 @@
 -- `push_ready` meets its contract: by phases where the window holds pulses only, and else in full. Assumes nothing.
 use mathlib.Core.Path.{sym, ◌∙◌}
 use native.Mathlib.Omega.{arith}
-use borrow.Author.Rules.{rules}
 use Rattle.pulse.proofs.push_ready.Goals as goal
 
 pub has_pulses_only-requires : goal.has_pulses_only-requires

@@ -2,8 +2,6 @@
 use mathlib.Core.Path.{◌≡◌, sym, ◌∙◌}
 use mathlib.Core.Bool.{true}
 use native.Mathlib.Omega.{arith}
-use borrow.Author.Rules.{rules}
-use borrow.Author.Tests.{not-true, not-false}
 use Rattle.shaping.specs.Rate.{Known, rate_fit}
 use Rattle.shaping.proofs.RateFacts.{rate_known}
 use Rattle.pulse.proofs.Ready.{room_short, room_enough, sent_by, no_rate, past_window, short_room}

@@ -1,6 +1,5 @@
 -- `goes_on` meets its contract: the definition's tests are the code's. Assumes nothing.
 use Rattle.quiet.specs.Walk.{goes_on_lem}
-use borrow.Author.Rules.{rules}
 use Rattle.quiet.proofs.goes_on.Goals as goal
 
 pub returns : goal.returns

@@ -1,5 +1,4 @@
 -- `is_due` meets its contract. Assumes nothing.
-use borrow.Author.Rules.{rules}
 use Rattle.quiet.proofs.is_due.Goals as goal
 
 pub returns-in-Due : goal.returns-in-Due

@@ -1,12 +1,9 @@
 -- `walk` meets its contract: at each turn the whole row is what the samples that are left make of the control by now. Assumes nothing.
-use mathlib.Core.Path.{◌≡◌, sym, ◌∙◌}
+use mathlib.Core.Path.{sym, ◌∙◌}
 use Prim.Native.Nat.{◌+◌, ◌-◌, ◌*◌, ◌≤◌, ◌<◌}
 use native.Mathlib.Omega.{arith}
-use borrow.Author.Tests.{not-true, not-false}
 use lib.ListN.{length}
 use lib.Seq.{length-take-le}
-use Rattle.look.specs.Marks.{eight_from}
-use Rattle.quiet.specs.Walk.{walked_from, walked}
 use Rattle.quiet.proofs.Rows.{row_range}
 use Rattle.quiet.proofs.WalkLaws.{row_many, row_short, row_out, row_ready, walk_stops, walk_ends, walk_on}
 use borrow.Author.Rules.{rules}

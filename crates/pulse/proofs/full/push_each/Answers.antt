@@ -1,12 +1,12 @@
 -- `push_each` meets its contract. The loop's invariant: the symbols so far have been sent, p samples each. Assumes nothing.
 use mathlib.Core.Path.{◌≡◌, sym}
-use Prim.Native.Nat.{◌+◌, ◌-◌, ◌*◌, ◌≤◌, ◌<◌}
+use Prim.Native.Nat.{◌+◌, ◌*◌, ◌≤◌, ◌<◌}
 use native.Mathlib.Nat.{mul-le-mul_left}
 use native.Mathlib.Omega.{arith}
 use borrow.Author.Rules.{rules}
 use lib.ListN.{length}
-use Rattle.shaping.specs.Rate.{rate_at, tap_count}
-use Rattle.pulse.specs.Pulse.{pulses, listed, line_at, Sent}
+use Rattle.shaping.specs.Rate.{rate_at}
+use Rattle.pulse.specs.Pulse.{listed}
 use Rattle.pulse.proofs.Pulses.{alone}
 use Rattle.pulse.proofs.Stream.{sent_none, sent_more, sent_cursor}
 use Rattle.numbers.proofs.Tail.{tail_lent, tail_back}

@@ -1,16 +1,15 @@
 -- `push_symbol` meets its contract. The loop's invariant: the values so far have been sent, and the next is what the symbol's pulse has there. Assumes nothing.
 use mathlib.Core.Path.{◌≡◌, sym, ap, ◌∙◌}
-use Prim.Native.Nat.{ℕ, ◌+◌, ◌-◌, ◌≤◌, ◌<◌}
+use Prim.Native.Nat.{ℕ, ◌+◌}
 use native.Mathlib.Numerals.{add-one}
 use native.Mathlib.Omega.{arith}
 use mir.Syntax.{w16}
 use mir.ValLaws.{to_z-of_z}
 use borrow.Author.Rules.{rules}
 use lib.IntN.{pos}
-use lib.ListN.{length, length-set}
-use lib.Ieee.{Float}
-use Rattle.shaping.specs.Rate.{rate_at, tap_count}
-use Rattle.pulse.specs.Pulse.{pulses, pushed, line_at, Sent}
+use lib.ListN.{length-set}
+use Rattle.shaping.specs.Rate.{rate_at}
+use Rattle.pulse.specs.Pulse.{pushed, line_at}
 use Rattle.pulse.proofs.Pulses.{pulse_first, gap}
 use Rattle.pulse.proofs.Stream.{pushed_cursor, sent_none, sent_one}
 use Rattle.pulse.proofs.full.push_symbol.Goals as goal

@@ -1,13 +1,9 @@
 -- `tap_sum` meets its contract. The loop's invariant: the sum so far is that of the products passed. Assumes nothing.
-use mathlib.Core.Path.{◌≡◌, refl, sym}
+use mathlib.Core.Path.{◌≡◌}
 use Prim.Native.Nat.{◌+◌, ◌-◌, ◌%◌, ◌≤◌, ◌<◌}
-use native.Mathlib.Nat.{add-zero, mod-eq_of_lt}
-use native.Mathlib.Omega.{arith}
-use borrow.Author.Rules.{rules}
 use lib.ListN.{length}
 use Rattle.shaping.specs.Sum.{in_ring}
-use Rattle.shaping.proofs.Dot.{so_far, begun, step, ended}
-use Rattle.pulse.proofs.Places.{next_inside, next_place}
+use Rattle.shaping.proofs.Dot.{so_far}
 use Rattle.pulse.proofs.full.tap_sum.Given as goal
 
 abbrev pub invariant-loop-i : goal.invariant-loop-i

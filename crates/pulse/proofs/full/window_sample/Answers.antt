@@ -1,9 +1,8 @@
 -- `window_sample` meets its contract: one law for both tables. Assumes nothing.
-use mathlib.Core.Path.{◌≡◌, ap, ◌∙◌}
+use mathlib.Core.Path.{◌≡◌, ◌∙◌}
 use native.Mathlib.Omega.{arith}
 use mir.Syntax.{w16}
 use mir.ValLaws.{to_z-of_z}
-use borrow.Author.Rules.{rules}
 use lib.ListN.{length}
 use Rattle.shaping.specs.Rate.{rate_at, tap_count}
 use Rattle.shaping.proofs.RateFacts.{table_48, table_24}

@@ -1,5 +1,4 @@
 -- `first_pulse` meets its contract. Assumes nothing.
-use mathlib.Core.Path.{refl}
 use borrow.Author.Tests.{ne_eqb}
 use Rattle.pulse.proofs.phases.first_pulse.Goals as goal
 

@@ -6,13 +6,13 @@ use native.Mathlib.Nat.{mul-le-mul_left}
 use native.Mathlib.Omega.{arith}
 use borrow.Author.Rules.{rules}
 use lib.ListN.{length, get_or}
-use lib.Ieee.{nan, binary32}
+use lib.Ieee.{nan}
 use Rattle.numbers.specs.Sum.{nought}
-use Rattle.numbers.proofs.Lanes.{Lanes, lanes_start, lanes_step, lanes_turn, lanes_sums}
+use Rattle.numbers.proofs.Lanes.{lanes_start, lanes_step, lanes_turn, lanes_sums}
 use Rattle.shaping.specs.Rate.{rate_at, tap_count}
 use Rattle.shaping.proofs.RateFacts.{facts}
 use Rattle.shaping.proofs.Dot.{inside}
-use Rattle.pulse.specs.Phases.{first_tap, first_pulse_lem, product, phase_sum}
+use Rattle.pulse.specs.Phases.{first_tap, first_pulse_lem, phase_sum}
 use Rattle.pulse.proofs.PhaseSums.{Meets, meets}
 use Rattle.pulse.proofs.phases.phase_sums.Goals as goal
 use Rattle.pulse.proofs.phases.phase_sums.Lts as Lts

@@ -1,19 +1,10 @@
 -- `phase_sums` meets its contract: after q turns each sum has its first q products, and
 -- within a turn the first k sums have one more. Assumes nothing.
-use mathlib.Core.Path.{◌≡◌, refl}
-use Prim.Native.Nat.{ℕ, ◌+◌, ◌-◌, ◌*◌, ◌≤◌, ◌<◌}
-use native.Mathlib.Nat.{mul-le-mul_left}
-use native.Mathlib.Omega.{arith}
-use borrow.Author.Rules.{rules}
-use lib.ListN.{length, get_or}
-use lib.Ieee.{nan, binary32}
-use Rattle.numbers.specs.Sum.{nought}
-use Rattle.numbers.proofs.Lanes.{Lanes, lanes_start, lanes_step, lanes_turn, lanes_sums}
-use Rattle.shaping.specs.Rate.{rate_at, tap_count}
-use Rattle.shaping.proofs.RateFacts.{facts}
-use Rattle.shaping.proofs.Dot.{inside}
-use Rattle.pulse.specs.Phases.{first_tap, first_pulse_lem, product, phase_sum}
-use Rattle.pulse.proofs.PhaseSums.{Meets, meets}
+use Prim.Native.Nat.{◌-◌, ◌≤◌}
+use lib.Ieee.{binary32}
+use Rattle.numbers.proofs.Lanes.{Lanes}
+use Rattle.shaping.specs.Rate.{rate_at}
+use Rattle.pulse.specs.Phases.{product}
 use Rattle.pulse.proofs.phases.phase_sums.Given as goal
 
 abbrev pub invariant-loop-k : goal.invariant-loop-k

@@ -1,11 +1,11 @@
 -- `put_by_table` meets its contract: after j turns the first j phases are written. Assumes nothing.
 use mathlib.Core.Path.{◌≡◌, refl, ap}
-use Prim.Native.Nat.{ℕ, ◌+◌, ◌-◌, ◌*◌, ◌/◌, ◌%◌, ◌≤◌, ◌<◌}
+use Prim.Native.Nat.{ℕ, ◌+◌, ◌*◌, ◌/◌, ◌%◌, ◌≤◌, ◌<◌}
 use native.Mathlib.Omega.{arith}
 use borrow.Author.Rules.{rules}
 use lib.ListN.{length, get_or}
 use lib.Ieee.{nan, to_signed}
-use Rattle.numbers.specs.Firsts.{firsts, written}
+use Rattle.numbers.specs.Firsts.{firsts}
 use Rattle.numbers.proofs.Firsts.{firsts_at, written_more}
 use Rattle.shaping.specs.Rate.{rate_at}
 use Rattle.pulse.specs.Phases.{phase_sum, phase_cut}

@@ -1,15 +1,10 @@
 -- `put_by_table` meets its contract: after j turns the first j phases are written. Assumes nothing.
-use mathlib.Core.Path.{◌≡◌, refl, ap}
-use Prim.Native.Nat.{ℕ, ◌+◌, ◌-◌, ◌*◌, ◌/◌, ◌%◌, ◌≤◌, ◌<◌}
-use native.Mathlib.Omega.{arith}
-use borrow.Author.Rules.{rules}
-use lib.ListN.{length, get_or}
-use lib.Ieee.{nan, to_signed}
-use Rattle.numbers.specs.Firsts.{firsts, written}
-use Rattle.numbers.proofs.Firsts.{firsts_at, written_more}
+use mathlib.Core.Path.{◌≡◌}
+use Prim.Native.Nat.{◌-◌, ◌*◌, ◌≤◌}
+use lib.ListN.{length}
+use Rattle.numbers.specs.Firsts.{written}
 use Rattle.shaping.specs.Rate.{rate_at}
-use Rattle.pulse.specs.Phases.{phase_sum, phase_cut}
-use Rattle.numbers.proofs.Tail.{tail_lent, tail_back}
+use Rattle.pulse.specs.Phases.{phase_cut}
 use Rattle.pulse.proofs.phases.put_by_table.Given as goal
 
 abbrev pub invariant-loop-j : goal.invariant-loop-j

@@ -1,16 +1,13 @@
 -- `put_cuts` meets its contract: after k turns the first k places are written. Assumes nothing.
 use mathlib.Core.Path.{◌≡◌, refl}
-use mathlib.Core.List.{List}
-use Prim.Native.Nat.{ℕ, ◌-◌, ◌≤◌}
 use native.Mathlib.Numerals.{add-one}
 use native.Mathlib.Omega.{arith}
 use mir.Syntax.{w16}
 use mir.ValLaws.{to_z-of_z}
 use borrow.Author.Rules.{rules}
-use lib.IntN.{ℤ, pos}
-use lib.ListN.{length, get_or, length-set}
-use lib.Ieee.{Float, nan, to_signed}
-use Rattle.numbers.specs.Firsts.{firsts, written}
+use lib.IntN.{pos}
+use lib.ListN.{length-set}
+use Rattle.numbers.specs.Firsts.{firsts}
 use Rattle.numbers.proofs.Firsts.{written_step}
 use Rattle.pulse.proofs.phases.put_cuts.Invariants.{cut_at}
 use Rattle.pulse.proofs.phases.put_cuts.Goals as goal

@@ -1,17 +1,11 @@
 -- `put_cuts` meets its contract: after k turns the first k places are written. Assumes nothing.
-use mathlib.Core.Path.{◌≡◌, refl}
+use mathlib.Core.Path.{◌≡◌}
 use mathlib.Core.List.{List}
 use Prim.Native.Nat.{ℕ, ◌-◌, ◌≤◌}
-use native.Mathlib.Numerals.{add-one}
-use native.Mathlib.Omega.{arith}
-use mir.Syntax.{w16}
-use mir.ValLaws.{to_z-of_z}
-use borrow.Author.Rules.{rules}
-use lib.IntN.{ℤ, pos}
-use lib.ListN.{length, get_or, length-set}
+use lib.IntN.{ℤ}
+use lib.ListN.{length, get_or}
 use lib.Ieee.{Float, nan, to_signed}
-use Rattle.numbers.specs.Firsts.{firsts, written}
-use Rattle.numbers.proofs.Firsts.{written_step}
+use Rattle.numbers.specs.Firsts.{written}
 use Rattle.pulse.proofs.phases.put_cuts.Given as goal
 
 abbrev pub cut_at : List Float → ℕ → ℤ

@@ -1,6 +1,5 @@
 -- `put_phases` meets its contract: each rate by its own table. Assumes nothing.
 use mathlib.Core.Path.{◌∙◌}
-use borrow.Author.Rules.{rules}
 use Rattle.shaping.proofs.RateFacts.{table_48, table_24}
 use Rattle.pulse.proofs.phases.put_phases.Goals as goal
 

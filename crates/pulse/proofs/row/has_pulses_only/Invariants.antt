@@ -1,19 +1,13 @@
 -- `has_pulses_only` meets its contract: after i turns the answer is that of the first i places. Assumes nothing.
-use mathlib.Core.Path.{◌≡◌, refl, sym, ◌∙◌}
+use mathlib.Core.Path.{◌≡◌}
 use mathlib.Core.Bool.{Bool, ◌||◌}
 use mathlib.Core.List.{List}
 use Prim.Native.Nat.{ℕ, ◌+◌, ◌-◌, ◌%◌, ◌≤◌, ◌<◌}
-use native.Mathlib.Nat.{add-zero, mod-eq_of_lt}
-use native.Mathlib.Numerals.{add-one}
-use native.Mathlib.Omega.{arith}
-use borrow.Author.Rules.{rules}
 use lib.Dec.{eqb}
 use lib.Ieee.{Float, binary32, of_bits, eq}
 use Rattle.numbers.specs.Below.{all_below}
 use Rattle.shaping.specs.Rate.{tap_count}
 use Rattle.shaping.specs.Sum.{value_at}
-use Rattle.pulse.specs.Phases.{pulses_only}
-use Rattle.pulse.proofs.Places.{next_inside, next_mod, next_place}
 use Rattle.pulse.proofs.row.has_pulses_only.Given as goal
 
 abbrev test : ℕ → List Float → ℕ → ℕ → Bool

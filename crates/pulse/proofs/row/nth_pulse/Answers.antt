@@ -1,5 +1,4 @@
 -- `nth_pulse` meets its contract. Assumes nothing.
-use mathlib.Core.Path.{◌≡◌}
 use Prim.Native.Nat.{◌+◌, ◌-◌, ◌*◌, ◌%◌, ◌<◌}
 use native.Mathlib.Nat.{mod-lt, mul-le-mul_left}
 use native.Mathlib.Omega.{arith}

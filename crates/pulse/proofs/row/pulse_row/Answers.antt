@@ -1,16 +1,14 @@
 -- `pulse_row` meets its contract: after i turns the first i places are written. Assumes nothing.
 use mathlib.Core.Path.{◌≡◌, refl, ◌∙◌}
-use mathlib.Core.List.{List, append-nil}
-use Prim.Native.Nat.{ℕ, ◌+◌, ◌-◌, ◌≤◌, ◌<◌}
+use mathlib.Core.List.{append-nil}
+use Prim.Native.Nat.{◌<◌}
 use native.Mathlib.Numerals.{add-one}
 use native.Mathlib.Omega.{arith}
 use borrow.Author.Rules.{rules}
 use lib.ListN.{replicate}
-use lib.Ieee.{Float, nan, binary32, of_bits}
-use Rattle.numbers.specs.Firsts.{firsts, written}
+use lib.Ieee.{nan, binary32, of_bits}
+use Rattle.numbers.specs.Firsts.{firsts}
 use Rattle.numbers.proofs.Firsts.{written_step}
-use Rattle.pulse.specs.Pulse.{line_at}
-use Rattle.pulse.specs.Phases.{pulse_no}
 use Rattle.pulse.proofs.row.pulse_row.Invariants.{row_from}
 use Rattle.pulse.proofs.row.pulse_row.Goals as goal
 

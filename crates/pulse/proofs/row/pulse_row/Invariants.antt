@@ -1,14 +1,9 @@
 -- `pulse_row` meets its contract: after i turns the first i places are written. Assumes nothing.
-use mathlib.Core.Path.{◌≡◌, refl, ◌∙◌}
-use mathlib.Core.List.{List, append-nil}
-use Prim.Native.Nat.{ℕ, ◌+◌, ◌-◌, ◌≤◌, ◌<◌}
-use native.Mathlib.Numerals.{add-one}
-use native.Mathlib.Omega.{arith}
-use borrow.Author.Rules.{rules}
-use lib.ListN.{replicate}
-use lib.Ieee.{Float, nan, binary32, of_bits}
-use Rattle.numbers.specs.Firsts.{firsts, written}
-use Rattle.numbers.proofs.Firsts.{written_step}
+use mathlib.Core.Path.{◌≡◌}
+use mathlib.Core.List.{List}
+use Prim.Native.Nat.{ℕ, ◌+◌, ◌-◌, ◌≤◌}
+use lib.Ieee.{Float}
+use Rattle.numbers.specs.Firsts.{written}
 use Rattle.pulse.specs.Pulse.{line_at}
 use Rattle.pulse.specs.Phases.{pulse_no}
 use Rattle.pulse.proofs.row.pulse_row.Given as goal

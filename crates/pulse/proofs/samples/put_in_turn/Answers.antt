@@ -1,12 +1,12 @@
 -- `put_in_turn` meets its contract: after s turns the samples of the first s symbols are written. Assumes nothing.
 use mathlib.Core.Path.{◌≡◌, refl, ap}
-use Prim.Native.Nat.{ℕ, ◌+◌, ◌-◌, ◌*◌, ◌/◌, ◌%◌, ◌≤◌, ◌<◌}
+use Prim.Native.Nat.{ℕ, ◌+◌, ◌*◌, ◌/◌, ◌%◌, ◌≤◌, ◌<◌}
 use native.Mathlib.Nat.{mul-le-mul_left, mul-add-mod_self_left, mod-eq_of_lt}
 use native.Mathlib.Omega.{arith}
 use borrow.Author.Rules.{rules}
 use lib.IntN.{pos}
 use lib.ListN.{length, get_or}
-use Rattle.numbers.specs.Firsts.{firsts, written}
+use Rattle.numbers.specs.Firsts.{firsts}
 use Rattle.numbers.proofs.Firsts.{written_more}
 use Rattle.pulse.specs.Phases.{in_turn}
 use Rattle.pulse.proofs.Pulses.{symbol_of}

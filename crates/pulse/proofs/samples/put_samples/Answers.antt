@@ -1,19 +1,15 @@
 -- `put_samples` meets its contract: after s symbols their samples are written. Assumes nothing.
 use mathlib.Core.Path.{◌≡◌, refl}
-use mathlib.Core.Logic.{⊎_elim}
-use mathlib.Core.List.{List}
-use Prim.Native.Nat.{ℕ, ◌+◌, ◌-◌, ◌*◌, ◌/◌, ◌≤◌, ◌<◌}
+use Prim.Native.Nat.{ℕ, ◌+◌, ◌*◌, ◌/◌, ◌≤◌, ◌<◌}
 use native.Mathlib.Nat.{mul-le-mul_left}
 use native.Mathlib.Omega.{arith}
 use borrow.Author.Rules.{rules}
-use lib.IntN.{ℤ}
 use lib.ListN.{length}
-use lib.Ieee.{Float}
-use Rattle.numbers.specs.Firsts.{firsts, written}
+use Rattle.numbers.specs.Firsts.{firsts}
 use Rattle.numbers.proofs.Firsts.{written_more}
-use Rattle.shaping.specs.Rate.{rate_at, tap_count}
+use Rattle.shaping.specs.Rate.{rate_at}
 use Rattle.shaping.proofs.RateFacts.{facts}
-use Rattle.pulse.specs.Pulse.{pulses, listed, sample_at, line_at}
+use Rattle.pulse.specs.Pulse.{line_at}
 use Rattle.pulse.specs.Phases.{row_sample}
 use Rattle.pulse.proofs.Pulses.{symbol_inside}
 use Rattle.numbers.proofs.Tail.{tail_lent, tail_back}

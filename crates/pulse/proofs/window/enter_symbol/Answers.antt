@@ -1,13 +1,11 @@
 -- `enter_symbol` meets its contract. The loop's invariant: the values so far have
 -- entered, and the next is what the symbol's pulse has there. Assumes nothing.
 use mathlib.Core.Path.{◌≡◌, refl, sym, ap, ◌∙◌}
-use Prim.Native.Nat.{ℕ, ◌+◌, ◌-◌, ◌≤◌, ◌<◌}
+use Prim.Native.Nat.{ℕ, ◌+◌}
 use native.Mathlib.Numerals.{add-one}
 use native.Mathlib.Omega.{arith}
 use borrow.Author.Rules.{rules}
-use lib.Ieee.{Float}
-use Rattle.shaping.specs.Rate.{tap_count}
-use Rattle.pulse.specs.Pulse.{pulses, Line, pushed, after, line_at}
+use Rattle.pulse.specs.Pulse.{Line, pushed, after, line_at}
 use Rattle.pulse.proofs.Pulses.{pulse_first, gap}
 use Rattle.pulse.proofs.Stream.{pushed_cursor}
 use Rattle.pulse.proofs.window.enter_symbol.Invariants.{entering}

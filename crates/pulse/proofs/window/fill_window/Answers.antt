@@ -4,7 +4,7 @@ use mathlib.Core.Path.{◌≡◌, sym, ap, ◌∙◌}
 use mathlib.Core.Logic.{inl, inr}
 use mathlib.Core.List.{List}
 use Prim.Native.Nat.{ℕ, ◌+◌, ◌-◌, ◌*◌, ◌%◌, ◌≤◌, ◌<◌}
-use native.Mathlib.Nat.{mod-lt, mod-eq_of_lt, mul-le-mul_left}
+use native.Mathlib.Nat.{mod-lt, mod-eq_of_lt}
 use native.Mathlib.Omega.{arith}
 use borrow.Author.Rules.{rules}
 use lib.ListN.{length}
@@ -38,7 +38,6 @@ last_nine p some e n window cursor long inside = elim (lt_or_le n 9) [
       let nine : p * (n - (n - 9)) ≡ p * 9 = ap (λ (m : ℕ). p * m) {x = n - (n - 9)} {y = 9} (omega arith) in
       let all : p * n ≡ p * (n - 9) + p * 9 = omega (arith, ap (λ (m : ℕ). p * m) {x = n} {y = n - 9 + 9} (omega arith)) in
       rw (nine, all) (sym (last_enough p e (p * (n - 9)) (p * 9) window cursor long inside (omega arith)))
-
 ]
 
 -- the samples of the symbols before the last nine
@@ -50,7 +49,6 @@ front c = elim (lt_or_le n 9) [
   | inr many ↦
       let all : c.saturating_sub-passed.result + 9 ≡ n = omega (arith, c.saturating_sub-passed.ensures) in
       omega (arith, ap (λ (m : ℕ). c.args.p * m) all)
-
 ]
   where
     n : ℕ

@@ -1,20 +1,12 @@
 -- `fill_window` meets its contract. The loop's invariant: the symbols from the first
 -- of the last nine on have entered. Assumes nothing.
-use mathlib.Core.Path.{◌≡◌, sym, ap, ◌∙◌}
-use mathlib.Core.Logic.{inl, inr}
+use mathlib.Core.Path.{◌≡◌}
 use mathlib.Core.List.{List}
 use Prim.Native.Nat.{ℕ, ◌+◌, ◌-◌, ◌*◌, ◌%◌, ◌≤◌, ◌<◌}
-use native.Mathlib.Nat.{mod-lt, mod-eq_of_lt, mul-le-mul_left}
-use native.Mathlib.Omega.{arith}
-use borrow.Author.Rules.{rules}
 use lib.ListN.{length}
 use lib.Ieee.{Float}
-use Rattle.numbers.proofs.Tests.{lt_or_le}
 use Rattle.shaping.specs.Rate.{tap_count}
 use Rattle.pulse.specs.Pulse.{pulses, listed, after, line_at}
-use Rattle.pulse.proofs.Pulses.{alone}
-use Rattle.pulse.proofs.Stream.{after_same, after_more, after_cursor_stays}
-use Rattle.pulse.proofs.View.{last_enough}
 use Rattle.pulse.proofs.window.fill_window.Given as goal
 
 abbrev pub rest : ℕ → List Float → ℕ → ℕ → Float

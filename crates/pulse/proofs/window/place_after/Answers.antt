@@ -1,9 +1,8 @@
 -- `place_after` meets its contract. Assumes nothing.
-use mathlib.Core.Path.{sym, ◌∙◌}
+use mathlib.Core.Path.{sym}
 use Prim.Native.Nat.{◌+◌}
 use native.Mathlib.Nat.{mod-eq_of_lt, mod_self}
 use native.Mathlib.Omega.{arith}
-use borrow.Author.Rules.{rules}
 use Rattle.pulse.proofs.window.place_after.Goals as goal
 
 pub returns-then-next-places : goal.returns-then-next-places

@@ -1,6 +1,4 @@
 -- `push_value` meets its contract. Assumes nothing.
-use mathlib.Core.Path.{ap}
-use borrow.Author.Rules.{rules}
 use Rattle.pulse.proofs.window.push_value.Goals as goal
 
 pub returns : goal.returns

@@ -1,7 +1,6 @@
 -- `is_free` meets its contract. Assumes nothing.
 use mathlib.Core.Path.{◌∙◌}
 use Rattle.quiet.proofs.Midway.{free_goes}
-use borrow.Author.Rules.{rules}
 use Rattle.quiet.proofs.block.is_free.Goals as goal
 
 pub returns-in-Free : goal.returns-in-Free

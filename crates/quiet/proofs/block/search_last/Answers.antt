@@ -1,7 +1,6 @@
 -- `search_last` meets its contract. Assumes nothing.
 use Rattle.look.specs.Marks.{eight_from}
 use Rattle.quiet.proofs.Rows.{found_last}
-use borrow.Author.Rules.{rules}
 use Rattle.quiet.proofs.block.search_last.Goals as goal
 
 pub count-counted-requires : goal.count-counted-requires

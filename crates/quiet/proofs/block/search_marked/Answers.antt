@@ -1,11 +1,9 @@
 -- `search_marked` meets its contract. The loop's invariant: the samples so far are in the control. Assumes nothing.
 use mathlib.Core.Path.{◌≡◌, sym, ◌∙◌}
 use mathlib.Core.Bool.{true}
-use Prim.Native.Nat.{◌-◌}
 use native.Mathlib.Omega.{arith}
-use borrow.Author.Tests.{not-true, not-false}
 use Rattle.quiet.specs.Parts.{is_free_lem}
-use Rattle.quiet.proofs.Midway.{Midway, midway_start, midway_stops, midway_ends, midway_counts, midway_searches, free_parts}
+use Rattle.quiet.proofs.Midway.{midway_start, midway_stops, midway_ends, midway_counts, midway_searches, free_parts}
 use borrow.Author.Rules.{rules}
 use Rattle.quiet.proofs.block.search_marked.Goals as goal
 use Rattle.quiet.proofs.block.search_marked.Lts as Lts

@@ -2,7 +2,6 @@
 use mathlib.Core.Path.{refl, sym, ◌∙◌}
 use Prim.Native.Nat.{◌<◌}
 use native.Mathlib.Omega.{arith}
-use borrow.Author.Tests.{not-true}
 use lib.ListN.{get_or}
 use Rattle.quiet.specs.Parts.{Marked, Calm}
 use Rattle.quiet.proofs.Rows.{neither, faint_all, marked, unmarked_below}
@@ -35,7 +34,7 @@ calm_of e =
     let both = neither _ _ e.if-held-has_mark.false in
     record {
       nothing = sym e.is_held-held.ensures ∙ both.0;
-      no_frame = λ i h kind. (marks_of e.before.before.before).no-frame i h (unmarked_below e.marks-marks.result 2 (sym e.has_mark.ensures ∙ both.1) i (omega arith)) kind;
+      no_frame = λ i h kind. (marks_of e.before.before.before).no_frame i h (unmarked_below e.marks-marks.result 2 (sym e.has_mark.ensures ∙ both.1) i (omega arith)) kind;
     }
 
 pub overflow_mul-end : goal.overflow_mul-end

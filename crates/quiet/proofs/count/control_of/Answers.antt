@@ -1,5 +1,4 @@
 -- `control_of` meets its contract. Assumes nothing.
-use borrow.Author.Rules.{rules}
 use Rattle.quiet.proofs.count.control_of.Goals as goal
 
 pub returns-in-Offer : goal.returns-in-Offer

@@ -3,7 +3,6 @@ use mathlib.Core.Path.{ap, ◌∙◌}
 use Prim.Native.Nat.{◌+◌}
 use Rattle.quiet.specs.Parts.{turn_control}
 use Rattle.quiet.proofs.Turns.{count_turn}
-use borrow.Author.Rules.{rules}
 use Rattle.quiet.proofs.count.count.Goals as goal
 
 pub returns : goal.returns

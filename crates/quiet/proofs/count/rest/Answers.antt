@@ -6,7 +6,6 @@ use Rattle.search.specs.declared.Control.{Control}
 use Rattle.search.specs.Turn.{counted_to, waiting_on}
 use Rattle.quiet.specs.Parts.{turn_control, nearer_by}
 use Rattle.quiet.proofs.Turns.{rest_turn}
-use borrow.Author.Rules.{rules}
 use Rattle.quiet.proofs.count.rest.Goals as goal
 
 pub returns : goal.returns

@@ -1,13 +1,13 @@
 -- `eight` meets its contract: after i turns the first i places are written. Assumes nothing.
 use mathlib.Core.Path.{◌≡◌, refl, ◌∙◌}
 use mathlib.Core.List.{append-nil}
-use Prim.Native.Nat.{◌-◌, ◌*◌, ◌≤◌, ◌<◌}
+use Prim.Native.Nat.{◌*◌, ◌≤◌, ◌<◌}
 use native.Mathlib.Numerals.{add-one}
 use native.Mathlib.Omega.{arith}
 use borrow.Author.Rules.{rules}
 use lib.ListN.{replicate}
 use lib.Ieee.{nan, binary32, of_bits}
-use Rattle.numbers.specs.Firsts.{firsts, written}
+use Rattle.numbers.specs.Firsts.{firsts}
 use Rattle.numbers.proofs.Firsts.{written_step}
 use Rattle.look.specs.Marks.{eight_from}
 use Rattle.quiet.proofs.Rows.{seven_symbols}
@@ -31,7 +31,7 @@ pub offset_bounds-row-place : goal.offset_bounds-row-place
 offset_bounds-row-place c = omega (arith, reach c)
 
 pub bounds-row-place : goal.bounds-row-place
-bounds-row-place c = let near = reach c.before.before in search rules
+bounds-row-place c = let near = seven_symbols c.args.p c.loop-i.i (omega arith) in search rules
 
 pub loop-i-preserved : goal.loop-i-preserved
 loop-i-preserved c =

@@ -1,16 +1,8 @@
 -- `eight` meets its contract: after i turns the first i places are written. Assumes nothing.
-use mathlib.Core.Path.{◌≡◌, refl, ◌∙◌}
-use mathlib.Core.List.{append-nil}
-use Prim.Native.Nat.{◌-◌, ◌*◌, ◌≤◌, ◌<◌}
-use native.Mathlib.Numerals.{add-one}
-use native.Mathlib.Omega.{arith}
-use borrow.Author.Rules.{rules}
-use lib.ListN.{replicate}
-use lib.Ieee.{nan, binary32, of_bits}
-use Rattle.numbers.specs.Firsts.{firsts, written}
-use Rattle.numbers.proofs.Firsts.{written_step}
+use mathlib.Core.Path.{◌≡◌}
+use Prim.Native.Nat.{◌-◌, ◌≤◌}
+use Rattle.numbers.specs.Firsts.{written}
 use Rattle.look.specs.Marks.{eight_from}
-use Rattle.quiet.proofs.Rows.{seven_symbols}
 use Rattle.quiet.proofs.lanes.eight.Given as goal
 
 abbrev pub invariant-loop-i : goal.invariant-loop-i

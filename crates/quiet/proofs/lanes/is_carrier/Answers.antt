@@ -2,7 +2,6 @@
 use Rattle.protocol.specs.declared.SyncBurst.TheVariants.{Preamble, EndOfTransmission}
 use Rattle.decode.specs.Parts.{values_of}
 use Rattle.search.proofs.Compared.{match_own, Sensed, compared_own}
-use borrow.Author.Rules.{rules}
 use Rattle.quiet.proofs.lanes.is_carrier.Goals as goal
 
 pub returns : goal.returns
