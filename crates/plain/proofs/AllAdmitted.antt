@@ -23,12 +23,12 @@ use Rattle.search.specs.declared.Reply.{Reply}
 use Rattle.search.specs.declared.Reply.TheVariants.{Accepted, Rejected}
 use Rattle.search.specs.TakenBurst.{TakenBurst, held_by}
 use Rattle.search.specs.Search.{searched}
-use Rattle.search.specs.Turn.{counted_to, nearer, waiting_on, freed, owing, due_turn, waited_turn, Outcome, quiet, offer, comes_to, sampled, replied}
+use Rattle.search.specs.Turn.{counted_to, nearer, waiting_on, freed, due_turn, waited_turn, Outcome, quiet, offer, comes_to, sampled, replied}
 use Rattle.search.proofs.AgeInPass.{searched_sample, searched_owed}
 use Rattle.demodulator.specs.Record.{fresh}
 use Rattle.demodulator.specs.Calls.{is_refusal, done}
 use Rattle.demodulator.specs.Spans.{eight}
-use Rattle.demodulator.specs.Singles.{Single, sample, reply, Said, blank}
+use Rattle.demodulator.specs.Singles.{sample, reply, Said, blank}
 use Rattle.demodulator_run.specs.Filter.{ago}
 use Rattle.demodulator_run.specs.Rules.{History, After, start, settled, given, answered, single, single_rules}
 use Rattle.demodulator_run.specs.Run.{fresh_at, single_receiver, answers_to}

@@ -1,19 +1,15 @@
 -- What the search makes of the candidate and of the wait depends on no timer, and a wait is held only with a candidate. Assumes nothing.
 use mathlib.Core.Path.{◌≡◌, refl, sym, ap, ◌∙◌, subst}
 use mathlib.Core.Bool.{Bool, true, false, cond}
-use mathlib.Core.List.{List}
 use mathlib.Core.Option.{Option, none, some, IsSome}
 use Prim.Native.Nat.{ℕ, ◌*◌, ◌<◌}
-use lib.IntN.{ℤ}
 use lib.Ieee.{Float, lt}
 use Rattle.protocol.specs.declared.Kind.{Kind}
 use Rattle.protocol.specs.declared.Kind.TheVariants.{Lsf, Bert, Stream, Packet}
 use Rattle.protocol.specs.declared.SyncBurst.{SyncBurst}
 use Rattle.protocol.specs.declared.SyncBurst.TheVariants.{Frame, Preamble, EndOfTransmission}
 use Rattle.decode.specs.Correlator.{correlation, matches}
-use Rattle.search.specs.declared.Candidate.{Candidate}
-use Rattle.search.specs.declared.Wait.{Wait}
-use Rattle.search.specs.declared.Wait.TheVariants.{Free, Due}
+use Rattle.search.specs.declared.Wait.TheVariants.{Free}
 use Rattle.search.specs.declared.Timer.{Timer}
 use Rattle.search.specs.declared.Timer.TheVariants.{Until}
 use Rattle.search.specs.declared.Control.{Control}
@@ -21,7 +17,7 @@ use Rattle.search.specs.TakenBurst.{TakenBurst, held_in, held_by, taken}
 use Rattle.search.specs.Search.{same_kind, end_after_lem, carried, matched, missed, tried, passed, searched}
 use Rattle.search.proofs.SearchSame.{searched_same}
 use Rattle.plain.specs.declared.pursuit.Pursuit.{Pursuit}
-use Rattle.plain.specs.SearchPart.{idle_timer, control_of, seen, free, searched_by, searched_at}
+use Rattle.plain.specs.SearchPart.{idle_timer, control_of, seen}
 
 -- ---- the timer is not read
 module _ (k : ℕ) where

@@ -24,11 +24,9 @@ use Rattle.search.specs.declared.Control.{Control}
 use Rattle.search.specs.declared.Reply.{Reply}
 use Rattle.search.specs.declared.Reply.TheVariants.{Accepted, Rejected}
 use Rattle.search.specs.TakenBurst.{TakenBurst, held_as, held_in, shown_of}
-use Rattle.search.specs.Search.{searched}
 use Rattle.search.specs.Turn.{cleared, nearer, due_turn, waited_turn, Outcome, quiet, offer, sampled, replied}
-use Rattle.demodulator.specs.Calls.{nothing, frame}
 use Rattle.demodulator.specs.Spans.{eight}
-use Rattle.demodulator.specs.Singles.{sample, reply}
+use Rattle.demodulator.specs.Singles.{reply}
 use Rattle.demodulator_run.specs.Rules.{answered, single, single_rules}
 use Rattle.demodulator_run.proofs.StepExact.{free_due}
 use Rattle.plain.specs.declared.pursuit.Pursuit.{Pursuit}

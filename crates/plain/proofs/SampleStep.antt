@@ -3,7 +3,7 @@ use mathlib.Core.Path.{◌≡◌, refl, sym, ap, ◌∙◌}
 use mathlib.Core.Logic.{inl, inr}
 use mathlib.Core.Bool.{false}
 use mathlib.Core.List.{List, [], ◌∷◌, ◌++◌, append-nil}
-use Prim.Native.Nat.{ℕ, ◌+◌, ◌-◌, ◌^◌, ◌≤◌, ◌<◌}
+use Prim.Native.Nat.{ℕ, ◌+◌, ◌^◌, ◌≤◌, ◌<◌}
 use native.Mathlib.Nat.{eq-or-lt_of_le}
 use native.Mathlib.Numerals.{add-one}
 use native.Mathlib.Omega.{arith}
@@ -20,11 +20,10 @@ use Rattle.search.specs.declared.Timer.{Timer}
 use Rattle.search.specs.declared.Control.{Control}
 use Rattle.search.specs.declared.Shown.{Shown}
 use Rattle.search.specs.declared.Reply.{Reply}
-use Rattle.search.specs.Search.{searched}
 use Rattle.search.specs.Turn.{cleared, waited_turn, Outcome, quiet, offer, sampled}
 use Rattle.demodulator.specs.Calls.{offer_of}
 use Rattle.demodulator.specs.Spans.{eight, symbol_at}
-use Rattle.demodulator.specs.Singles.{sample, reply, blank}
+use Rattle.demodulator.specs.Singles.{reply, blank}
 use Rattle.demodulator_run.specs.Filter.{ago}
 use Rattle.demodulator_run.specs.Rules.{History, After, settled, given, single, single_rules}
 use Rattle.plain.specs.declared.pursuit.Pursuit.{Pursuit}

@@ -1,12 +1,12 @@
 -- Document 02 g): "It must be equal to the first receiver fed sample by sample, for all recordings and replies". Assumes nothing.
 use mathlib.Core.Path.{◌≡◌, refl, sym, ap, ◌∙◌}
-use mathlib.Core.Bool.{Bool, true, false, not, cond}
+use mathlib.Core.Bool.{Bool, true, not}
 use mathlib.Core.Logic.{⊎_elim}
 use mathlib.Core.List.{List, [], map}
 use Prim.Native.Nat.{ℕ}
 use lib.IntN.{ℤ}
 use lib.Ieee.{Float}
-use Rattle.machine.specs.Runs.{answers, Each}
+use Rattle.machine.specs.Runs.{answers}
 use Rattle.shaping.specs.Rate.{Rate, at48, at24, rate_fit, rate_of, samples_in_lem}
 use Rattle.shaping.proofs.RateFacts.{Facts, facts48, facts24, two_rates}
 use Rattle.search.specs.declared.Reply.{Reply}
@@ -22,7 +22,7 @@ use Rattle.demodulator_run.specs.Run.{fresh_at, single_receiver, answers_to}
 use Rattle.demodulator_run.specs.Stretch.{Sixteen}
 use Rattle.demodulator_run.proofs.Whole.{stands_start}
 use Rattle.demodulator_run.proofs.SinglesRun.{follows, singles_run}
-use Rattle.plain.specs.List.{Entry, offer_then, list_from, calls_from, entry_of, entries_in}
+use Rattle.plain.specs.List.{offer_then, list_from, calls_from, entry_of, entries_in}
 use Rattle.plain.specs.Rest.{reply_of}
 use Rattle.plain.specs.Listing.{first_list, rules_list}
 use Rattle.plain.proofs.CallList.{list_answers, calls_given, same_calls}

@@ -14,7 +14,7 @@ use Rattle.search.specs.Turn.{cleared}
 use Rattle.demodulator.specs.declared.Offer.{Offer}
 use Rattle.demodulator.specs.Calls.{offer_of}
 use Rattle.demodulator.specs.Spans.{symbol_at}
-use Rattle.demodulator_run.specs.Rules.{History, single_rules}
+use Rattle.demodulator_run.specs.Rules.{single_rules}
 use Rattle.plain.specs.declared.due.Due.{Due}
 use Rattle.plain.specs.declared.due.Next.{Next}
 use Rattle.plain.specs.declared.due.Next.TheVariants.{Nothing as NoneDue, At}

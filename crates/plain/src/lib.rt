@@ -1,5 +1,7 @@
 // Document 02 g): a second receiver, written from the rules. It lists the offers of a recording in memory, each filtered value worked out from the recording itself: no window, no ring, no
 // cursor, and no record between calls.
+#![tactic(auto)]
+
 ghost use Rattle.std.specs.Prelude.{◌≡◌};
 ghost use Rattle.plain.specs.Listing.{ListOffersSays};
 

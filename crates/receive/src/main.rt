@@ -53,7 +53,7 @@ fn read_some(
     }
 }
 
-// A proved loop has to end, and nothing says that the input does: the turns are counted down, from a number that no run uses up.
+// A proved loop has to end, and nothing says that the input does: the turns are counted, to a number that no run comes to.
 fn main(rt: HostRuntime) {
     let mut input = rt.stdin();
     let mut out = rt.stdout();
@@ -63,10 +63,11 @@ fn main(rt: HostRuntime) {
         receiving: Receiving::new(),
     };
     let mut lines = [0u8; 794624];
-    let mut turns = u64::MAX;
-    while turns > 0 && turn.more {
+    for _ in 0..u64::MAX {
+        if !turn.more {
+            break;
+        }
         turn = read_some(&mut input, &mut out, turn.receiving, &mut lines);
-        turns -= 1;
     }
     telling::tell(&mut rt.stderr(), turn.words);
 }

@@ -66,15 +66,16 @@ fn next_turn(input: &mut impl Read, out: &mut impl Write, before: AfterPart) -> 
     put(out, sending.turn(bytes, got.count))
 }
 
-// A proved loop has to end, and nothing says that the input does: the turns are counted down, from a number that no run uses up.
+// A proved loop has to end, and nothing says that the input does: the turns are counted, to a number that no run comes to.
 fn main(rt: HostRuntime) {
     let mut input = rt.stdin();
     let mut out = rt.stdout();
     let mut turn = put(&mut out, Sending::open());
-    let mut turns = u64::MAX;
-    while turns > 0 && turn.fine && !turn.part.last {
+    for _ in 0..u64::MAX {
+        if !turn.fine || turn.part.last {
+            break;
+        }
         turn = next_turn(&mut input, &mut out, turn.part);
-        turns -= 1;
     }
     telling::tell(&mut rt.stderr(), turn.words);
 }

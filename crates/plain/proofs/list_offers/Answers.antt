@@ -1,8 +1,6 @@
 -- `list_offers` meets its contract. Assumes nothing.
 use mathlib.Core.Path.{◌≡◌, sym, ◌∙◌}
 use mathlib.Core.Bool.{true}
-use borrow.Author.Rules.{rules}
-use borrow.Author.Tests.{not-true, not-false}
 use Rattle.shaping.specs.Rate.{rate_fit}
 use Rattle.plain.proofs.ListingCases.{no_rate, too_long, at_48_lem, at_24_lem}
 use Rattle.plain.proofs.list_offers.Goals as goal

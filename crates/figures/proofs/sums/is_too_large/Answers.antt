@@ -16,7 +16,7 @@ unfolding all_below
 loop-i-init c = (omega arith, c.requires.0, c.requires.1, refl)
 
 pub overflow_sub-room : goal.overflow_sub-room
-overflow_sub-room c = fit_below c.args.a c.loop-i.invariant.1 c.loop-i.i (search rules)
+overflow_sub-room c = let most = fit_below c.args.a c.loop-i.invariant.1 c.loop-i.i (search rules) in omega arith
 
 pub returns-then-room-b : goal.returns-then-room-b
 returns-then-room-b c =

@@ -1,19 +1,11 @@
 -- `diff_of` meets its contract: up to symbol i no distance lies above 0.3, and the diff is their sum. Assumes nothing.
-use mathlib.Core.Path.{◌≡◌, ◌∙◌}
-use mathlib.Core.Bool.{Bool, true, false}
+use mathlib.Core.Path.{◌≡◌}
+use mathlib.Core.Bool.{Bool, false}
 use Prim.Native.Nat.{ℕ, ◌≤◌, ◌-◌}
-use native.Mathlib.Numerals.{add-one}
-use native.Mathlib.Omega.{arith}
-use mir.Syntax.{w8}
-use mir.Facts.{to_z-of_z}
-use borrow.Author.Rules.{rules, sfits_of}
-use lib.IntN.{pos}
-use lib.ListN.{get_or}
-use lib.Ieee.{Float, binary32, of_bits, lt}
+use lib.Ieee.{Float, binary32, lt}
 use Rattle.numbers.specs.Below.{any_below}
 use Rattle.numbers.specs.Sum.{sum_to}
-use Rattle.numbers.proofs.Below.{any_more, any_found}
-use Rattle.decode.specs.Correlator.{farthest, summed, distances, distance_of, symbol_of, zero_unsigned}
+use Rattle.decode.specs.Correlator.{farthest, distances}
 use Rattle.decode.specs.Parts.{values_of}
 use Rattle.plain.specs.Values.{unsigned}
 use Rattle.plain.proofs.correlator.diff_of.Given as goal

@@ -1,12 +1,9 @@
 -- `range_of` meets its contract: after value i, the two are the largest and the smallest of those up to i. Assumes nothing.
 use mathlib.Core.Path.{◌≡◌, ◌∙◌}
-use Prim.Native.Nat.{◌≤◌, ◌-◌}
 use native.Mathlib.Numerals.{add-one}
 use native.Mathlib.Omega.{arith}
 use borrow.Author.Rules.{rules}
 use Rattle.decode.specs.Correlator.{highest, lowest, zero_unsigned}
-use Rattle.decode.specs.Parts.{values_of}
-use Rattle.plain.specs.Values.{unsigned}
 use Rattle.plain.proofs.correlator.range_of.Goals as goal
 
 pub loop-i-init : goal.loop-i-init

@@ -1,5 +1,4 @@
 -- `due_after` meets its contract. Assumes nothing.
-use borrow.Author.Rules.{rules}
 use Rattle.plain.specs.Rest.{due_of}
 use Rattle.plain.proofs.DueLaws.{due_none, due_some}
 use Rattle.plain.proofs.due.due_after.Goals as goal

@@ -1,5 +1,4 @@
 -- `due_sample` meets its contract. Assumes nothing.
-use borrow.Author.Rules.{rules}
 use borrow.Author.Tests.{lt-ltb, le-ltb}
 use Rattle.plain.proofs.due.due_sample.Goals as goal
 

@@ -1,17 +1,6 @@
 -- `next_due` meets its contract: what is left of the list from the first sample on is what is left of it from sample k on. Assumes nothing.
-use mathlib.Core.Path.{◌≡◌, refl, sym, ap, ◌∙◌}
-use mathlib.Core.List.{List}
-use Prim.Native.Nat.{ℕ, ◌+◌, ◌-◌, ◌≤◌, ◌<◌}
-use native.Mathlib.Omega.{arith}
+use mathlib.Core.Path.{refl, ◌∙◌}
 use borrow.Author.Rules.{rules}
-use lib.IntN.{ℤ}
-use lib.ListN.{length}
-use lib.Ieee.{Float}
-use Rattle.search.specs.declared.Candidate.{Candidate}
-use Rattle.search.specs.declared.Candidate.TheVariants.{Nothing}
-use Rattle.search.specs.declared.Timer.{Timer}
-use Rattle.search.specs.declared.Reply.{Reply}
-use Rattle.plain.specs.Rest.{look_from, Finds}
 use Rattle.plain.proofs.RestLaws.{goes_on, finds, finds_none}
 use Rattle.plain.proofs.due.next_due.Goals as goal
 

@@ -1,14 +1,7 @@
 -- `eight_values` meets its contract: after i turns the first i places are written. Assumes nothing.
-use mathlib.Core.Path.{◌≡◌, refl, ◌∙◌}
-use mathlib.Core.List.{append-nil}
-use Prim.Native.Nat.{ℕ, ◌-◌, ◌≤◌, ◌<◌}
-use native.Mathlib.Numerals.{add-one}
-use native.Mathlib.Omega.{arith}
-use borrow.Author.Rules.{rules}
-use lib.ListN.{replicate}
-use lib.Ieee.{Float, nan, binary32, of_bits}
-use Rattle.numbers.specs.Firsts.{firsts, written}
-use Rattle.numbers.proofs.Firsts.{written_step}
+use mathlib.Core.Path.{◌≡◌}
+use Prim.Native.Nat.{◌-◌, ◌≤◌}
+use Rattle.numbers.specs.Firsts.{written}
 use Rattle.demodulator.specs.Spans.{eight}
 use Rattle.plain.specs.Values.{from_whole}
 use Rattle.plain.proofs.filter.eight_values.Given as goal

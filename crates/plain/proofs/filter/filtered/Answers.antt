@@ -1,11 +1,10 @@
 -- `filtered` meets its contract: the sum so far is that of the products passed. Assumes nothing.
-use mathlib.Core.Path.{◌≡◌, refl, sym, ap, ◌∙◌}
-use Prim.Native.Nat.{ℕ, ◌+◌, ◌-◌, ◌*◌, ◌≤◌}
+use mathlib.Core.Path.{refl, ap, ◌∙◌}
+use Prim.Native.Nat.{ℕ, ◌+◌, ◌-◌, ◌*◌}
 use native.Mathlib.Omega.{arith}
 use borrow.Author.Rules.{rules}
-use lib.ListN.{length}
 use lib.Ieee.{Float, binary32, of_int, of_bits}
-use Rattle.shaping.proofs.Dot.{so_far, begun, step, ended}
+use Rattle.shaping.proofs.Dot.{begun, step, ended}
 use Rattle.demodulator_run.specs.Filter.{sample_no_lem, filtered}
 use Rattle.plain.proofs.SampleLaws.{filtered_sum}
 use Rattle.plain.proofs.filter.filtered.Goals as goal

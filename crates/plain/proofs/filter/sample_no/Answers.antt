@@ -1,11 +1,11 @@
 -- `sample_no` meets its contract. Assumes nothing.
-use mathlib.Core.Path.{◌≡◌, sym, ap, ◌∙◌}
-use borrow.Author.Rules.{rules, sfits_of}
+use mathlib.Core.Path.{ap, ◌∙◌}
+use borrow.Author.Rules.{sfits_of}
 use mir.Syntax.{w16}
 use mir.Facts.{to_z-of_z}
-use lib.IntN.{ℤ, pos}
+use lib.IntN.{pos}
 use lib.ListN.{get_or}
-use lib.Ieee.{binary32, of_int, of_bits}
+use lib.Ieee.{binary32, of_int}
 use Rattle.demodulator_run.specs.Filter.{sample_no_lem}
 use Rattle.plain.proofs.SampleLaws.{zero_sample, sample_at, sample_past}
 use Rattle.plain.proofs.filter.sample_no.Goals as goal

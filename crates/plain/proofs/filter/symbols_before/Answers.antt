@@ -1,9 +1,7 @@
 -- `symbols_before` meets its contract: the one product. Assumes nothing.
 use mathlib.Core.Path.{ap, ◌∙◌}
-use Prim.Native.Nat.{ℕ}
 use native.Mathlib.Nat.{mul-le-mul_left}
 use native.Mathlib.Omega.{arith}
-use borrow.Author.Rules.{rules}
 use Rattle.demodulator_run.specs.Filter.{filtered}
 use Rattle.plain.proofs.filter.symbols_before.Goals as goal
 

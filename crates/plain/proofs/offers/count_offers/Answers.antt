@@ -1,15 +1,10 @@
 -- `count_offers` meets its contract: one offer for each reply that is read so far. Assumes nothing.
-use mathlib.Core.Path.{◌≡◌, refl, sym, ap, ◌∙◌, subst}
-use mathlib.Core.Bool.{Bool, false}
-use mathlib.Core.List.{◌∷◌, []}
-use Prim.Native.Nat.{ℕ, ◌+◌, ◌-◌, ◌≤◌, ◌<◌}
+use mathlib.Core.Path.{sym, subst}
+use mathlib.Core.Bool.{false}
+use Prim.Native.Nat.{ℕ, ◌+◌, ◌≤◌, ◌<◌}
 use native.Mathlib.Omega.{arith}
 use borrow.Author.Rules.{rules}
-use lib.ListN.{length, get_or, length-append}
-use Rattle.shaping.specs.Rate.{tap_count}
-use Rattle.plain.specs.declared.due.Next.{Next}
-use Rattle.plain.specs.declared.due.Next.TheVariants.{Nothing as NoneDue, At}
-use Rattle.plain.specs.Rest.{resumes_at, entry_at, FindsDue, Finds}
+use lib.ListN.{length}
 use Rattle.plain.proofs.ListProgress.{Progress, begun, stepped, counted_all, counted_last, found_within}
 use Rattle.plain.proofs.offers.count_offers.Goals as goal
 

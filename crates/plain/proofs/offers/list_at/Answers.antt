@@ -1,5 +1,4 @@
 -- `list_at` meets its contract. Assumes nothing.
-use borrow.Author.Rules.{rules}
 use Rattle.plain.specs.Listing.{rules_list}
 use Rattle.plain.proofs.ListingCases.{few_numbers, few_symbols, all_listed}
 use Rattle.plain.proofs.offers.list_at.Goals as goal

@@ -1,5 +1,4 @@
 -- `resume` meets its contract. Assumes nothing.
-use borrow.Author.Rules.{rules}
 use Rattle.plain.proofs.offers.resume.Goals as goal
 
 pub returns-then-accepted : goal.returns-then-accepted

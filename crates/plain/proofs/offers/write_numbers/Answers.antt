@@ -1,8 +1,6 @@
 -- `write_numbers` meets its contract. Assumes nothing.
-use mathlib.Core.Path.{◌≡◌, refl, ◌∙◌}
-use native.Mathlib.Omega.{arith}
 use borrow.Author.Rules.{rules}
-use lib.ListN.{length, length-set}
+use lib.ListN.{length-set}
 use Rattle.plain.proofs.RoomLaws.{five_set}
 use Rattle.plain.proofs.offers.write_numbers.Goals as goal
 

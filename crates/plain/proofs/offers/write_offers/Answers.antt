@@ -1,14 +1,12 @@
 -- `write_offers` meets its contract: the list so far is at the front of the rooms. Assumes nothing.
-use mathlib.Core.Path.{◌≡◌, refl, sym, ap, ◌∙◌, subst}
+use mathlib.Core.Path.{refl, ◌∙◌}
 use mathlib.Core.Bool.{false}
-use Prim.Native.Nat.{ℕ, ◌+◌, ◌-◌, ◌*◌, ◌≤◌, ◌<◌}
+use Prim.Native.Nat.{◌+◌, ◌≤◌, ◌<◌}
 use native.Mathlib.Omega.{arith}
 use borrow.Author.Rules.{rules}
 use lib.ListN.{length}
-use Rattle.shaping.specs.Rate.{tap_count}
-use Rattle.plain.specs.Listing.{rules_list}
 use Rattle.plain.proofs.ListProgress.{found_within, longer}
-use Rattle.plain.proofs.RoomLaws.{one_long, Writing, writing_begun, writing_ended, writing_filled, writing_step, writing_last}
+use Rattle.plain.proofs.RoomLaws.{one_long, writing_begun, writing_ended, writing_filled, writing_step, writing_last}
 use Rattle.plain.proofs.offers.write_offers.Goals as goal
 
 pub loop-count-init : goal.loop-count-init

@@ -1,14 +1,9 @@
 -- `write_offers` meets its contract: the list so far is at the front of the rooms. Assumes nothing.
-use mathlib.Core.Path.{◌≡◌, refl, sym, ap, ◌∙◌, subst}
-use mathlib.Core.Bool.{false}
-use Prim.Native.Nat.{ℕ, ◌+◌, ◌-◌, ◌*◌, ◌≤◌, ◌<◌}
-use native.Mathlib.Omega.{arith}
-use borrow.Author.Rules.{rules}
+use mathlib.Core.Path.{◌≡◌}
+use Prim.Native.Nat.{◌-◌, ◌≤◌}
 use lib.ListN.{length}
 use Rattle.shaping.specs.Rate.{tap_count}
-use Rattle.plain.specs.Listing.{rules_list}
-use Rattle.plain.proofs.ListProgress.{found_within, longer}
-use Rattle.plain.proofs.RoomLaws.{one_long, Writing, writing_begun, writing_ended, writing_filled, writing_step, writing_last}
+use Rattle.plain.proofs.RoomLaws.{Writing}
 use Rattle.plain.proofs.offers.write_offers.Given as goal
 
 abbrev pub invariant-loop-count : goal.invariant-loop-count

@@ -1,6 +1,5 @@
 -- `meet` meets its contract. Assumes nothing.
 use Rattle.search.specs.Search.{matched}
-use borrow.Author.Rules.{rules}
 use Rattle.plain.proofs.pursuit.meet.Goals as goal
 
 pub returns-then-m-diff : goal.returns-then-m-diff

@@ -1,6 +1,5 @@
 -- `miss` meets its contract: a kind is the held candidate's where their places are equal. Assumes nothing.
 use mathlib.Core.Path.{◌≡◌, sym, ◌∙◌}
-use borrow.Author.Rules.{rules}
 use borrow.Author.Tests.{eq-eqb, ne_eqb}
 use Rattle.search.specs.Search.{rank, missed}
 use Rattle.plain.proofs.pursuit.miss.Goals as goal

@@ -1,7 +1,6 @@
 -- `search_at` meets its contract: four tries, one after the other. Assumes nothing.
 use mathlib.Core.Path.{◌≡◌}
 use Prim.Native.Nat.{ℕ, ◌<◌}
-use borrow.Author.Rules.{rules}
 use lib.Ieee.{Float, nan}
 use Rattle.numbers.proofs.Firsts.{firsts_at}
 use Rattle.decode.specs.Parts.{values_of}

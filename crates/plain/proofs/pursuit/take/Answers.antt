@@ -1,5 +1,4 @@
 -- `take` meets its contract. Assumes nothing.
-use borrow.Author.Rules.{rules}
 use Rattle.search.specs.Search.{marked}
 use Rattle.plain.proofs.pursuit.take.Goals as goal
 

@@ -2,7 +2,6 @@
 use mathlib.Core.Path.{sym, ◌∙◌}
 use Rattle.search.specs.Search.{tried}
 use Rattle.search.proofs.Compared.{match_own}
-use borrow.Author.Rules.{rules}
 use Rattle.plain.proofs.pursuit.try_kind.Goals as goal
 
 pub returns-then-m : goal.returns-then-m

@@ -4,7 +4,7 @@ use native.Mathlib.Numerals.{add-one}
 use native.Mathlib.Omega.{arith}
 use mir.Syntax.{w16}
 use mir.Facts.{to_z-of_z}
-use borrow.Author.Rules.{rules, sfits_of}
+use borrow.Author.Rules.{rules}
 use lib.IntN.{pos}
 use lib.ListN.{length-set}
 use Rattle.numbers.specs.Firsts.{firsts}
@@ -20,7 +20,7 @@ pub loop-j-preserved : goal.loop-j-preserved
 loop-j-preserved c =
     let a = c.args in
     let f = of_phase a.cuts.now a.s in
-    let back = to_z-of_z {w = w16} {z = f c.loop-j.j} (sfits_of c.sample-1.given) in (
+    let back = to_z-of_z {w = w16} {z = f c.loop-j.j} (search rules) in (
       search rules,
       simp length-set c.loop-j.invariant.1,
       rw (add-one c.loop-j.j, back, c.loop-j.invariant.2) (written_step f c.loop-j.j a.room.now (pos 0) (omega arith)),
