@@ -1,4 +1,6 @@
 // The link test's count: how many bits of two payloads differ once both are sliced.
+#![tactic(auto)]
+
 ghost use Rattle.std.specs.Prelude.{◌≡◌, ◌≤◌, length};
 ghost use Rattle.decode.specs.Slicer.{sliced};
 ghost use Rattle.bit_errors.specs.Errors.{differ, differences, bits_of, BitErrorsSays};

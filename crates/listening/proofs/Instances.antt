@@ -1,5 +1,4 @@
 -- Small instances of what the laws ask. Assumes nothing.
-use mathlib.Core.Path.{◌≡◌, refl}
 use mathlib.Core.List.{[], ◌∷◌}
 use lib.Dec.{lit≤}
 use lib.IntN.{pos}

@@ -3,10 +3,8 @@ use mathlib.Core.Path.{◌≡◌, refl}
 use mathlib.Core.Bool.{Bool}
 use mathlib.Core.List.{List, [], ◌∷◌}
 use lib.IntN.{ℤ}
-use lib.Ieee.{Float}
 use Rattle.numbers.proofs.Answer.{same_answer}
 use Rattle.search.specs.declared.Reply.{Reply}
-use Rattle.search.specs.declared.Timer.{Timer}
 use Rattle.demodulator.specs.declared.SoftDemodulator.{SoftDemodulator}
 use Rattle.demodulator.specs.declared.Heard.{Heard}
 use Rattle.demodulator.specs.Calls.{heard_paper}

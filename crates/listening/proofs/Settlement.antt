@@ -1,7 +1,7 @@
 -- A stretch, its offer and the reply to it, as the code settles them. Assumes nothing.
 use mathlib.Core.Path.{◌≡◌, refl, ap, ◌∙◌}
 use mathlib.Core.Bool.{true, false}
-use mathlib.Core.List.{List, [], ◌∷◌, map}
+use mathlib.Core.List.{List, [], map}
 use lib.IntN.{ℤ}
 use lib.Ieee.{Float}
 use Rattle.machine.specs.Runs.{run}

@@ -1,4 +1,6 @@
 // Listening to a receiver: samples go in up to an offer, which is judged by the receive program's rule and replied to before the next sample.
+#![tactic(auto)]
+
 ghost use Rattle.std.specs.Prelude.{◌≡◌};
 ghost use Rattle.house.specs.Accept.{accepted, symbol_at};
 ghost use Rattle.listening.specs.Verdict.{verdict};

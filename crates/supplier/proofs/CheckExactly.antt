@@ -11,7 +11,7 @@ use lib.ListN.{length}
 use Rattle.protocol.specs.Refusals.{bare, placed, at_line}
 use Rattle.sending.specs.Text.{Bad, none, in_line, bad_line_lem}
 use Rattle.supplier.specs.Check.{Verdict, refused, yes, differs, short, long, ours, same_sample, beside, checked}
-use Rattle.supplier.specs.Meanings.{FirstOther, GoesOnAfter, Means, Fine, Checks}
+use Rattle.supplier.specs.Meanings.{Means, Fine, Checks}
 use Rattle.supplier.proofs.SameSample.{same_true, same_eq, same_not}
 use Rattle.supplier.proofs.CheckLaws.{checked_8, checked_17, checked_beside}
 

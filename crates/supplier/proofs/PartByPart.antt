@@ -188,4 +188,4 @@ module _ (padding : ℕ) (text : List ℕ) (samples : List ℤ) (m : SoftModulat
 
       pub end_yes : length samples ≤ r.at → yes ≡ beside 1 (ours padding text) samples
       unfolding beside
-      end_yes All-there = sym (end_goes ∙ ap (beside (r.at + 1) []) (drop_of_length-le samples {i = r.at} All-there))
+      end_yes all_there = sym (end_goes ∙ ap (beside (r.at + 1) []) (drop_of_length-le samples {i = r.at} all_there))

@@ -1,10 +1,10 @@
 -- "Whatever the send program writes from good lines is accepted, with the stated zeros put before it." Assumes nothing.
 use mathlib.Core.Path.{◌≡◌, refl, sym, ap, ◌∙◌}
 use mathlib.Core.List.{List, [], ◌∷◌, ◌++◌, flatten}
-use Prim.Native.Nat.{ℕ, zero, suc, ◌+◌, ◌*◌, ◌/◌, ◌%◌, ◌≤◌, ◌<◌}
+use Prim.Native.Nat.{ℕ, zero, suc, ◌≤◌}
 use native.Mathlib.Omega.{arith}
 use lib.IntN.{ℤ, pos}
-use lib.ListN.{length, get_or, take, drop, replicate}
+use lib.ListN.{length, get_or, drop, replicate}
 use lib.Ieee.Casts.{to_signed_in}
 use mir.Syntax.{w16}
 use mir.Val.{SFits}
@@ -14,7 +14,7 @@ use Rattle.machine.proofs.Parts.{each_joined}
 use Rattle.modulator_run.specs.Stream.{sent_at}
 use Rattle.house.specs.Samples.{bytes_of}
 use Rattle.house.proofs.Samples.{sample_back}
-use Rattle.sending.specs.Text.{AllGood, lines_of, none, bad_line_lem, stream_samples, samples_sent, sample_bytes}
+use Rattle.sending.specs.Text.{none, bad_line_lem, stream_samples, samples_sent, sample_bytes}
 use Rattle.sending.specs.Calls.{opened}
 use Rattle.sending.specs.Run.{Fitting, calls_over, written_by}
 use Rattle.sending.proofs.SendRun.{send_run}

@@ -1,5 +1,5 @@
 -- Document 02 m): the samples of a box that "claims to send what we send". Assumes nothing.
-use Rattle.std.specs.Prelude.{◌≡◌, Bool, true, false, cond, List, [], ◌∷◌, ◌++◌, ℕ, suc, ltb, eqb, ℤ, pos, negsuc, replicate}
+use Rattle.std.specs.Prelude.{◌≡◌, Bool, false, cond, List, [], ◌∷◌, ◌++◌, ℕ, suc, ltb, eqb, ℤ, pos, negsuc, replicate}
 use Rattle.protocol.specs.Refusals.{PaperRefusal, bare, at_line, on_paper}
 use Rattle.sending.specs.Text.{Bad, none, in_line, bad_line_lem, samples_sent}
 use Rattle.supplier.specs.declared.Checked.{Checked}

@@ -1,5 +1,7 @@
 // Document 02 m), the checker of a transmitter box: holds a stretch of samples beside what the sender sends of a text of frames, from a
 // fresh start at 48 kHz. The sender makes one part after the other, in room for one: nothing of the text or of the stretch is copied whole.
+#![tactic(auto)]
+
 ghost use Rattle.supplier.specs.Check.{CheckSays};
 
 use protocol::Refusal;

@@ -1,6 +1,5 @@
 -- `bit_errors` meets its contract. Assumes nothing.
 use lib.ListN.{length}
-use borrow.Author.Rules.{rules}
 use borrow.Author.Tests.{eq-eqb, ne_eqb}
 use Rattle.bit_errors.specs.Errors.{bit_errors_lem}
 use Rattle.bit_errors.proofs.bit_errors.Goals as goal

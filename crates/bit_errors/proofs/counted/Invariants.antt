@@ -1,16 +1,10 @@
 -- `counted` meets its contract. The loop's invariant: the count so far and that of the rest are the count of all. Assumes nothing.
 use mathlib.Core.Path.{◌≡◌}
 use mathlib.Core.List.{List}
-use Prim.Native.Nat.{ℕ, ◌+◌, ◌-◌, ◌*◌, ◌≤◌, ◌<◌}
-use native.Mathlib.Numerals.{add-one}
-use native.Mathlib.Omega.{arith}
-use borrow.Author.Rules.{rules}
-use lib.ListN.{length, drop, get_or, drop_of_length-le}
-use lib.Seq.{drop-cons}
-use lib.Ieee.{Float, nan}
-use Rattle.decode.specs.Slicer.{sliced}
+use Prim.Native.Nat.{ℕ, ◌+◌, ◌-◌, ◌*◌, ◌≤◌}
+use lib.ListN.{drop}
+use lib.Ieee.{Float}
 use Rattle.bit_errors.specs.Errors.{bits_of, differences}
-use Rattle.bit_errors.proofs.Counts.{first_symbol}
 use Rattle.bit_errors.proofs.counted.Given as goal
 
 -- the count from place i on

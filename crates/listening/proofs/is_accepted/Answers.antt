@@ -1,12 +1,11 @@
 -- `is_accepted` meets its contract: the first i symbols are copied. Assumes nothing.
 use mathlib.Core.Path.{◌≡◌, refl, ap, ◌∙◌}
 use mathlib.Core.List.{List}
-use Prim.Native.Nat.{◌≤◌, ◌-◌}
 use native.Mathlib.Omega.{arith}
 use native.Mathlib.Numerals.{add-one}
 use borrow.Author.Rules.{rules}
-use lib.ListN.{length, replicate, length-set}
-use lib.Ieee.{Float, nan, binary32, of_bits}
+use lib.ListN.{length-set}
+use lib.Ieee.{Float, nan}
 use Rattle.numbers.specs.Firsts.{firsts, written}
 use Rattle.numbers.proofs.Firsts.{written_step}
 use Rattle.protocol.specs.declared.Kind.{Kind}

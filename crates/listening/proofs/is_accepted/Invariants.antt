@@ -1,16 +1,11 @@
 -- `is_accepted` meets its contract: the first i symbols are copied. Assumes nothing.
-use mathlib.Core.Path.{◌≡◌, refl, ap, ◌∙◌}
+use mathlib.Core.Path.{◌≡◌}
 use mathlib.Core.List.{List}
 use Prim.Native.Nat.{◌≤◌, ◌-◌}
-use native.Mathlib.Omega.{arith}
-use native.Mathlib.Numerals.{add-one}
-use borrow.Author.Rules.{rules}
-use lib.ListN.{length, replicate, length-set}
-use lib.Ieee.{Float, nan, binary32, of_bits}
-use Rattle.numbers.specs.Firsts.{firsts, written}
-use Rattle.numbers.proofs.Firsts.{written_step}
-use Rattle.protocol.specs.declared.Kind.{Kind}
-use Rattle.house.specs.Accept.{read_bits, symbol_at, accepted}
+use lib.ListN.{length, replicate}
+use lib.Ieee.{Float, binary32, of_bits}
+use Rattle.numbers.specs.Firsts.{written}
+use Rattle.house.specs.Accept.{symbol_at}
 use Rattle.listening.proofs.is_accepted.Given as goal
 
 abbrev pub eight_zeros : List Float

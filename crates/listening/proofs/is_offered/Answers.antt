@@ -1,7 +1,6 @@
 -- `is_offered` meets its contract. Assumes nothing.
 use mathlib.Core.Path.{sym, ap}
 use mathlib.Core.Bool.{Bool}
-use borrow.Author.Rules.{rules}
 use Rattle.demodulator.specs.declared.Heard.{Heard}
 use Rattle.demodulator.specs.Calls.{heard_paper}
 use Rattle.listening.specs.Listen.{is_offer}

@@ -1,6 +1,5 @@
 -- `judge` meets its contract. Assumes nothing.
 use mathlib.Core.Path.{sym, ◌∙◌}
-use borrow.Author.Rules.{rules}
 use Rattle.listening.proofs.Settlement.{judged_good, judged_bad}
 use Rattle.listening.proofs.judge.Goals as goal
 

@@ -1,5 +1,4 @@
 -- `listen` meets its contract. Assumes nothing.
-use borrow.Author.Rules.{rules}
 use Rattle.demodulator.specs.Singles.{blank}
 use Rattle.listening.proofs.Settlement.{listens_refused, listens_quiet, listens_offered}
 use Rattle.listening.proofs.listen.Goals as goal

@@ -1,12 +1,7 @@
 -- `check` meets its contract. Assumes nothing.
-use mathlib.Core.Path.{◌≡◌, refl, sym, ap, ◌∙◌}
-use borrow.Author.Rules.{rules}
+use mathlib.Core.Path.{sym, ap, ◌∙◌}
 use Rattle.supplier.specs.Parts.{bad_paper}
 use Rattle.supplier.proofs.CheckLaws.{checked_8, checked_17, checked_beside}
-use Rattle.supplier.proofs.check.Reads as reads
-use Rattle.supplier.proofs.check.Lts as lts
-use Rattle.supplier.proofs.part.compare.Reads as compare-reads
-use Rattle.supplier.proofs.text.first_bad.Reads as first-bad-reads
 use Rattle.supplier.proofs.check.Goals as goal
 
 pub returns-then-padding-gt122400 : goal.returns-then-padding-gt122400

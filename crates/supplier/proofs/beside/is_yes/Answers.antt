@@ -1,5 +1,4 @@
 -- `is_yes` meets its contract: each case by the definition. Assumes nothing.
-use borrow.Author.Rules.{rules}
 use Rattle.supplier.specs.Parts.{is_yes}
 use Rattle.supplier.proofs.beside.is_yes.Goals as goal
 

@@ -1,17 +1,14 @@
 -- `beside::meet_padding` meets its contract: what is left of the padding is beside what is left of the stretch. Assumes nothing.
 use mathlib.Core.Path.{◌≡◌, refl, sym, ap, ◌∙◌}
-use Prim.Native.Nat.{ℕ, suc, ◌+◌, ◌-◌, ◌≤◌, ◌<◌, zero-le}
+use Prim.Native.Nat.{suc, ◌+◌, ◌≤◌, ◌<◌, zero-le}
 use native.Mathlib.Omega.{arith}
-use borrow.Author.Rules.{rules, sfits_of}
+use borrow.Author.Rules.{rules}
 use mir.Syntax.{w16}
-use mir.Val.{of_z, to_z}
+use mir.Val.{of_z, to_z, SFits}
 use mir.Facts.{to_z-of_z}
-use lib.IntN.{ℤ, pos}
-use lib.ListN.{length, get_or, take, drop, replicate, length-replicate, get_or-replicate}
-use Rattle.supplier.specs.Parts.{front}
+use lib.IntN.{pos}
+use lib.ListN.{length, get_or, replicate, length-replicate, get_or-replicate}
 use Rattle.supplier.proofs.Front.{front_done, front_short, front_next, front_differs}
-use Rattle.supplier.proofs.beside.meet_padding.Reads as reads
-use Rattle.supplier.proofs.beside.meet_padding.Lts as lts
 use Rattle.supplier.proofs.beside.meet_padding.Goals as goal
 
 pub loop-met-init : goal.loop-met-init
@@ -44,7 +41,8 @@ loop-met-preserved c =
     let size = length-replicate a.padding (pos 0) in
     let inside : l.met < length xs = search rules in
     let more : l.met < a.padding = search rules in
-    let here : get_or xs l.met (pos 0) ≡ pos 0 = sym (to_z-of_z {w = w16} {z = get_or xs l.met (pos 0)} (sfits_of c.sample-1.given)) ∙ ap (to_z w16) c.if-sample-ne0.false in
+    let fits : SFits w16 (get_or xs l.met (pos 0)) = search rules in
+    let here : get_or xs l.met (pos 0) ≡ pos 0 = sym (to_z-of_z {w = w16} {z = get_or xs l.met (pos 0)} fits) ∙ ap (to_z w16) c.if-sample-ne0.false in
     let next : l.met + 1 ≡ suc l.met = omega arith in (
       omega arith,
       l.invariant.1 ∙ front_next (l.met + 1) (replicate a.padding (pos 0)) xs l.met l.met _ _ _ (omega arith) next next (omega (arith, size)) inside

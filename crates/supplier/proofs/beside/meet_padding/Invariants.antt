@@ -1,17 +1,9 @@
 -- `beside::meet_padding` meets its contract: what is left of the padding is beside what is left of the stretch. Assumes nothing.
-use mathlib.Core.Path.{◌≡◌, refl, sym, ap, ◌∙◌}
-use Prim.Native.Nat.{ℕ, suc, ◌+◌, ◌-◌, ◌≤◌, ◌<◌, zero-le}
-use native.Mathlib.Omega.{arith}
-use borrow.Author.Rules.{rules, sfits_of}
-use mir.Syntax.{w16}
-use mir.Val.{of_z, to_z}
-use mir.Facts.{to_z-of_z}
-use lib.IntN.{ℤ, pos}
-use lib.ListN.{length, get_or, take, drop, replicate, length-replicate, get_or-replicate}
+use mathlib.Core.Path.{◌≡◌}
+use Prim.Native.Nat.{◌+◌, ◌-◌, ◌≤◌}
+use lib.IntN.{pos}
+use lib.ListN.{drop, replicate}
 use Rattle.supplier.specs.Parts.{front}
-use Rattle.supplier.proofs.Front.{front_done, front_short, front_next, front_differs}
-use Rattle.supplier.proofs.beside.meet_padding.Reads as reads
-use Rattle.supplier.proofs.beside.meet_padding.Lts as lts
 use Rattle.supplier.proofs.beside.meet_padding.Given as goal
 
 abbrev pub invariant-loop-met : goal.invariant-loop-met

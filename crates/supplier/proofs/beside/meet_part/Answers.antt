@@ -1,18 +1,15 @@
 -- `beside::meet_part` meets its contract. Assumes nothing.
 use mathlib.Core.Path.{◌≡◌, refl, sym, ap, ◌∙◌}
-use Prim.Native.Nat.{ℕ, suc, ◌+◌, ◌-◌, ◌≤◌, ◌<◌, zero-le}
+use Prim.Native.Nat.{◌+◌, ◌≤◌, ◌<◌, zero-le}
 use native.Mathlib.Omega.{arith}
-use borrow.Author.Rules.{rules, sfits_of}
+use borrow.Author.Rules.{rules}
 use mir.Syntax.{w16}
-use mir.Val.{of_z, to_z}
+use mir.Val.{of_z, to_z, SFits}
 use mir.Facts.{to_z-of_z}
-use lib.IntN.{ℤ, pos}
-use lib.ListN.{length, get_or, take, drop}
+use lib.IntN.{pos}
+use lib.ListN.{length, get_or, take}
 use lib.Seq.{length-take-le, get_or-take}
-use Rattle.supplier.specs.Parts.{front}
 use Rattle.supplier.proofs.Front.{front_done, front_short, front_next, front_differs}
-use Rattle.supplier.proofs.beside.meet_part.Reads as reads
-use Rattle.supplier.proofs.beside.meet_part.Lts as lts
 use Rattle.supplier.proofs.beside.meet_part.Goals as goal
 
 pub loop-i-init : goal.loop-i-init
@@ -52,8 +49,9 @@ loop-i-preserved c =
     let more : l.i < a.count = search rules in
     let x = get_or xs (a.at + l.i) (pos 0) in
     let y = get_or a.made.now l.i (pos 0) in
-    let box : to_z w16 (of_z w16 x) ≡ x = to_z-of_z {w = w16} {z = x} (sfits_of c.sample-1.given) in
-    let own : to_z w16 (of_z w16 y) ≡ y = to_z-of_z {w = w16} {z = y} (sfits_of c.own-1.given) in
+    let fits : SFits w16 x × SFits w16 y = (search rules, search rules) in
+    let box : to_z w16 (of_z w16 x) ≡ x = to_z-of_z {w = w16} {z = x} fits.0 in
+    let own : to_z w16 (of_z w16 y) ≡ y = to_z-of_z {w = w16} {z = y} fits.1 in
     let here : x ≡ y = sym box ∙ ap (to_z w16) c.if-sample-own.false ∙ own in (
       l.invariant.0,
       l.invariant.1,

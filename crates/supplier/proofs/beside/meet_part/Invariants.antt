@@ -1,18 +1,8 @@
 -- `beside::meet_part` meets its contract. Assumes nothing.
-use mathlib.Core.Path.{◌≡◌, refl, sym, ap, ◌∙◌}
-use Prim.Native.Nat.{ℕ, suc, ◌+◌, ◌-◌, ◌≤◌, ◌<◌, zero-le}
-use native.Mathlib.Omega.{arith}
-use borrow.Author.Rules.{rules, sfits_of}
-use mir.Syntax.{w16}
-use mir.Val.{of_z, to_z}
-use mir.Facts.{to_z-of_z}
-use lib.IntN.{ℤ, pos}
-use lib.ListN.{length, get_or, take, drop}
-use lib.Seq.{length-take-le, get_or-take}
+use mathlib.Core.Path.{◌≡◌}
+use Prim.Native.Nat.{◌+◌, ◌-◌, ◌≤◌}
+use lib.ListN.{length, take, drop}
 use Rattle.supplier.specs.Parts.{front}
-use Rattle.supplier.proofs.Front.{front_done, front_short, front_next, front_differs}
-use Rattle.supplier.proofs.beside.meet_part.Reads as reads
-use Rattle.supplier.proofs.beside.meet_part.Lts as lts
 use Rattle.supplier.proofs.beside.meet_part.Given as goal
 
 abbrev pub invariant-loop-i : goal.invariant-loop-i

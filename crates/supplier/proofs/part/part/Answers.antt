@@ -1,16 +1,9 @@
 -- `part::part` meets its contract. Assumes nothing.
-use mathlib.Core.Path.{◌≡◌, refl, sym, ap, ◌∙◌}
-use Prim.Native.Nat.{ℕ, ◌+◌, ◌≤◌}
+use mathlib.Core.Path.{◌≡◌, ◌∙◌}
 use native.Mathlib.Omega.{arith}
 use lib.ListN.{length}
 use Rattle.sending.proofs.Parts.{counted_within}
 use borrow.Author.Rules.{rules}
-use Rattle.supplier.proofs.part.part.Reads as reads
-use Rattle.supplier.proofs.part.part.Lts as lts
-use Rattle.modulator.proofs.SoftModulator.provide_next_frame.Reads as provide-next-frame-reads
-use Rattle.modulator.proofs.SoftModulator.read_output_samples.Reads as read-output-samples-reads
-use Rattle.supplier.proofs.beside.meet_part.Reads as meet-part-reads
-use Rattle.supplier.proofs.part.count.Reads as count-reads
 use Rattle.supplier.proofs.part.part.Goals as goal
 
 pub meet_part-verdict-requires : goal.meet_part-verdict-requires

@@ -1,19 +1,8 @@
 -- `text::first_bad` meets its contract: the lines before the place are good. Assumes nothing.
-use mathlib.Core.Path.{◌≡◌, refl, sym, ap, ◌∙◌}
-use Prim.Native.Nat.{ℕ, suc, ◌+◌, ◌-◌, ◌≤◌, ◌<◌, zero-le}
-use native.Mathlib.Omega.{arith}
-use borrow.Author.Rules.{rules}
-use borrow.Author.Tests.{not-true, not-false}
-use lib.ListN.{length, take, drop, length-drop}
-use lib.Seq.{drop-drop}
-use Rattle.house.specs.Line.{good_line}
+use mathlib.Core.Path.{◌≡◌}
+use Prim.Native.Nat.{◌+◌, ◌-◌, ◌≤◌}
+use lib.ListN.{length, drop}
 use Rattle.sending.specs.Text.{lines_of, first_bad_lem, bad_line_lem}
-use Rattle.sending.proofs.Parts.{read_is_good}
-use Rattle.supplier.proofs.FirstLine.{bad_few, bad_line, bad_later, bad_none}
-use Rattle.supplier.proofs.text.first_bad.Reads as reads
-use Rattle.supplier.proofs.text.first_bad.Lts as lts
-use Rattle.house.proofs.line_symbols.Reads as line-symbols-reads
-use Rattle.supplier.proofs.text.line_at.Reads as line-at-reads
 use Rattle.supplier.proofs.text.first_bad.Given as goal
 
 abbrev pub invariant-loop-at : goal.invariant-loop-at
