@@ -1,6 +1,5 @@
 -- `reading::float` meets its contract. Assumes nothing.
 use mathlib.Core.Path.{ap, ◌∙◌}
-use borrow.Author.Rules.{rules}
 use lib.Ieee.{binary32, of_bits}
 use Rattle.wire.proofs.reading.float.Goals as goal
 

@@ -1,12 +1,12 @@
 -- `reading::floats` meets its contract: after i turns the first i places are written. Assumes nothing.
-use mathlib.Core.Path.{◌≡◌, refl}
-use Prim.Native.Nat.{◌-◌, ◌≤◌, ◌<◌}
+use mathlib.Core.Path.{refl}
+use Prim.Native.Nat.{◌<◌}
 use native.Mathlib.Numerals.{add-one}
 use native.Mathlib.Omega.{arith}
 use borrow.Author.Rules.{rules}
 use lib.ListN.{length, length-set}
 use lib.Ieee.{nan}
-use Rattle.numbers.specs.Firsts.{firsts, written}
+use Rattle.numbers.specs.Firsts.{firsts}
 use Rattle.numbers.proofs.Firsts.{written_step}
 use Rattle.wire.specs.Bytes.{float_at}
 use Rattle.wire.proofs.Slices.{filled}

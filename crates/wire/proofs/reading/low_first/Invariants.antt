@@ -1,12 +1,7 @@
 -- `reading::low_first` meets its contract: from the last byte on, what is there so far is the number of the bytes from place i on. Assumes nothing.
-use mathlib.Core.Path.{◌≡◌, refl}
-use Prim.Native.Nat.{◌-◌, ◌^◌, ◌≤◌, ◌<◌}
-use native.Mathlib.Omega.{arith}
-use borrow.Author.Rules.{rules}
-use lib.ListN.{length, drop, length-drop}
-use lib.Seq.{drop-length}
-use Rattle.wire.specs.Bytes.{low_first, LowFirst}
-use Rattle.wire.proofs.Bytes.{one_more, below}
+use Prim.Native.Nat.{◌≤◌}
+use lib.ListN.{length, drop}
+use Rattle.wire.specs.Bytes.{LowFirst}
 use Rattle.wire.proofs.reading.low_first.Given as goal
 
 abbrev pub invariant-loop-i : goal.invariant-loop-i

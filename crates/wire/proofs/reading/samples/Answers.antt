@@ -1,6 +1,6 @@
 -- `reading::samples` meets its contract: after i turns the first i places are written. Assumes nothing.
-use mathlib.Core.Path.{◌≡◌, refl}
-use Prim.Native.Nat.{◌-◌, ◌≤◌, ◌<◌}
+use mathlib.Core.Path.{refl}
+use Prim.Native.Nat.{◌<◌}
 use native.Mathlib.Numerals.{add-one}
 use native.Mathlib.Omega.{arith}
 use borrow.Author.Rules.{rules}
@@ -8,7 +8,7 @@ use mir.Syntax.{w16}
 use mir.Facts.{to_z-of_z}
 use lib.ListN.{length, length-set}
 use lib.IntN.{pos}
-use Rattle.numbers.specs.Firsts.{firsts, written}
+use Rattle.numbers.specs.Firsts.{firsts}
 use Rattle.numbers.proofs.Firsts.{written_step}
 use Rattle.wire.specs.Bytes.{sample_at}
 use Rattle.wire.proofs.Slices.{filled}

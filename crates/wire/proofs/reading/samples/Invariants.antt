@@ -1,17 +1,9 @@
 -- `reading::samples` meets its contract: after i turns the first i places are written. Assumes nothing.
-use mathlib.Core.Path.{◌≡◌, refl}
-use Prim.Native.Nat.{◌-◌, ◌≤◌, ◌<◌}
-use native.Mathlib.Numerals.{add-one}
-use native.Mathlib.Omega.{arith}
-use borrow.Author.Rules.{rules}
-use mir.Syntax.{w16}
-use mir.Facts.{to_z-of_z}
-use lib.ListN.{length, length-set}
-use lib.IntN.{pos}
-use Rattle.numbers.specs.Firsts.{firsts, written}
-use Rattle.numbers.proofs.Firsts.{written_step}
+use mathlib.Core.Path.{◌≡◌}
+use Prim.Native.Nat.{◌-◌, ◌≤◌}
+use lib.ListN.{length}
+use Rattle.numbers.specs.Firsts.{written}
 use Rattle.wire.specs.Bytes.{sample_at}
-use Rattle.wire.proofs.Slices.{filled}
 use Rattle.wire.proofs.reading.samples.Given as goal
 
 abbrev pub invariant-loop-i : goal.invariant-loop-i

@@ -2,18 +2,12 @@
 use mathlib.Core.Path.{◌≡◌, refl, sym, ◌∙◌}
 use native.Mathlib.Omega.{arith}
 use borrow.Author.Rules.{rules}
-use borrow.Author.Tests.{ltb-true, ltb-false}
-use lib.ListN.{length}
-use lib.Seq.{sets}
 use Rattle.wire.specs.Bytes.{lows}
 use Rattle.wire.proofs.Slices.{lows_next, sets_outside}
 use Rattle.wire.proofs.writing.lay.Goals as goal
 
 pub loop-left-init : goal.loop-left-init
 loop-left-init c = (refl, refl)
-
-pub overflow_add-place : goal.overflow_add-place
-overflow_add-place c = record { fits = omega (arith, ltb-true c.loop-left.place (length c.loop-left.to) c.if-place-to.true-raw) }
 
 pub loop-left-preserved : goal.loop-left-preserved
 loop-left-preserved c =
@@ -23,7 +17,7 @@ loop-left-preserved c =
 pub returns-else-place-to : goal.returns-else-place-to
 returns-else-place-to c =
     let l = c.loop-left in
-    sym (sets_outside (lows l.left l.rest) l.to l.place (ltb-false l.place (length l.to) c.if-place-to.false-raw)) ∙ l.invariant.1
+    sym (sets_outside (lows l.left l.rest) l.to l.place (omega arith)) ∙ l.invariant.1
 
 pub returns-after-loop-left : goal.returns-after-loop-left
 unfolding lows

@@ -1,12 +1,8 @@
 -- `writing::lay` meets its contract: what is still to be laid makes of what is there what the whole makes of the slice. Assumes nothing.
-use mathlib.Core.Path.{◌≡◌, refl, sym, ◌∙◌}
-use native.Mathlib.Omega.{arith}
-use borrow.Author.Rules.{rules}
-use borrow.Author.Tests.{ltb-true, ltb-false}
+use mathlib.Core.Path.{◌≡◌}
 use lib.ListN.{length}
 use lib.Seq.{sets}
 use Rattle.wire.specs.Bytes.{lows}
-use Rattle.wire.proofs.Slices.{lows_next, sets_outside}
 use Rattle.wire.proofs.writing.lay.Given as goal
 
 abbrev pub invariant-loop-left : goal.invariant-loop-left

@@ -1,7 +1,6 @@
 -- `writing::lay_float` meets its contract. Assumes nothing.
 use mathlib.Core.Path.{ap, ◌∙◌}
 use Prim.Native.Nat.{ℕ}
-use borrow.Author.Rules.{rules}
 use lib.Seq.{sets}
 use Rattle.wire.specs.Bytes.{lows}
 use Rattle.wire.proofs.writing.lay_float.Goals as goal

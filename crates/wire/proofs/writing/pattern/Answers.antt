@@ -1,6 +1,5 @@
 -- `writing::pattern` meets its contract: what equals itself has a pattern, and 0x7fc0_0000 is the logic's own for what does not. Assumes nothing.
 use mathlib.Core.Path.{sym, ap, subst}
-use borrow.Author.Rules.{rules}
 use lib.Dec.{T}
 use lib.Ieee.{binary32, to_bits}
 use lib.Ieee.Compare.{differs_from_itself}

@@ -1,11 +1,10 @@
 -- `writing::put_floats` meets its contract: after i turns the first i are laid. Assumes nothing.
 use mathlib.Core.Path.{◌≡◌, refl, ◌∙◌}
-use Prim.Native.Nat.{◌-◌, ◌≤◌}
 use native.Mathlib.Numerals.{add-one}
 use native.Mathlib.Omega.{arith}
 use borrow.Author.Rules.{rules}
 use lib.ListN.{length}
-use Rattle.wire.specs.Bytes.{laid, float_bits}
+use Rattle.wire.specs.Bytes.{laid}
 use Rattle.wire.proofs.writing.put_floats.Goals as goal
 
 pub loop-i-init : goal.loop-i-init

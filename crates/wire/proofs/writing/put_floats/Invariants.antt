@@ -1,9 +1,6 @@
 -- `writing::put_floats` meets its contract: after i turns the first i are laid. Assumes nothing.
-use mathlib.Core.Path.{◌≡◌, refl, ◌∙◌}
+use mathlib.Core.Path.{◌≡◌}
 use Prim.Native.Nat.{◌-◌, ◌≤◌}
-use native.Mathlib.Numerals.{add-one}
-use native.Mathlib.Omega.{arith}
-use borrow.Author.Rules.{rules}
 use lib.ListN.{length}
 use Rattle.wire.specs.Bytes.{laid, float_bits}
 use Rattle.wire.proofs.writing.put_floats.Given as goal

@@ -1,10 +1,9 @@
 -- `writing::put_numbers` meets its contract: after i turns the first i are laid. Assumes nothing.
 use mathlib.Core.Path.{◌≡◌, refl, ◌∙◌}
-use Prim.Native.Nat.{ℕ, ◌-◌, ◌≤◌}
 use native.Mathlib.Numerals.{add-one}
 use native.Mathlib.Omega.{arith}
 use borrow.Author.Rules.{rules}
-use lib.ListN.{length, get_or}
+use lib.ListN.{length}
 use Rattle.wire.specs.Bytes.{laid}
 use Rattle.wire.proofs.writing.put_numbers.Goals as goal
 

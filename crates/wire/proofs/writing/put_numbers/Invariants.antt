@@ -1,9 +1,6 @@
 -- `writing::put_numbers` meets its contract: after i turns the first i are laid. Assumes nothing.
-use mathlib.Core.Path.{◌≡◌, refl, ◌∙◌}
+use mathlib.Core.Path.{◌≡◌}
 use Prim.Native.Nat.{ℕ, ◌-◌, ◌≤◌}
-use native.Mathlib.Numerals.{add-one}
-use native.Mathlib.Omega.{arith}
-use borrow.Author.Rules.{rules}
 use lib.ListN.{length, get_or}
 use Rattle.wire.specs.Bytes.{laid}
 use Rattle.wire.proofs.writing.put_numbers.Given as goal

@@ -1,14 +1,13 @@
 -- `writing::put_samples` meets its contract: after i turns the first i are laid. Assumes nothing.
 use mathlib.Core.Path.{◌≡◌, refl, ◌∙◌}
-use Prim.Native.Nat.{◌-◌, ◌≤◌}
 use native.Mathlib.Numerals.{add-one}
 use native.Mathlib.Omega.{arith}
-use borrow.Author.Rules.{rules, sfits_of}
+use borrow.Author.Rules.{rules}
 use mir.Syntax.{w16}
 use mir.Facts.{to_z-of_z}
 use lib.IntN.{pos}
 use lib.ListN.{length, get_or}
-use Rattle.wire.specs.Bytes.{laid, sample_bits}
+use Rattle.wire.specs.Bytes.{laid}
 use Rattle.wire.proofs.writing.put_samples.Goals as goal
 
 pub loop-i-init : goal.loop-i-init
@@ -20,7 +19,7 @@ unfolding laid
 loop-i-preserved c =
     let l = c.loop-i in
     let samples = c.args.from.now in
-    let back = to_z-of_z {w = w16} {z = get_or samples l.i (pos 0)} (sfits_of c.lay_sample-arg-in-loop-i-1.given) in
+    let back = to_z-of_z {w = w16} {z = get_or samples l.i (pos 0)} (search rules) in
     (search rules, search rules, rw add-one (c.lay_sample.ensures ∙ rw (back, l.invariant.2)))
 
 pub returns : goal.returns

@@ -1,13 +1,7 @@
 -- `writing::put_samples` meets its contract: after i turns the first i are laid. Assumes nothing.
-use mathlib.Core.Path.{◌≡◌, refl, ◌∙◌}
+use mathlib.Core.Path.{◌≡◌}
 use Prim.Native.Nat.{◌-◌, ◌≤◌}
-use native.Mathlib.Numerals.{add-one}
-use native.Mathlib.Omega.{arith}
-use borrow.Author.Rules.{rules, sfits_of}
-use mir.Syntax.{w16}
-use mir.Facts.{to_z-of_z}
-use lib.IntN.{pos}
-use lib.ListN.{length, get_or}
+use lib.ListN.{length}
 use Rattle.wire.specs.Bytes.{laid, sample_bits}
 use Rattle.wire.proofs.writing.put_samples.Given as goal
 
