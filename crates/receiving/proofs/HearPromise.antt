@@ -10,7 +10,6 @@ use lib.Dec.{ltb}
 use lib.IntN.{ℤ}
 use lib.ListN.{length, take, drop, length-append}
 use lib.Seq.{take_all, take-length, length-take-le}
-use Rattle.machine.specs.Runs.{answers}
 use Rattle.search.proofs.AgeInPass.{by_test}
 use Rattle.demodulator.specs.declared.SoftDemodulator.{SoftDemodulator}
 use Rattle.demodulator.specs.Calls.{is_refusal}

@@ -3,7 +3,6 @@ use mathlib.Core.Path.{◌≡◌, refl, ap}
 use mathlib.Core.List.{List}
 use Prim.Native.Nat.{ℕ}
 use Rattle.numbers.proofs.Answer.{same_answer}
-use Rattle.machine.specs.Runs.{answers}
 use Rattle.protocol.proofs.Numbers.{numbered, numbered_back}
 use Rattle.demodulator.specs.Calls.{Paper, refusal, nothing, frame, done, carrier}
 use Rattle.demodulator.proofs.OnlyAnswer.{once}

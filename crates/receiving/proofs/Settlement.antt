@@ -22,7 +22,7 @@ use Rattle.listening.specs.declared.Settled.TheVariants.{Nothing, By}
 use Rattle.listening.specs.declared.Listened.{Listened}
 use Rattle.listening.specs.Listener.{listed_of}
 use Rattle.listening.specs.Verdict.{verdict}
-use Rattle.listening.specs.Listen.{stretch_of, replies_in, settled_paper, ListenSays}
+use Rattle.listening.specs.Listen.{stretch_of, replies_in, ListenSays}
 use Rattle.receiving.specs.declared.Receipt.{Receipt}
 use Rattle.receiving.specs.Text.{if_accepted, lines_of, go_in, batch_of, refusal_in, told_to}
 use Rattle.receiving.specs.Hear.{receipt_paper}

@@ -1,4 +1,6 @@
 // What the program receive does between its reads and its writes: bytes become samples, and accepted windows become lines.
+#![tactic(auto)]
+
 ghost use Rattle.std.specs.Prelude.{◌≡◌};
 ghost use Rattle.receiving.specs.Hear.{NewSays, HearSays};
 ghost use Rattle.receiving.specs.Parts.{is_admitted_lem, looks_at};

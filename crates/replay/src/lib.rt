@@ -1,4 +1,6 @@
 // A replay opened in the middle of a recording: the first offer from a sample on, without hearing all that came before.
+#![tactic(auto)]
+
 ghost use Rattle.std.specs.Prelude.{◌≡◌, ◌++◌, ◌+◌, ◌≤◌, ◌<◌, ◌^◌, length, drop};
 ghost use Rattle.silence.specs.Later.{later_offer};
 ghost use Rattle.replay.specs.Open.{OpenSays};

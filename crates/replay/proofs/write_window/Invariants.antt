@@ -1,15 +1,8 @@
 -- `write_window` meets its contract: the first i symbols are copied, and the rest of the room is as it was. Assumes nothing.
-use mathlib.Core.Path.{◌≡◌, refl, sym, ap, ◌∙◌}
-use mathlib.Core.List.{List, ◌++◌}
-use Prim.Native.Nat.{◌-◌, ◌≤◌, ◌<◌}
-use native.Mathlib.Omega.{arith}
-use native.Mathlib.Numerals.{add-one}
-use borrow.Author.Rules.{rules}
-use lib.ListN.{length, drop, length-set}
-use lib.Seq.{ext_get_or}
-use lib.Ieee.{Float, nan}
-use Rattle.numbers.specs.Firsts.{firsts, written}
-use Rattle.numbers.proofs.Firsts.{length_firsts, firsts_at, written_step}
+use mathlib.Core.Path.{◌≡◌}
+use Prim.Native.Nat.{◌-◌, ◌≤◌}
+use lib.ListN.{length}
+use Rattle.numbers.specs.Firsts.{written}
 use Rattle.house.specs.Accept.{symbol_at}
 use Rattle.replay.proofs.write_window.Given as goal
 

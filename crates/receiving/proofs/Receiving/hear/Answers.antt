@@ -3,8 +3,7 @@ use mathlib.Core.Path.{◌≡◌, sym, ap, ◌∙◌}
 use mathlib.Core.Logic.{inl, inr}
 use Prim.Native.Nat.{ℕ, ◌*◌, ◌≤◌}
 use native.Mathlib.Omega.{arith}
-use borrow.Author.Tests.{eqb-true, eqb-false}
-use borrow.Author.Rules.{rules}
+use borrow.Author.Tests.{eqb-true}
 use lib.IntN.{pos}
 use lib.ListN.{length, take, replicate}
 use lib.Seq.{length-take-le}
@@ -46,7 +45,7 @@ paired u =
     rw same at u.pair_up-paired.ensures
 
 count_fits : (u : After-pair_up-paired) → u.pair_up-paired.result.count ≤ length u.pair_up-paired.new.samples
-count_fits u = omega (arith, u.pair_up-paired.ensures.same-room, u.pair_up-paired.ensures.count)
+count_fits u = omega (arith, u.pair_up-paired.ensures.same_room, u.pair_up-paired.ensures.count)
 
 pub slice_bounds-samples-end : goal.slice_bounds-samples-end
 slice_bounds-samples-end c = count_fits c.before.before.before
@@ -80,7 +79,4 @@ measure_part-part-requires c =
 pub returns : goal.returns
 returns c =
     part_says _ _ _ _ _ _ _ _ (paired c.before.before.before.before.before.before.before.before.before.before.before.before) c.hear_samples-heard.ensures _ c.measure_part-part.ensures
-    (elim c.else-is_admitted.branch [
-      | inl both ↦ inr (eqb-false c.hear_samples-heard.result.fed c.pair_up-paired.result.count both.2.left)
-      | inr refused ↦ inl (sym c.is_admitted.ensures ∙ refused.left)
-    ])
+    (elim c.else-is_admitted.either [ inl both ↦ inr both.1 | inr refused ↦ inl (sym c.is_admitted.ensures ∙ refused) ])

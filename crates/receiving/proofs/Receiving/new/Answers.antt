@@ -1,6 +1,5 @@
 -- `new` meets its contract. Assumes nothing.
 use mathlib.Core.Path.{ap}
-use borrow.Author.Rules.{rules}
 use Rattle.demodulator.specs.declared.SoftDemodulator.{SoftDemodulator}
 use Rattle.demodulator.specs.Calls.{made}
 use Rattle.receiving.specs.declared.Odd.TheVariants.{Nothing}

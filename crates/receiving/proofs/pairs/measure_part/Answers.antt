@@ -1,7 +1,6 @@
 -- `pairs::measure_part` meets its contract. Assumes nothing.
 use native.Mathlib.Omega.{arith}
 use borrow.Author.Tests.{eq-eqb, ne_eqb}
-use borrow.Author.Rules.{rules}
 use Rattle.receiving.proofs.pairs.measure_part.Goals as goal
 
 pub returns-then-fed-eq0 : goal.returns-then-fed-eq0

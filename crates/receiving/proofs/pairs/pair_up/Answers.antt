@@ -28,7 +28,7 @@ pair_whole-rest-requires c =
 -- the sample of the byte that waited, and the others after it
 pub returns-else-bytes-eq0 : goal.returns-else-bytes-eq0
 returns-else-bytes-eq0 c =
-    let made = to_z-of_z {c.before.before.before = w16} {z = c.i16_of_bytes-sample.result} (sfits_of c.i16_of_bytes-sample.type_inv) ∙ c.i16_of_bytes-sample.ensures in
+    let made = to_z-of_z {w = w16} {z = c.i16_of_bytes-sample.result} (sfits_of c.i16_of_bytes-sample.type_inv) ∙ c.i16_of_bytes-sample.ensures in
     rw c.in-Held.is (pairs_held _ _ _ _ _ _ made (search rules) (search rules) c.pair_whole-rest.ensures)
 
 pub overflow_add-count : goal.overflow_add-count
@@ -38,4 +38,4 @@ pub returns-in-Nothing : goal.returns-in-Nothing
 returns-in-Nothing c = rw c.in-Nothing.is c.pair_whole.ensures
 
 pub shape_of-samples-else-bytes-eq0 : goal.shape_of-samples-else-bytes-eq0
-shape_of-samples-else-bytes-eq0 c = (returns-else-bytes-eq0 c).same-room
+shape_of-samples-else-bytes-eq0 c = (returns-else-bytes-eq0 c).same_room

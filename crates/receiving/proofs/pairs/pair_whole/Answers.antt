@@ -1,13 +1,13 @@
 -- `pairs::pair_whole` meets its contract: the samples so far, and those of the bytes that are left, are all. Assumes nothing.
 use mathlib.Core.Path.{◌≡◌, refl, ◌∙◌}
-use Prim.Native.Nat.{◌+◌, ◌-◌, ◌*◌, ◌/◌, ◌≤◌}
+use Prim.Native.Nat.{◌*◌, ◌/◌, ◌≤◌}
 use native.Mathlib.Omega.{arith}
 use borrow.Author.Rules.{rules, sfits_of}
 use mir.Syntax.{w16}
 use mir.Facts.{to_z-of_z}
 use lib.ListN.{length, drop_of_length-le}
 use Rattle.receiving.specs.declared.Odd.TheVariants.{Nothing, Held}
-use Rattle.receiving.proofs.BytePairs.{PairsSoFar, pairs_start, pairs_more, pairs_end, one_left}
+use Rattle.receiving.proofs.BytePairs.{pairs_start, pairs_more, pairs_end, one_left}
 use Rattle.receiving.proofs.pairs.pair_whole.Goals as goal
 
 pub loop-i-init : goal.loop-i-init

@@ -1,13 +1,8 @@
 -- `pairs::pair_whole` meets its contract: the samples so far, and those of the bytes that are left, are all. Assumes nothing.
-use mathlib.Core.Path.{◌≡◌, refl, ◌∙◌}
+use mathlib.Core.Path.{◌≡◌}
 use Prim.Native.Nat.{◌+◌, ◌-◌, ◌*◌, ◌/◌, ◌≤◌}
-use native.Mathlib.Omega.{arith}
-use borrow.Author.Rules.{rules, sfits_of}
-use mir.Syntax.{w16}
-use mir.Facts.{to_z-of_z}
-use lib.ListN.{length, drop_of_length-le}
-use Rattle.receiving.specs.declared.Odd.TheVariants.{Nothing, Held}
-use Rattle.receiving.proofs.BytePairs.{PairsSoFar, pairs_start, pairs_more, pairs_end, one_left}
+use lib.ListN.{length}
+use Rattle.receiving.proofs.BytePairs.{PairsSoFar}
 use Rattle.receiving.proofs.pairs.pair_whole.Given as goal
 
 abbrev pub invariant-loop-i : goal.invariant-loop-i

@@ -1,6 +1,5 @@
 -- `windows::give_receipt` meets its contract. Assumes nothing.
 use borrow.Author.Tests.{eq-eqb, ne_eqb}
-use borrow.Author.Rules.{rules}
 use Rattle.receiving.proofs.FedStretch.{either_way}
 use Rattle.receiving.proofs.windows.give_receipt.Goals as goal
 

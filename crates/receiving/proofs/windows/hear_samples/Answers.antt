@@ -3,16 +3,16 @@ use mathlib.Core.Path.{sym, ap, ◌∙◌}
 use mathlib.Core.List.{List}
 use Prim.Native.Nat.{◌+◌, ◌-◌, ◌*◌, ◌≤◌, ◌<◌}
 use native.Mathlib.Omega.{arith}
-use borrow.Author.Tests.{leb-true, leb-false, not-true, not-false}
+use borrow.Author.Tests.{leb-true, leb-false}
 use borrow.Author.Rules.{rules}
 use lib.IntN.{ℤ}
-use lib.ListN.{length, take, drop, length-drop}
+use lib.ListN.{length, drop, length-drop}
 use Rattle.receiving.specs.Text.{refusal_in}
 use Rattle.receiving.specs.Hear.{most_samples}
-use Rattle.receiving.specs.Parts.{HearsStretch, Roomy}
+use Rattle.receiving.specs.Parts.{HearsStretch}
 use Rattle.receiving.proofs.Lines.{tail_is}
 use Rattle.receiving.proofs.Settlement.{hears_nothing}
-use Rattle.receiving.proofs.Progress.{SoFar, ToCome, starts, all_to_come, hears_out, further, fed_some_more, more_to_come, hears_to_here}
+use Rattle.receiving.proofs.Progress.{starts, all_to_come, hears_out, further, fed_some_more, more_to_come, hears_to_here}
 use Rattle.receiving.proofs.windows.hear_samples.Goals as goal
 use Rattle.receiving.proofs.windows.hear_samples.Goals.{At-loop-fed, Then-lines-written-ge-LINE, After-hear_stretch-heard}
 
@@ -28,7 +28,7 @@ record Turn (l : At-loop-fed) : Type 0 where
 turn_of : (t : Then-lines-written-ge-LINE) → Turn t.before.before
 turn_of t =
     let l = t.loop-fed in
-    record { more = search rules; enough = omega (arith, l.invariant.2.same-room, leb-true 97 (length l.lines - l.written) t.if-lines-written-ge-LINE.true-raw) }
+    record { more = search rules; enough = omega (arith, l.invariant.2.same_room, leb-true 97 (length l.lines - l.written) t.if-lines-written-ge-LINE.true-raw) }
 
 stretched : (h : After-hear_stretch-heard) → let l = h.loop-fed in HearsStretch l.left (drop l.fed (samples-of h.before.before.before.before.before)) (drop l.written l.lines) h.hear_stretch-heard.result h.hear_stretch-heard.new.room
 stretched h =
@@ -63,7 +63,7 @@ slice_bounds-hear_stretch-end-in-loop-fed c = let fits = c.loop-fed.invariant.2.
 pub hear_stretch-heard-requires : goal.hear_stretch-heard-requires
 hear_stretch-heard-requires c =
     let l = c.loop-fed in
-    rw (tail_is l.lines l.written) (simp length-drop (omega (arith, (turn_of c.before.before).enough, l.invariant.2.same-room)))
+    rw (tail_is l.lines l.written) (simp length-drop (omega (arith, (turn_of c.before.before).enough, l.invariant.2.same_room)))
 
 -- where the work is after the stretch
 stands : (h : After-hear_stretch-heard) → let l = h.loop-fed in let r = h.hear_stretch-heard.result in (l.written + r.written ≤ 97 * (l.fed + r.fed)) × (l.fed + r.fed ≤ length (samples-of h.before.before.before.before.before)) × (length (samples-of h.before.before.before.before.before) ≤ most_samples)
@@ -83,7 +83,7 @@ pub shape_of-lines-then-not-is_offered : goal.shape_of-lines-then-not-is_offered
 shape_of-lines-then-not-is_offered c =
     let l = c.loop-fed in
     let t = turn_of c.before.before.before.before.before.before.before.before.before.before.before.before in
-    let room = (further _ _ _ _ _ _ _ l.invariant.2 l.invariant.3 t.more t.enough _ _ (stretched c.before.before.before.before.before.before.before.before.before)).same-room in
+    let room = (further _ _ _ _ _ _ _ l.invariant.2 l.invariant.3 t.more t.enough _ _ (stretched c.before.before.before.before.before.before.before.before.before)).same_room in
     search rules
 
 pub returns-then-not-is_offered : goal.returns-then-not-is_offered
@@ -110,18 +110,18 @@ loop-fed-preserved c =
     )
 
 pub shape_of-lines-else-lines-written-ge-LINE : goal.shape_of-lines-else-lines-written-ge-LINE
-shape_of-lines-else-lines-written-ge-LINE c = let room = c.loop-fed.invariant.2.same-room in search rules
+shape_of-lines-else-lines-written-ge-LINE c = let room = c.loop-fed.invariant.2.same_room in search rules
 
 -- some samples went in: at first there is room for a line
 pub returns-else-lines-written-ge-LINE : goal.returns-else-lines-written-ge-LINE
 returns-else-lines-written-ge-LINE c =
     let l = c.loop-fed in
     let s = l.invariant.2 in
-    let less : length c.args.lines.now - l.written < 97 = omega (arith, s.same-room, leb-false 97 (length l.lines - l.written) c.if-lines-written-ge-LINE.false-raw) in
+    let less : length c.args.lines.now - l.written < 97 = omega (arith, s.same_room, leb-false 97 (length l.lines - l.written) c.if-lines-written-ge-LINE.false-raw) in
     hears_out _ _ _ _ _ _ _ s l.invariant.3 (omega (arith, s.few, less, l.invariant.1.room l.invariant.0)) (λ _. less)
 
 pub shape_of-lines-after-loop-fed : goal.shape_of-lines-after-loop-fed
-shape_of-lines-after-loop-fed c = let room = c.loop-fed.invariant.2.same-room in search rules
+shape_of-lines-after-loop-fed c = let room = c.loop-fed.invariant.2.same_room in search rules
 
 pub returns-after-loop-fed : goal.returns-after-loop-fed
 returns-after-loop-fed c =

@@ -1,5 +1,4 @@
 -- `windows::hear_stretch` meets its contract. Assumes nothing.
-use borrow.Author.Rules.{rules}
 use Rattle.receiving.proofs.Settlement.{hears_stretch}
 use Rattle.receiving.proofs.windows.hear_stretch.Goals as goal
 

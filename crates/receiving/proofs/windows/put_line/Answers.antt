@@ -1,11 +1,11 @@
 -- `windows::put_line` meets its contract: the first i bytes of the line are copied, and the rest of the room is as it was. Assumes nothing.
 use mathlib.Core.Path.{◌≡◌, refl, ap, ◌∙◌}
 use mathlib.Core.List.{List, ◌++◌}
-use Prim.Native.Nat.{ℕ, ◌≤◌, ◌-◌}
+use Prim.Native.Nat.{ℕ}
 use native.Mathlib.Omega.{arith}
 use native.Mathlib.Numerals.{add-one}
 use borrow.Author.Rules.{rules}
-use lib.ListN.{length, get_or, drop, length-set}
+use lib.ListN.{length, drop, length-set}
 use Rattle.numbers.specs.Firsts.{firsts, written}
 use Rattle.numbers.proofs.Firsts.{written_step}
 use Rattle.receiving.proofs.Lines.{length_line, whole}

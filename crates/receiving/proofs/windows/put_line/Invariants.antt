@@ -1,14 +1,9 @@
 -- `windows::put_line` meets its contract: the first i bytes of the line are copied, and the rest of the room is as it was. Assumes nothing.
-use mathlib.Core.Path.{◌≡◌, refl, ap, ◌∙◌}
-use mathlib.Core.List.{List, ◌++◌}
+use mathlib.Core.Path.{◌≡◌}
+use mathlib.Core.List.{List}
 use Prim.Native.Nat.{ℕ, ◌≤◌, ◌-◌}
-use native.Mathlib.Omega.{arith}
-use native.Mathlib.Numerals.{add-one}
-use borrow.Author.Rules.{rules}
-use lib.ListN.{length, get_or, drop, length-set}
-use Rattle.numbers.specs.Firsts.{firsts, written}
-use Rattle.numbers.proofs.Firsts.{written_step}
-use Rattle.receiving.proofs.Lines.{length_line, whole}
+use lib.ListN.{length, get_or}
+use Rattle.numbers.specs.Firsts.{written}
 use Rattle.receiving.proofs.windows.put_line.Given as goal
 
 abbrev pub byte_in : List ℕ → ℕ → ℕ

@@ -1,6 +1,5 @@
 -- `windows::put_settled` meets its contract. Assumes nothing.
 use mathlib.Core.Path.{sym, ◌∙◌}
-use borrow.Author.Rules.{rules}
 use Rattle.receiving.proofs.Settlement.{puts_accepted, puts_nothing}
 use Rattle.receiving.proofs.windows.put_settled.Goals as goal
 

@@ -7,9 +7,8 @@ use native.Mathlib.Nat.{le_refl}
 use native.Mathlib.Omega.{arith}
 use borrow.Author.Rules.{rules}
 use lib.IntN.{ℤ}
-use lib.ListN.{length}
 use Rattle.numbers.proofs.Tests.{lt_or_le}
-use Rattle.replay.specs.Pauses.{FirstSound, PauseAt}
+use Rattle.replay.specs.Pauses.{FirstSound}
 use Rattle.replay.proofs.pause.find_pause.Invariants.{NoneAfter}
 use Rattle.replay.proofs.pause.find_pause.Goals as goal
 
@@ -20,7 +19,6 @@ module _ (span most : ℕ) (xs : List ℤ) (end at : ℕ)
   ruled_out e l u P = elim (lt_or_le end e) [
     | inr under ↦ let a = S.least in S.sound below (P.zeros at (omega arith) l)
     | inl over ↦ none e over u P
-
   ]
 
 pub loop-end-init : goal.loop-end-init

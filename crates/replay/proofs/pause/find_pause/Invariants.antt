@@ -1,15 +1,9 @@
 -- `pause::find_pause` meets its contract: no stretch ends with more samples than are left, up to the most. Assumes nothing.
-use mathlib.Core.Path.{refl}
-use mathlib.Core.Logic.{inl, inr}
 use mathlib.Core.List.{List}
-use Prim.Native.Nat.{ℕ, ◌-◌, ◌≤◌, ◌<◌}
-use native.Mathlib.Nat.{le_refl}
-use native.Mathlib.Omega.{arith}
-use borrow.Author.Rules.{rules}
+use Prim.Native.Nat.{ℕ, ◌≤◌, ◌<◌}
 use lib.IntN.{ℤ}
 use lib.ListN.{length}
-use Rattle.numbers.proofs.Tests.{lt_or_le}
-use Rattle.replay.specs.Pauses.{FirstSound, PauseAt}
+use Rattle.replay.specs.Pauses.{PauseAt}
 use Rattle.replay.proofs.pause.find_pause.Given as goal
 
 -- no pause ends past it
