@@ -3,7 +3,6 @@ use mathlib.Core.Path.{◌≡◌, sym, ap, ◌∙◌}
 use mathlib.Core.Logic.{inl, inr}
 use Prim.Native.Nat.{ℕ, ◌*◌, ◌≤◌}
 use native.Mathlib.Omega.{arith}
-use borrow.Author.Tests.{eqb-true}
 use lib.IntN.{pos}
 use lib.ListN.{length, take, replicate}
 use lib.Seq.{length-take-le}
@@ -69,7 +68,7 @@ pub returns-then-heard-count : goal.returns-then-heard-count
 returns-then-heard-count c =
     let a = c.args in
     let long = sym (seen_long c.before.before.before.before.before.before.before.before.before.before.before.before.before.before.before) ∙ ap length (ap (λ (k : ℕ). take k a.bytes.now) c.look_at-looked.ensures ∙ looked_is a.bytes.now (length a.lines.now)) in
-    whole_says _ _ _ _ _ _ _ _ (paired c.before.before.before.before.before.before.before.before.before.before.before.before.before) c.hear_samples-heard.ensures (sym c.is_admitted.ensures ∙ c.if-is_admitted.true) (eqb-true c.hear_samples-heard.result.fed c.pair_up-paired.result.count c.if-heard-count.true-raw) _ long
+    whole_says _ _ _ _ _ _ _ _ (paired c.before.before.before.before.before.before.before.before.before.before.before.before.before) c.hear_samples-heard.ensures (sym c.is_admitted.ensures ∙ c.if-is_admitted.true) c.if-heard-count.true _ long
 
 pub measure_part-part-requires : goal.measure_part-part-requires
 measure_part-part-requires c =

@@ -3,7 +3,6 @@ use mathlib.Core.Path.{sym, ap, ◌∙◌}
 use mathlib.Core.List.{List}
 use Prim.Native.Nat.{◌+◌, ◌-◌, ◌*◌, ◌≤◌, ◌<◌}
 use native.Mathlib.Omega.{arith}
-use borrow.Author.Tests.{leb-true, leb-false}
 use borrow.Author.Rules.{rules}
 use lib.IntN.{ℤ}
 use lib.ListN.{length, drop, length-drop}
@@ -28,7 +27,7 @@ record Turn (l : At-loop-fed) : Type 0 where
 turn_of : (t : Then-lines-written-ge-LINE) → Turn t.before.before
 turn_of t =
     let l = t.loop-fed in
-    record { more = search rules; enough = omega (arith, l.invariant.2.same_room, leb-true 97 (length l.lines - l.written) t.if-lines-written-ge-LINE.true-raw) }
+    record { more = search rules; enough = omega (arith, l.invariant.2.same_room) }
 
 stretched : (h : After-hear_stretch-heard) → let l = h.loop-fed in HearsStretch l.left (drop l.fed (samples-of h.before.before.before.before.before)) (drop l.written l.lines) h.hear_stretch-heard.result h.hear_stretch-heard.new.room
 stretched h =
@@ -117,7 +116,7 @@ pub returns-else-lines-written-ge-LINE : goal.returns-else-lines-written-ge-LINE
 returns-else-lines-written-ge-LINE c =
     let l = c.loop-fed in
     let s = l.invariant.2 in
-    let less : length c.args.lines.now - l.written < 97 = omega (arith, s.same_room, leb-false 97 (length l.lines - l.written) c.if-lines-written-ge-LINE.false-raw) in
+    let less : length c.args.lines.now - l.written < 97 = omega (arith, s.same_room) in
     hears_out _ _ _ _ _ _ _ s l.invariant.3 (omega (arith, s.few, less, l.invariant.1.room l.invariant.0)) (λ _. less)
 
 pub shape_of-lines-after-loop-fed : goal.shape_of-lines-after-loop-fed
