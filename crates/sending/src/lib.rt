@@ -1,5 +1,7 @@
 // What the program `send` does between its reads and its writes: preamble, a frame for each good line and the end of transmission,
 // each as the bytes that are to be written. All goes by value in arrays of fixed length: no caller can bring too little room.
+#![tactic(auto)]
+
 ghost use Rattle.std.specs.Prelude.{take};
 ghost use Rattle.sending.specs.Calls.{moved, Says, TurnSays, IsAdmittedSays, LastWordsSays};
 

@@ -1,9 +1,4 @@
 -- `AfterPart::is_admitted` meets its contract: each return is one case of the answer. Assumes nothing.
-use mathlib.Core.Path.{sym, ap}
-use mathlib.Core.Bool.{not}
-use borrow.Author.Rules.{rules}
-use Rattle.modulator.specs.Paper.{provided_paper}
-use Rattle.sending.specs.Calls.{is_refusal}
 use Rattle.sending.proofs.AfterPart.is_admitted.Goals as goal
 
 pub returns-in-Refused : goal.returns-in-Refused

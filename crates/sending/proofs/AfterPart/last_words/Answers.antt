@@ -2,7 +2,6 @@
 use mathlib.Core.Path.{◌≡◌, refl, sym, ◌∙◌}
 use mathlib.Core.Bool.{Bool, true, false, true≢false, cond, ◌&&◌}
 use Prim.Native.Nat.{ℕ}
-use borrow.Author.Rules.{rules}
 use Rattle.house.specs.BadLine.{in_room, bad_line_lem}
 use Rattle.house.specs.declared.Program.TheVariants.{Send}
 use Rattle.house.specs.Trouble.{outcome_text_lem}

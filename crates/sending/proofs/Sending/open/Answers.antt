@@ -1,5 +1,4 @@
 -- `Sending::open` meets its contract. Assumes nothing.
-use borrow.Author.Rules.{rules}
 use Rattle.modulator.specs.Calls.{made}
 use Rattle.house.specs.Line.{no_symbols}
 use Rattle.sending.proofs.Parts.{open_said}

@@ -1,11 +1,8 @@
 -- `line::append` meets its contract: the first i bytes are after those that the line has. Assumes nothing.
 use mathlib.Core.Path.{◌≡◌}
 use Prim.Native.Nat.{◌≤◌, ◌-◌}
-use native.Mathlib.Omega.{arith}
-use native.Mathlib.Numerals.{add-one}
-use borrow.Author.Rules.{rules}
-use lib.ListN.{length, length-set}
-use lib.Seq.{paste, paste-zero, paste-suc}
+use lib.ListN.{length}
+use lib.Seq.{paste}
 use Rattle.sending.proofs.line.append.Given as goal
 
 abbrev pub invariant-loop-i : goal.invariant-loop-i

@@ -2,7 +2,6 @@
 use mathlib.Core.Path.{◌≡◌, sym, ◌∙◌}
 use mathlib.Core.Bool.{true, false}
 use borrow.Author.Tests.{not-true, not-false}
-use borrow.Author.Rules.{rules}
 use Rattle.house.specs.Line.{good_line}
 use Rattle.sending.proofs.Parts.{judged_short, judged_good, judged_bad, read_is_good, read_symbols}
 use Rattle.sending.proofs.line.judge.Goals as goal

@@ -1,5 +1,4 @@
 -- `line::take` meets its contract. Assumes nothing.
-use borrow.Author.Rules.{rules}
 use Rattle.sending.proofs.line.take.Goals as goal
 
 pub returns : goal.returns

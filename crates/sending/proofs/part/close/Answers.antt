@@ -1,5 +1,4 @@
 -- `part::close` meets its contract. Assumes nothing.
-use borrow.Author.Rules.{rules}
 use Rattle.house.specs.Line.{no_symbols}
 use Rattle.sending.specs.Calls.{closed}
 use Rattle.sending.proofs.part.close.Goals as goal

@@ -1,5 +1,4 @@
 -- `part::count` meets its contract. Assumes nothing.
-use borrow.Author.Rules.{rules}
 use Rattle.modulator_run.specs.Pieces.{counted}
 use Rattle.sending.proofs.part.count.Goals as goal
 

@@ -1,6 +1,5 @@
 -- `part::part` meets its contract. Assumes nothing.
 use native.Mathlib.Omega.{arith}
-use borrow.Author.Rules.{rules}
 use Rattle.sending.proofs.Parts.{counted_within, part_said}
 use Rattle.sending.proofs.part.part.Goals as goal
 

@@ -1,6 +1,5 @@
 -- `test_record` meets its contract. Assumes nothing.
 use mathlib.Core.Path.{◌∙◌}
-use borrow.Author.Rules.{rules}
 use Rattle.sending.proofs.Turns.{told_none}
 use Rattle.sending.proofs.part.test_record.Goals as goal
 
