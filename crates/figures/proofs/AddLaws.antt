@@ -3,24 +3,27 @@ use mathlib.Core.Path.{◌≡◌, refl, sym, ap, ◌∙◌, subst}
 use mathlib.Core.Bool.{Bool, true, false, cond, ◌&&◌}
 use mathlib.Core.List.{List}
 use Prim.Native.Nat.{ℕ, ◌^◌, ◌≤◌, ◌<◌}
-use borrow.Author.Tests.{lt-ltb, le-ltb}
+use borrow.Author.Tests.{lt-ltb, le-ltb, eq-eqb, ne_eqb}
 use lib.Dec.{eqb}
 use lib.IntN.{ℤ}
 use lib.ListN.{length}
 use mir.Syntax.{w16}
 use mir.Val.{SFits}
 use Rattle.numbers.specs.Below.{all_below}
+use Rattle.numbers.specs.Sixteen.{AllSixteen}
 use Rattle.machine.specs.Runs.{Each}
 use Rattle.shaping.specs.Rate.{rate_fit, samples_in_lem, rate_of}
 use Rattle.protocol.specs.declared.Refusal.TheVariants.{RecordUnfit, CountAtItsEnd, WrongRate}
+use Rattle.demodulator.specs.Record.{fresh}
+use Rattle.demodulator_run.proofs.Sixteen.{each_sixteen}
 use Rattle.figures.specs.declared.Figures.{Figures}
 use Rattle.figures.specs.declared.Report.{Report}
 use Rattle.figures.specs.declared.AfterAdd.{AfterAdd}
 use Rattle.figures.specs.declared.Added.TheVariants.{Refused}
 use Rattle.figures.specs.Totals.{no_figures_lem, no_report, totals_fit, figures_fit, report_fit_lem}
-use Rattle.figures.specs.FullList.{figures_of}
-use Rattle.figures.specs.Answers.{Left, joined, report_of, added, Says}
-use Rattle.figures.proofs.RulesAgree.{figures_fit_lem}
+use Rattle.figures.specs.FullList.{record_figures, figures_of}
+use Rattle.figures.specs.Answers.{Left, joined, report_of, added, Says, AddSays, JoinSays}
+use Rattle.figures.proofs.RulesAgree.{figures_agree, figures_fit_lem}
 
 pub both_are : (a b : Bool) → a ≡ true → b ≡ true → a && b ≡ true
 both_are a b p q = rw (p, q)
@@ -79,3 +82,34 @@ report_fit_law rate fit xs g few = ap report_fit_lem (sym (report_is rate xs (eq
         unfold report_fit_lem in both_are (figures_fit (figures_of (rate_of rate) xs)) (figures_fit no_figures_lem) (figures_fit_lem rate fit xs g few) none_fit
     by_test false =
         unfold report_fit_lem in both_are (figures_fit no_figures_lem) (figures_fit (figures_of (rate_of rate) xs)) none_fit (figures_fit_lem rate fit xs g few)
+
+-- ---- a recording that was heard
+module _ (rate : ℕ) (xs : List ℤ) (f none : Figures) (fit : rate_fit rate ≡ true) (few : length xs ≤ 2 ^ 63) (each : AllSixteen xs)
+    (is : f ≡ record_figures no_figures_lem (fresh rate) xs) (empty : none ≡ no_figures_lem) where
+  figures_are : f ≡ figures_of (rate_of rate) xs
+  figures_are = is ∙ figures_agree rate fit xs (each_sixteen xs each)
+
+  heard_48 : samples_in_lem rate ≡ 10 → ◌≡◌ {A = Report} (record { at_48 = f; at_24 = none }) (report_of rate xs)
+  heard_48 e = report_48 rate xs f none figures_are empty (eq-eqb _ 10 e)
+
+  heard_24 : (samples_in_lem rate ≡ 10 → ⊥) → ◌≡◌ {A = Report} (record { at_48 = none; at_24 = f }) (report_of rate xs)
+  heard_24 e = report_24 rate xs f none figures_are empty (ne_eqb _ 10 e)
+
+  whole_there : report_fit_lem (report_of rate xs) ≡ true
+  whole_there = report_fit_law rate fit xs (each_sixteen xs each) few
+
+  pub heard_fit_48 : samples_in_lem rate ≡ 10 → report_fit_lem (record { at_48 = f; at_24 = none }) ≡ true
+  heard_fit_48 e = ap report_fit_lem (heard_48 e) ∙ whole_there
+
+  pub heard_fit_24 : (samples_in_lem rate ≡ 10 → ⊥) → report_fit_lem (record { at_48 = none; at_24 = f }) ≡ true
+  heard_fit_24 e = ap report_fit_lem (heard_24 e) ∙ whole_there
+
+  module _ (r : Report) (whole : report_fit_lem r ≡ true) (a : AfterAdd) where
+    pub said_48 : samples_in_lem rate ≡ 10 → JoinSays r (record { at_48 = f; at_24 = none }) a → AddSays r rate xs a
+    said_48 e s = said_joined r (report_of rate xs) _ a (added r rate xs) (heard_48 e) (added_joined r rate xs fit whole few) s
+
+    pub said_24 : (samples_in_lem rate ≡ 10 → ⊥) → JoinSays r (record { at_48 = none; at_24 = f }) a → AddSays r rate xs a
+    said_24 e s = said_joined r (report_of rate xs) _ a (added r rate xs) (heard_24 e) (added_joined r rate xs fit whole few) s
+
+-- what `Report::add` is proved by
+pub ruleset adding = (added_15, added_1, added_5, heard_fit_48, heard_fit_24, said_48, said_24)

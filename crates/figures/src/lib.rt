@@ -57,6 +57,7 @@ impl Report {
     }
 
     // A recording, with a fresh receiver. A refused call leaves the report as it was.
+    #[tactic(auto, using(crate::proofs::AddLaws::adding))]
     pub fn add(self, rate: u32, recording: &[i16]) -> AfterAdd
         ensures { AddSays self rate recording.now result }
     {

@@ -71,6 +71,7 @@ pub(crate) fn is_report_fit(report: Report) -> bool
 }
 
 // Whether a total would pass 2^63.
+#[tactic(auto, using(crate::proofs::TotalLaws::passes))]
 fn is_too_large(a: [u64; 24], b: [u64; 24]) -> bool
     requires { (totals_fit a ≡ true) × (totals_fit b ≡ true) }
     ensures { result ≡ would_pass a b }

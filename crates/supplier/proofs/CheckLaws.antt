@@ -20,3 +20,6 @@ module _ (padding : ℕ) (text : List ℕ) (samples : List ℤ) where
   pub checked_beside : padding ≤ 122400 → bad_line_lem text ≡ none → checked padding text samples ≡ beside 1 (ours padding text) samples
   unfolding checked unless_bad
   checked_beside l e = rw (le-ltb 122400 padding l, e)
+
+-- what `check` is proved by
+pub ruleset checking = (checked_8, checked_17, checked_beside)

@@ -23,7 +23,7 @@ pub enum Checked {
 
 // The padding's zeros, preamble, a frame for each line, and end of transmission: yes exactly if the samples are these.
 // All lines are judged before any sample is looked at.
-#[tactic(auto, using(crate::proofs::CheckLaws::checked_8, crate::proofs::CheckLaws::checked_17, crate::proofs::CheckLaws::checked_beside))]
+#[tactic(auto, using(crate::proofs::CheckLaws::checking))]
 pub fn check(padding: usize, lines: &[u8], samples: &[i16]) -> Checked
     ensures { CheckSays padding lines.now samples.now result }
 {

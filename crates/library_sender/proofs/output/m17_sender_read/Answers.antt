@@ -25,7 +25,7 @@ returns-then-code-ge100 c =
     let says = rw c.read_record-record.ensures at c.read_output_samples-after.ensures in
     let coded = c.code_read-code.ensures ∙ ap paper_code says.answers in
     refused _ _ _ (answered _ _ _ c.check_numbers-wrong.ensures c.if-wrong-ne0.false _ says.answers _ c.code_read-code.ensures) c.if-code-ge100.true
-    _ (says.writes ∙ (refused_kept (record-at c.before.before.before.before.before.before.before.before) (read _) (rw coded at c.if-code-ge100.true)).room-kept)
+    _ (says.writes ∙ (refused_kept (record-at c.before.before.before.before.before.before.before.before) (read _) (rw coded at c.if-code-ge100.true)).room_kept)
 
 pub returns : goal.returns
 unfolding left_at

@@ -4,7 +4,7 @@ use mathlib.Core.List.{flatten}
 use Prim.Native.Nat.{ℕ}
 use native.Mathlib.Omega.{arith}
 use native.Mathlib.Numerals.{add-one}
-use borrow.Author.Rules.{rules, sfits_of}
+use borrow.Author.Rules.{rules}
 use mir.Syntax.{w16}
 use mir.Val.{to_z, of_z}
 use mir.Facts.{to_z-of_z}
@@ -25,7 +25,7 @@ loop-i-preserved c =
     let l = c.loop-i in
     let samples-length : length a.samples ≡ 2720 = search rules in
     let sample : ℤ = get_or a.samples l.i (pos 0) in
-    let back : to_z w16 (of_z w16 sample) ≡ sample = to_z-of_z {w = w16} {z = sample} (sfits_of c.sample-1.given) in
+    let back : to_z w16 (of_z w16 sample) ≡ sample = to_z-of_z {w = w16} {z = sample} (search rules) in
     let pair : c.bytes_of_i16-pair.result ≡ bytes_of sample = c.bytes_of_i16-pair.ensures ∙ ap bytes_of back in
     (omega arith, refl, simp length-set l.invariant.2, rw (pair, l.invariant.3, add-one l.i) (pair_step a.samples (replicate 5440 0) l.i (omega arith) (omega (arith, length-replicate {A = ℕ} 5440 0))))
 
