@@ -27,8 +27,8 @@ loop-at-preserved c =
     let l = c.loop-at in (
       search rules,
       rw (add-one l.at) (record {
-        any_strange_lem = λ rings. λ i. l.invariant.1.any-strange rings i || eqb (c.test_seat-code.ensures (get_or rings l.at []) i) 115;
-        any_unfit_lem = λ rings. λ i. l.invariant.1.any-unfit rings i || eqb (c.test_seat-code.ensures (get_or rings l.at []) i) 101;
+        any_strange_lem = λ rings. λ i. l.invariant.1.any_strange_lem rings i || eqb (c.test_seat-code.ensures (get_or rings l.at []) i) 115;
+        any_unfit_lem = λ rings. λ i. l.invariant.1.any_unfit_lem rings i || eqb (c.test_seat-code.ensures (get_or rings l.at []) i) 101;
       }),
     )
 
