@@ -1,4 +1,6 @@
 // The numbers by which the library tells what cannot cross to C as it is: a refusal, a kind of frame, a flag.
+#![tactic(auto)]
+
 ghost use Rattle.std.specs.Prelude.{◌≡◌, ◌≤◌};
 ghost use Rattle.library_codes.specs.Codes.{place_share, RefusalCodeSays, KindCodeSays, FlagOfSays};
 

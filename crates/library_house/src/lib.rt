@@ -1,5 +1,7 @@
 // What the two programs and the link test do with symbols, for programs in other languages: the rule of acceptance, a frame as a line and
 // back, and the count of differing bits.
+#![tactic(auto)]
+
 ghost use Rattle.std.specs.Prelude.{◌≡◌};
 ghost use Rattle.bit_errors.specs.Errors.{paper};
 ghost use Rattle.library_house.specs.Exports.{kind_of, errors_code, errors_told, M17AcceptsSays, M17LineSays, M17LineSymbolsSays, M17BitErrorsSays};

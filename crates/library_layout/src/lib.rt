@@ -2,6 +2,8 @@
 // The 14 numbers: 0 rate, 1 the window's cursor, 2 the ring's cursor, 3 the count; of the candidate 4 kind (0 for none), 5 age, 6 taken at;
 // of the wait 7 held, 8 left, 9 age, 10 mark; of the carrier timer 11 held, 12 end; 13 a reply is owed.
 // The 3 levels are the candidate's diff, gain and shift.
+#![tactic(auto)]
+
 ghost use Rattle.std.specs.Prelude.{◌≡◌};
 ghost use Rattle.shaping.specs.Rate.{rate_fit};
 ghost use Rattle.library_layout.specs.Promises.{IsReceiverSays, RecordCodeSays, ReadControlSays, WriteControlSays};

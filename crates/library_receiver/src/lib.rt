@@ -1,5 +1,7 @@
 // The receiver's exports, over memory that the caller lends: a fresh receiver, a stretch of samples, a reply, the carrier query.
 // No bytes are taken on trust: numbers that are no receiver's are refused, and a refused call leaves every lent place as it was.
+#![tactic(auto)]
+
 ghost use Rattle.library_receiver.specs.Memory.{memory_at, lent_as};
 ghost use Rattle.library_receiver.specs.Promises.{M17ReceiverNewSays, M17ReceiverFeedSays};
 ghost use Rattle.library_receiver.specs.Promises.{M17ReceiverReplySays, M17ReceiverCarrierSays};

@@ -1,6 +1,8 @@
 // Request l's report as exports over memory that the caller lends. numbers: at places 0 to 23 the totals at 48 kHz, at 24 to 47 those at 24 kHz, at 48
 // to 51 whether there is a smallest gain at 48 kHz, a largest, and both at 24 kHz, 1 or 0. gains has these four, 0.0 where there is none. Any
 // numbers may be lent; a refused call leaves every lent place.
+#![tactic(auto)]
+
 ghost use Rattle.std.specs.Prelude.{◌≡◌, ◌≤◌, ◌<◌};
 ghost use Rattle.figures.specs.Answers.{added_paper};
 ghost use Rattle.library_report.specs.Layout.{is_report_lem, totals_from_lem, gain_in_lem, report_in_lem, held_number_lem, gain_number_lem, number_at_lem, numbers_of_lem, gains_of_lem};

@@ -1,5 +1,7 @@
 // The sender's calls for programs in other languages. The caller lends the sender's memory as plain arrays, and any bytes may be in it: what
 // is no sender's is refused, and a refused call leaves every lent place. The record is copied in and out, which is little beside a frame.
+#![tactic(auto)]
+
 mod answers;
 mod frames;
 mod layout;
