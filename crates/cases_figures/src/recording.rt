@@ -41,25 +41,16 @@ fn put(room: &mut [i16], at: usize, sample: i16) -> usize {
 
 pub(crate) fn append(room: &mut [i16], recorded: usize, digits: &[u8]) -> usize {
     let mut end = recorded;
-    let mut at: usize = 0;
-    while 4 <= digits.len() - at {
-        let next = at + 4;
-        end = put(
-            room,
-            end,
-            of_pattern(cases_text::hexadecimal(&digits[at..next])),
-        );
-        at = next;
+    for four in digits.chunks_exact(4) {
+        end = put(room, end, of_pattern(cases_text::hexadecimal(four)));
     }
     end
 }
 
 pub(crate) fn append_zeros(room: &mut [i16], recorded: usize, count: u64) -> usize {
     let mut end = recorded;
-    let mut rest = count;
-    while 0 < rest {
+    for _ in 0..count {
         end = put(room, end, 0);
-        rest -= 1;
     }
     end
 }

@@ -40,11 +40,8 @@ fn burst_named(name: &[u8]) -> SyncBurst {
 
 fn eight(line: &[u8]) -> [f32; 8] {
     let mut values = [0.0f32; 8];
-    let mut i: usize = 0;
-    while i < 8 {
-        let k = i + 1;
-        values[i] = operand(line, k);
-        i = k;
+    for i in 0..8 {
+        values[i] = operand(line, i + 1);
     }
     values
 }

@@ -13,11 +13,9 @@ pub(crate) const UNWRITTEN: f32 = -7.25;
 // How many of the places from `from` on, below `to`, are not as they were laid.
 pub(crate) fn written(room: [f32; 200], from: usize, to: usize) -> u64 {
     let mut count: u64 = 0;
-    let mut i = from;
-    while i < to {
+    for i in from..to {
         let new = room[i % 200] != UNWRITTEN;
         count = wrapping_add_u64(count, new as u64);
-        i += 1;
     }
     count
 }

@@ -17,14 +17,12 @@ use std::io::{self, BufWriter, Write};
 
 // The calls from the second on. Words are counted from 1, since the space after a bar ends an empty one.
 fn put_more(out: &mut impl Write, record: &[u8], calls: &[u8]) -> io::Result<()> {
-    let mut k: usize = 2;
-    while k < calls.len() {
+    for k in 2..calls.len() {
         let call = cases_text::word(calls, k);
         if 0 < call.len() {
             answer::put_text(out, answer::NEXT)?;
             places::put_answer(out, record, call)?;
         }
-        k += 1;
     }
     Ok(())
 }

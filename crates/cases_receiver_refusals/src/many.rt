@@ -108,11 +108,9 @@ fn admitted(answer: Receipt) -> Said {
 // How many of the places from `from` on, below `to`, are not as they were laid.
 fn lined(lines: [u8; 200], from: usize, to: usize) -> u64 {
     let mut count: u64 = 0;
-    let mut i = from;
-    while i < to {
+    for i in from..to {
         let new = lines[i % 200] != UNLINED;
         count = wrapping_add_u64(count, new as u64);
-        i += 1;
     }
     count
 }

@@ -9,12 +9,10 @@ fn alike(answer: Answer, words: &[u8], call: &[u8], from: usize, places: u64) ->
     let p = layout::samples_in(made::rate(words));
     let mut place = from;
     let mut alike: u64 = 0;
-    let mut j: u64 = 0;
-    while j < places {
+    for _ in 0..places {
         let same = answer::same_answer(answer, calls::called(words, call, place));
         alike = wrapping_add_u64(alike, same as u64);
         place = layout::symbol_before(p, place % 1920);
-        j += 1;
     }
     alike
 }

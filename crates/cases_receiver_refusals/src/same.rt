@@ -7,11 +7,9 @@ use std::num::wrapping_add_u64;
 // How many of the ring's places from `from` on hold another value.
 pub(crate) fn new_values(from: usize, a: [f32; 1920], b: [f32; 1920]) -> u64 {
     let mut count: u64 = 0;
-    let mut i = from;
-    while i < 1920 {
+    for i in from..1920 {
         let new = !cases_text::same_float(a[i], b[i]);
         count = wrapping_add_u64(count, new as u64);
-        i += 1;
     }
     count
 }
@@ -19,10 +17,8 @@ pub(crate) fn new_values(from: usize, a: [f32; 1920], b: [f32; 1920]) -> u64 {
 // From `from` on.
 fn same_window(from: usize, a: [i16; 162], b: [i16; 162]) -> bool {
     let mut all = true;
-    let mut i = from;
-    while i < 162 {
+    for i in from..162 {
         all = all & (a[i] == b[i]);
-        i += 1;
     }
     all
 }

@@ -26,28 +26,22 @@ fn of_pattern(pattern: u64) -> i16 {
 // Four digits are a sample.
 fn add_samples(digits: &[u8], samples: &mut [i16], count: usize) -> usize {
     let mut next = count;
-    let mut at: usize = 0;
-    while 4 <= digits.len() - at {
-        let end = at + 4;
+    for four in digits.chunks_exact(4) {
         if next < samples.len() {
-            samples[next] = of_pattern(cases_text::hexadecimal(&digits[at..end]));
+            samples[next] = of_pattern(cases_text::hexadecimal(four));
             next += 1;
         }
-        at = end;
     }
     next
 }
 
 fn add_zeros(zeros: u64, samples: &mut [i16], count: usize) -> usize {
     let mut next = count;
-    let mut rest = zeros;
-    while 0 < rest {
-        let fewer = rest - 1;
+    for _ in 0..zeros {
         if next < samples.len() {
             samples[next] = 0;
             next += 1;
         }
-        rest = fewer;
     }
     next
 }

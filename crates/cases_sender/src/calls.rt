@@ -13,11 +13,9 @@ fn count(line: &[u8], k: usize) -> usize {
 // The words after the first as symbols: a missing one is 0.
 fn symbols(line: &[u8]) -> [f32; 192] {
     let mut symbols = [0.0f32; 192];
-    let mut i: usize = 0;
-    while i < 192 {
+    for i in 0..192 {
         let k = i + 1;
         symbols[i] = cases_text::float(cases_text::word(line, k));
-        i = k;
     }
     symbols
 }

@@ -52,8 +52,7 @@ fn calls_of(
     names: &[u8],
 ) -> io::Result<SoftModulator> {
     let mut last = before;
-    let mut k: usize = 1;
-    while k < names.len() {
+    for k in 1..names.len() {
         let number = calls::number(cases_text::word(names, k));
         put_mark(out, number, k)?;
         last = match number {
@@ -63,7 +62,6 @@ fn calls_of(
             10 => turns::turn(out, made::start(before, parts, 0), parts)?,
             _ => call(out, before, parts, number)?,
         };
-        k += 1;
     }
     Ok(last)
 }

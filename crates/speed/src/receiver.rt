@@ -57,11 +57,9 @@ fn with_newest(sum: u64, ring: &[f32], places: usize, cursor: usize, count: usiz
 {
     let at = place_of(places, cursor);
     let mut longer = sum;
-    let mut back = count;
-    while back > 0 {
-        let place = place_back(places, at, back);
+    for i in 0..count {
+        let place = place_back(places, at, count - i);
         longer = sums::with_float(longer, ring[place]);
-        back -= 1;
     }
     longer
 }

@@ -15,8 +15,7 @@ pub(crate) fn frames(rate: u32, count: u32, symbols: [f32; 192]) -> u64 {
     let mut sender = begun.modulator;
     let mut room = [0i16; 1920];
     let mut sum: u64 = 0;
-    let mut i: u32 = 0;
-    while i < count {
+    for _ in 0..count {
         let provided = sender.provide_next_frame(
             ModulatorFrame::Symbols(Traffic::Ordinary),
             &symbols,
@@ -26,7 +25,6 @@ pub(crate) fn frames(rate: u32, count: u32, symbols: [f32; 192]) -> u64 {
         sender = read.modulator;
         let answer = read.answer;
         sum = sums::with(sum, count_of(answer));
-        i += 1;
     }
     sums::with_samples(sum, &room)
 }
