@@ -51,13 +51,14 @@ fn answer_one(input: &mut impl Read, out: &mut impl Write) -> io::Result<bool> {
     Ok(true)
 }
 
-// A proved loop has to end, and nothing says that the input does: the turns are counted down, from a number that no run uses up.
+// A proved loop has to end, and nothing says that the input does: the turns are counted, to a number that no run comes to.
 fn main(rt: HostRuntime) -> io::Result<()> {
     let mut input = rt.stdin();
     let mut out = rt.stdout();
-    let mut turns = u64::MAX;
-    while turns > 0 && answer_one(&mut input, &mut out)? {
-        turns -= 1;
+    for _ in 0..u64::MAX {
+        if !answer_one(&mut input, &mut out)? {
+            break;
+        }
     }
     Ok(())
 }

@@ -7,8 +7,6 @@ mod answer;
 mod lent;
 mod stretch;
 
-ghost use Rattle.std.specs.Prelude.{◌≡◌, length};
-
 use cases_text::Lines;
 use demodulator::Reply;
 use desk::Desk;

@@ -25,25 +25,16 @@ fn of_pattern(pattern: u64) -> i16 {
 // Four digits are a sample.
 fn feed_samples(out: &mut impl Write, session: Session, digits: &[u8]) -> io::Result<Session> {
     let mut next = session;
-    let mut at: usize = 0;
-    while 4 <= digits.len() - at {
-        let end = at + 4;
-        next = stream::fed(
-            out,
-            next,
-            of_pattern(cases_text::hexadecimal(&digits[at..end])),
-        )?;
-        at = end;
+    for four in digits.chunks_exact(4) {
+        next = stream::fed(out, next, of_pattern(cases_text::hexadecimal(four)))?;
     }
     Ok(next)
 }
 
 fn feed_zeros(out: &mut impl Write, session: Session, count: u64) -> io::Result<Session> {
     let mut next = session;
-    let mut rest = count;
-    while 0 < rest {
+    for _ in 0..count {
         next = stream::fed(out, next, 0)?;
-        rest -= 1;
     }
     Ok(next)
 }

@@ -5,7 +5,7 @@ use crate::stream::Session;
 use crate::{changes, stream};
 use demodulator::{Heard, Offer, SoftDemodulator};
 use std::io::{self, Write};
-use std::num::{wrapping_add_u64, wrapping_add_usize, wrapping_sub_u64};
+use std::num::{wrapping_add_u64, wrapping_sub_u64};
 
 // A call of `feed`: how many samples went in, and whether the rest is given again.
 #[derive(Clone, Copy)]
@@ -36,6 +36,12 @@ fn least(a: usize, b: usize) -> usize
 pub(crate) fn front(samples: &[i16], count: usize) -> &[i16] {
     let most = least(count, samples.len());
     &samples[0..most]
+}
+
+// Those after them, none where they are fewer.
+fn behind(samples: &[i16], count: usize) -> &[i16] {
+    let most = least(count, samples.len());
+    &samples[most..]
 }
 
 fn put_left(out: &mut impl Write, receiver: SoftDemodulator) -> io::Result<()> {
@@ -113,15 +119,13 @@ pub(crate) fn feed_all(
     samples: &[i16],
 ) -> io::Result<Session> {
     let mut next = session;
-    let mut at: usize = 0;
-    let mut calls: usize = 611;
-    while 0 < calls {
-        calls -= 1;
-        let turn = feed_some(out, next, &samples[at..])?;
+    let mut rest = samples;
+    for _ in 0..611 {
+        let turn = feed_some(out, next, rest)?;
         next = turn.session;
-        at = least(wrapping_add_usize(at, turn.fed), samples.len());
-        if !turn.more | (at == samples.len()) {
-            calls = 0;
+        rest = behind(rest, turn.fed);
+        if !turn.more | rest.is_empty() {
+            break;
         }
     }
     put_left(out, next.receiver)?;

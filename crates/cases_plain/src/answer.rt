@@ -99,20 +99,16 @@ fn put_offers(
 
 fn are_unused(numbers: [u64; 60], from: usize) -> bool {
     let mut kept = true;
-    let mut i = from;
-    while i < 60 {
+    for i in from..60 {
         kept = kept & (numbers[i] == UNUSED);
-        i += 1;
     }
     kept
 }
 
 fn are_blank(symbols: [f32; 2304], from: usize) -> bool {
     let mut kept = true;
-    let mut i = from;
-    while i < 2304 {
+    for i in from..2304 {
         kept = kept & (symbols[i] == BLANK);
-        i += 1;
     }
     kept
 }

@@ -17,15 +17,12 @@ pub(crate) fn add_samples(digits: &[u8], samples: &mut [i16], count: usize) -> u
     ensures { (result ≤ length samples.new) × (length samples.new ≡ length samples.old) }
 {
     let mut next = count;
-    let mut at: usize = 0;
-    while 4 <= digits.len() - at {
+    for four in digits.chunks_exact(4) {
         if samples.len() <= next {
             return next;
         }
-        let end = at + 4;
-        samples[next] = of_pattern(cases_text::hexadecimal(&digits[at..end]));
+        samples[next] = of_pattern(cases_text::hexadecimal(four));
         next += 1;
-        at = end;
     }
     next
 }

@@ -1,9 +1,0 @@
--- `feed_samples` is safe and ends: the place stays within the digits, and each sample brings it nearer to their end. Assumes nothing.
-use Rattle.std.proofs.Common.{◌-◌, ◌≤◌, length}
-use Rattle.cases_offers.proofs.feed_samples.Given as goal
-
-abbrev pub invariant-loop-at : goal.invariant-loop-at
-invariant-loop-at g l = l.at ≤ length l.digits
-
-abbrev pub decreases-loop-at : goal.decreases-loop-at
-decreases-loop-at g l = length l.digits - l.at

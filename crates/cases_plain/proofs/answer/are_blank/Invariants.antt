@@ -1,6 +1,0 @@
--- `are_blank` is safe and ends: each turn leaves a place fewer. Assumes nothing.
-use Rattle.std.proofs.Common.{◌-◌}
-use Rattle.cases_plain.proofs.answer.are_blank.Given as goal
-
-abbrev pub decreases-loop-i : goal.decreases-loop-i
-decreases-loop-i l = 2304 - l.i
