@@ -104,7 +104,7 @@ fn answer_line(out: &mut impl Write, line: &[u8]) -> io::Result<()> {
 
 fn main(rt: HostRuntime) -> io::Result<()> {
     let mut out = BufWriter::new(rt.alloc(), io::writer(&rt))?;
-    let text = cases_text::read_all(&rt, rt.alloc())?;
+    let text = cases_text::read_text(&rt, rt.alloc(), 131_072)?;
     replay(&mut out, &text)?;
     out.flush()
 }

@@ -125,7 +125,7 @@ fn replay(out: &mut impl Write, text: &[u8], samples: &mut [i16]) -> io::Result<
 fn main(rt: HostRuntime) -> io::Result<()> {
     let mut out = BufWriter::new(rt.alloc(), io::writer(&rt))?;
     let mut samples = [0i16; 16_384];
-    let text = cases_text::read_all(&rt, rt.alloc())?;
+    let text = cases_text::read_text(&rt, rt.alloc(), 196_608)?;
     replay(&mut out, &text, &mut samples)?;
     out.flush()
 }

@@ -119,7 +119,7 @@ fn replay(out: &mut impl Write, list: &[u8]) -> io::Result<()> {
 
 fn main(rt: HostRuntime) -> io::Result<()> {
     let mut out = BufWriter::new(rt.alloc(), io::writer(&rt))?;
-    let list = cases_text::read_all(&rt, rt.alloc())?;
+    let list = cases_text::read_text(&rt, rt.alloc(), 196_608)?;
     replay(&mut out, &list)?;
     out.flush()
 }

@@ -51,7 +51,7 @@ fn main(rt: HostRuntime) -> io::Result<()> {
     put_frame(&mut out, b"preamble", encode::generate_preamble())?;
     put_frame(&mut out, b"bert-preamble", encode::generate_bert_preamble())?;
     put_frame(&mut out, b"end", encode::generate_end_of_transmission())?;
-    let text = cases_text::read_all(&rt, rt.alloc())?;
+    let text = cases_text::read_text(&rt, rt.alloc(), 65_536)?;
     filters::replay(&mut out, &text)?;
     out.flush()
 }

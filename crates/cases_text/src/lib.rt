@@ -8,7 +8,7 @@ mod reading;
 mod writing;
 
 pub use behind::{count_behind, float_behind, names, place_behind};
-pub use lines::{Lines, read_all};
+pub use lines::{Lines, read_text};
 pub use places::{begins, cell, word};
 pub use reading::{decimal, float, hexadecimal, same_float, sample};
 pub use writing::{end_line, put_count, put_float, put_front, put_signed};

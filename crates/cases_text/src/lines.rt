@@ -6,10 +6,10 @@ use crate::places::{find, next};
 use std::alloc::Global;
 use std::io::{self, Read};
 
-// All that is on standard input.
-pub fn read_all(rt: &impl Input, alloc: Global) -> io::Result<Vec<u8>> {
+// What is on standard input, up to `most` bytes: what follows them is not read.
+pub fn read_text(rt: &impl Input, alloc: Global, most: u64) -> io::Result<Vec<u8>> {
     let mut text = Vec::new(alloc);
-    rt.reader().read_to_end(&mut text)?;
+    rt.reader().take(most).read_to_end(&mut text)?;
     Ok(text)
 }
 
