@@ -1,4 +1,4 @@
-// Replays the lists `offers`, `stretches` and `carry-over` of both rates: reads their streams of samples with their scripts of replies,
+// Replays the lists `offers`, `stretches` and `carry_over` of both rates: reads their streams of samples with their scripts of replies,
 // feeds them to the receiver, and writes each line again with what it led to.
 #![tactic(auto)]
 
@@ -6,7 +6,7 @@ mod changes;
 mod stream;
 mod stretch;
 
-ghost use Rattle.std.specs.Prelude.{◌<◌};
+ghost use Rattle.std.specs.Prelude.{◌≡◌, ◌<◌, length};
 
 use cases_text::Lines;
 use std::io::{self, BufWriter, Write};
@@ -131,7 +131,7 @@ fn replay(out: &mut impl Write, text: &[u8]) -> io::Result<()> {
 
 fn main(rt: HostRuntime) -> io::Result<()> {
     let mut out = BufWriter::new(rt.alloc(), io::writer(&rt))?;
-    let text = cases_text::read_all(&rt, rt.alloc())?;
+    let text = cases_text::read_text(&rt, rt.alloc(), 524_288)?;
     replay(&mut out, &text)?;
     out.flush()
 }

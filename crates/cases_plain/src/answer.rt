@@ -1,5 +1,5 @@
 // What the slow engine answers to a line, and what the rooms then hold.
-ghost use Rattle.std.specs.Prelude.{◌≤◌, ◌<◌};
+ghost use Rattle.std.specs.Prelude.{◌≤◌, ◌<◌, length};
 
 use plain::Listing;
 use std::io::{self, Write};

@@ -60,7 +60,7 @@ fn sample_room() -> [i16; 65_537]
 fn main(rt: HostRuntime) -> io::Result<()> {
     let mut out = BufWriter::new(rt.alloc(), io::writer(&rt))?;
     let mut samples = sample_room();
-    let text = cases_text::read_all(&rt, rt.alloc())?;
+    let text = cases_text::read_text(&rt, rt.alloc(), 524_288)?;
     replay(&mut out, &text, &mut samples)?;
     out.flush()
 }
