@@ -1,4 +1,4 @@
-// Replays the lists `offers`, `stretches` and `carry_over` of both rates: reads their streams of samples with their scripts of replies,
+// Replays the lists `offers`, `stretches` and `carry-over` of both rates: reads their streams of samples with their scripts of replies,
 // feeds them to the receiver, and writes each line again with what it led to.
 #![tactic(auto)]
 
