@@ -70,7 +70,7 @@ fn replay(out: &mut impl Write, text: &[u8]) -> io::Result<()> {
 
 fn main(rt: HostRuntime) -> io::Result<()> {
     let mut out = BufWriter::new(rt.alloc(), io::writer(&rt))?;
-    let text = cases_text::read_all(&rt, rt.alloc())?;
+    let text = cases_text::read_text(&rt, rt.alloc(), 262_144)?;
     replay(&mut out, &text)?;
     out.flush()
 }
