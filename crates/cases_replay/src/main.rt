@@ -4,8 +4,6 @@
 
 mod answer;
 
-ghost use Rattle.std.specs.Prelude.{◌≡◌, length};
-
 use cases_text::Lines;
 use std::io::{self, BufWriter, Write};
 
