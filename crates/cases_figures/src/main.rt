@@ -7,8 +7,6 @@ mod limits;
 mod recording;
 mod said;
 
-ghost use Rattle.std.specs.Prelude.{◌≡◌, length};
-
 use cases_text::Lines;
 use figures::Report;
 use std::io::{self, BufWriter, Write};

@@ -1,8 +1,6 @@
 // Replays the lists `slices`, `numbers`, `correlations` and `differences`: reads the questions of their lines, and writes each line again with the port's answer.
 #![tactic(auto)]
 
-ghost use Rattle.std.specs.Prelude.{◌≡◌, length};
-
 use cases_text::Lines;
 use decode::Correlated;
 use protocol::{Kind, SyncBurst};

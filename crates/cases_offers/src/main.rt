@@ -6,7 +6,7 @@ mod changes;
 mod stream;
 mod stretch;
 
-ghost use Rattle.std.specs.Prelude.{◌≡◌, ◌<◌, length};
+ghost use Rattle.std.specs.Prelude.{◌<◌};
 
 use cases_text::Lines;
 use std::io::{self, BufWriter, Write};

@@ -39,7 +39,7 @@ pub(crate) fn front(samples: &[i16], count: usize) -> &[i16] {
 }
 
 // Those after them, none where they are fewer.
-fn behind(samples: &[i16], count: usize) -> &[i16] {
+fn after(samples: &[i16], count: usize) -> &[i16] {
     let most = least(count, samples.len());
     &samples[most..]
 }
@@ -123,7 +123,7 @@ pub(crate) fn feed_all(
     for _ in 0..611 {
         let turn = feed_some(out, next, rest)?;
         next = turn.session;
-        rest = behind(rest, turn.fed);
+        rest = after(rest, turn.fed);
         if !turn.more | rest.is_empty() {
             break;
         }

@@ -1,5 +1,5 @@
 // What the slow engine answers to a line, and what the rooms then hold.
-ghost use Rattle.std.specs.Prelude.{◌≤◌, ◌<◌, length};
+ghost use Rattle.std.specs.Prelude.{◌≤◌, ◌<◌};
 
 use plain::Listing;
 use std::io::{self, Write};

@@ -4,8 +4,6 @@
 mod answers;
 mod calls;
 
-ghost use Rattle.std.specs.Prelude.{◌≡◌, length};
-
 use cases_text::Lines;
 use given_symbols::Traffic;
 use modulator::{ModulatorFrame, SoftModulator};

@@ -3,8 +3,6 @@
 
 mod pieces;
 
-ghost use Rattle.std.specs.Prelude.{◌≡◌, length};
-
 use cases_text::Lines;
 use protocol::{Place, Refusal};
 use std::io::{self, BufWriter, Write};

@@ -1,5 +1,5 @@
 // A program's input, and its lines.
-ghost use Rattle.std.specs.Prelude.{length};
+ghost use Rattle.std.specs.Prelude.{◌≡◌, length};
 ghost use Rattle.std.specs.Iterator.{at_most};
 
 use crate::places::{find, next};
@@ -18,7 +18,9 @@ pub fn read_text(rt: &impl Input, alloc: Global, most: u64) -> io::Result<Vec<u8
 pub struct Lines<'a>(&'a [u8]);
 
 impl<'a> Lines<'a> {
-    pub fn of(text: &'a [u8]) -> Lines<'a> {
+    pub fn of(text: &'a [u8]) -> Lines<'a>
+        ensures { result.0.now ≡ text.now }
+    {
         Lines(text)
     }
 }

@@ -1,5 +1,5 @@
 // Answers, each after a space.
-ghost use Rattle.std.specs.Prelude.{◌≤◌, [], ◌∷◌, ◌++◌, OnOk, length, take};
+ghost use Rattle.std.specs.Prelude.{◌≤◌, [], ◌∷◌, OnOk, length, take};
 ghost use Rattle.std.specs.Fmt.{decimal, signed_decimal};
 ghost use Rattle.std.specs.Io.KnownBytes.{Appends};
 ghost use Rattle.cases_text.specs.Written.{float_text};
