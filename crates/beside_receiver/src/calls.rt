@@ -1,7 +1,8 @@
 // The calls by their numbers. Each puts out what it left.
 use crate::layout;
 use crate::layout::{NO_KIND, Words};
-use demodulator::{Carrier, Heard, Made, Replied, Reply, SoftDemodulator};
+use demodulator::{Offer, Reply, SoftDemodulator};
+use protocol::Refusal;
 use std::io::{self, Write};
 
 const FRESH: u64 = 0;
@@ -41,11 +42,11 @@ fn of_samples(refusal: u64, answer: u64, carrier: u64, given: usize) -> Words {
     }
 }
 
-fn heard(answer: Heard, carrier: u64, given: usize) -> Words {
+fn heard(answer: Result<Option<Offer>, Refusal>, carrier: u64, given: usize) -> Words {
     match answer {
-        Heard::Refused(why) => of_samples(why.number() as u64, NO_KIND, carrier, given),
-        Heard::Quiet => of_samples(0, NO_KIND, carrier, given),
-        Heard::Offered(offer) => {
+        Err(why) => of_samples(why.number() as u64, NO_KIND, carrier, given),
+        Ok(None) => of_samples(0, NO_KIND, carrier, given),
+        Ok(Some(offer)) => {
             let kind = offer.kind;
             Words {
                 refusal: 0,
@@ -62,37 +63,27 @@ fn heard(answer: Heard, carrier: u64, given: usize) -> Words {
     }
 }
 
-fn is_quiet(answer: Heard) -> bool {
+// What a call came to that gives back nothing but its record.
+fn done(answer: Result<(), Refusal>) -> Words {
     match answer {
-        Heard::Refused(_) => false,
-        Heard::Quiet => true,
-        Heard::Offered(_) => false,
-    }
-}
-
-fn made(answer: Made) -> Words {
-    match answer {
-        Made::Refused(why) => told(why.number() as u64, 0),
-        Made::Done => told(0, 0),
-    }
-}
-
-fn replied(answer: Replied) -> Words {
-    match answer {
-        Replied::Refused(why) => told(why.number() as u64, 0),
-        Replied::Done => told(0, 0),
+        Err(why) => told(why.number() as u64, 0),
+        Ok(()) => told(0, 0),
     }
 }
 
 // 0 for no, 1 for yes, 2 for a refusal.
-fn carried(answer: Carrier) -> Words {
+fn carried(answer: Result<bool, Refusal>) -> Words {
     match answer {
-        Carrier::Refused(why) => told(why.number() as u64, 2),
-        Carrier::Detected(yes) => told(0, yes as u64),
+        Err(why) => told(why.number() as u64, 2),
+        Ok(yes) => told(0, yes as u64),
     }
 }
 
-fn note(out: &mut impl Write, m: SoftDemodulator, answer: Heard) -> io::Result<()> {
+fn note(
+    out: &mut impl Write,
+    m: SoftDemodulator,
+    answer: Result<Option<Offer>, Refusal>,
+) -> io::Result<()> {
     let carrier = carried(m.data_carrier_detect());
     layout::put_front(out, m, heard(answer, carrier.answer, 1))
 }
@@ -106,14 +97,15 @@ fn listen(
 ) -> io::Result<()> {
     let mut receiver = fresh;
     let mut given: usize = 0;
-    let mut quiet = true;
-    while given < samples.len() && quiet {
-        let after = receiver.demod(samples[given], room);
+    for (i, sample) in samples.iter().enumerate() {
+        let after = receiver.demod(*sample, room);
         receiver = after.demodulator;
         let answer = after.answer;
         note(out, receiver, answer)?;
-        quiet = is_quiet(answer);
-        given += 1;
+        given = i + 1;
+        if !matches!(answer, Ok(None)) {
+            break;
+        }
     }
     layout::put_record(out, receiver, of_samples(0, 0, 0, given))
 }
@@ -134,7 +126,7 @@ fn begin(out: &mut impl Write, rate: u32) -> io::Result<()> {
     let after = SoftDemodulator::new(rate);
     let answer = after.answer;
     let next = after.demodulator;
-    layout::put_record(out, next, made(answer))
+    layout::put_record(out, next, done(answer))
 }
 
 fn reply(out: &mut impl Write, receiver: SoftDemodulator, accepted: bool) -> io::Result<()> {
@@ -146,7 +138,7 @@ fn reply(out: &mut impl Write, receiver: SoftDemodulator, accepted: bool) -> io:
     let after = receiver.reply(reply);
     let answer = after.answer;
     let next = after.demodulator;
-    layout::put_record(out, next, replied(answer))
+    layout::put_record(out, next, done(answer))
 }
 
 // A fresh record of the given one's rate, the samples one by one, the samples at once, a reply, and otherwise the carrier query.

@@ -6,7 +6,7 @@
 // floats at 200, the ring at 7,880 and the window at 8,204.
 ghost use Rattle.std.specs.Prelude.{◌≡◌, ◌<◌, ◌≤◌, length};
 
-use demodulator::{Candidate, Control, SoftDemodulator, Timer, Wait, Waiting};
+use demodulator::{Candidate, Control, SoftDemodulator, Waiting};
 use protocol::Kind;
 use std::io::{self, Write};
 
@@ -39,12 +39,7 @@ fn kind_of(number: u64) -> Kind {
 }
 
 pub(crate) fn number_of(kind: Kind) -> u64 {
-    match kind {
-        Kind::Lsf => 0,
-        Kind::Bert => 1,
-        Kind::Stream => 2,
-        Kind::Packet => 3,
-    }
+    kind as u64
 }
 
 // A float's bit pattern.
@@ -72,24 +67,21 @@ fn candidate_of(n: [u64; 23], four: [f32; 4]) -> Candidate {
     }
 }
 
-fn wait_of(n: [u64; 23]) -> Wait {
+fn wait_of(n: [u64; 23]) -> Option<Waiting> {
     let left = n[7] % 65536;
     let age = n[8] % 256;
     if n[6] == 0 {
-        return Wait::Free;
+        return None;
     }
-    Wait::Due(Waiting {
+    Some(Waiting {
         left: left as u16,
         age: age as u8,
         replaced: n[9] != 0,
     })
 }
 
-fn timer_of(n: [u64; 23]) -> Timer {
-    if n[10] == 0 {
-        return Timer::Off;
-    }
-    Timer::Until(n[11])
+fn timer_of(n: [u64; 23]) -> Option<u64> {
+    (n[10] != 0).then_some(n[11])
 }
 
 fn control_of(n: [u64; 23], four: [f32; 4]) -> Control {
@@ -183,48 +175,6 @@ fn four_of(candidate: Candidate, newest: f32) -> [f32; 4] {
     }
 }
 
-fn wait_held(wait: Wait) -> u64 {
-    match wait {
-        Wait::Free => 0,
-        Wait::Due(_) => 1,
-    }
-}
-
-fn left_of(wait: Wait) -> u64 {
-    match wait {
-        Wait::Free => 0,
-        Wait::Due(w) => w.left as u64,
-    }
-}
-
-fn wait_age(wait: Wait) -> u64 {
-    match wait {
-        Wait::Free => 0,
-        Wait::Due(w) => w.age as u64,
-    }
-}
-
-fn wait_mark(wait: Wait) -> u64 {
-    match wait {
-        Wait::Free => 0,
-        Wait::Due(w) => w.replaced as u64,
-    }
-}
-
-fn timer_held(timer: Timer) -> u64 {
-    match timer {
-        Timer::Off => 0,
-        Timer::Until(_) => 1,
-    }
-}
-
-fn end_of(timer: Timer) -> u64 {
-    match timer {
-        Timer::Off => 0,
-        Timer::Until(end) => end,
-    }
-}
-
 fn numbers_of(
     rate: u32,
     filter_cursor: usize,
@@ -242,12 +192,12 @@ fn numbers_of(
         kind_held(candidate),
         age_of(candidate),
         taken_at_of(candidate),
-        wait_held(wait),
-        left_of(wait),
-        wait_age(wait),
-        wait_mark(wait),
-        timer_held(timer),
-        end_of(timer),
+        wait.is_some() as u64,
+        wait.map_or(0, |held| held.left as u64),
+        wait.map_or(0, |held| held.age as u64),
+        wait.map_or(0, |held| held.replaced as u64),
+        timer.is_some() as u64,
+        timer.unwrap_or(0),
         control.owed as u64,
         rate as u64,
         told.refusal,

@@ -2,7 +2,6 @@
 // 32 replies, 1 to accept, and the samples, 65,537 at most. An answer is the refusal's number or 0, how many offers are listed, and both rooms whole, for 32 offers.
 ghost use Rattle.std.specs.Prelude.{◌≡◌, ◌≤◌, length};
 
-use plain::Listing;
 use std::io::{self, Read, Write};
 
 pub(crate) const SAMPLES: usize = 65_537;
@@ -29,8 +28,8 @@ fn byte_room() -> [u8; 131_074]
 
 fn replies_of(bytes: [u8; 40]) -> [bool; 32] {
     let mut replies = [false; 32];
-    for i in 0..32 {
-        replies[i] = bytes[i + 8] == 1;
+    for (reply, byte) in replies.iter_mut().zip(&bytes[8..]) {
+        *reply = *byte == 1;
     }
     replies
 }
@@ -85,8 +84,8 @@ fn list(
         &mut symbols[0..written],
     );
     match listing {
-        Listing::Refused(why) => put_listing(out, why.number() as u64, 0, numbers, symbols),
-        Listing::Listed(count) => put_listing(out, 0, count, numbers, symbols),
+        Err(why) => put_listing(out, why.number() as u64, 0, numbers, symbols),
+        Ok(count) => put_listing(out, 0, count, numbers, symbols),
     }
 }
 

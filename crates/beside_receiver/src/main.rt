@@ -20,11 +20,7 @@ const LIST: u64 = 5;
 fn count(number: u64, most: usize) -> usize
     ensures { result ≤ most }
 {
-    if number < most as u64 {
-        number as usize
-    } else {
-        most
-    }
+    (number as usize).min(most)
 }
 
 fn put_room(out: &mut impl Write, room: [f32; 200]) -> io::Result<()> {

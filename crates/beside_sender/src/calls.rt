@@ -4,10 +4,7 @@ ghost use Rattle.std.specs.Prelude.{◌≤◌};
 use crate::layout::Words;
 use crate::{layout, room};
 use given_symbols::Traffic;
-use modulator::{
-    DelaySteps, Made, ModulatorAction, ModulatorFrame, Provided, Read, SampleCount, SoftModulator,
-    Updated,
-};
+use modulator::{DelaySteps, ModulatorAction, ModulatorFrame, SampleCount, SoftModulator};
 use protocol::{Place, Refusal};
 use std::io::{self, Write};
 
@@ -54,31 +51,17 @@ fn refused(why: Refusal) -> Words {
     }
 }
 
-fn made(answer: Made) -> Words {
+fn done(answer: Result<(), Refusal>) -> Words {
     match answer {
-        Made::Refused(why) => refused(why),
-        Made::Done => told(0, 0, 0),
+        Err(why) => refused(why),
+        Ok(()) => told(0, 0, 0),
     }
 }
 
-fn provided(answer: Provided) -> Words {
+fn wrote(answer: Result<SampleCount, Refusal>) -> Words {
     match answer {
-        Provided::Refused(why) => refused(why),
-        Provided::Done => told(0, 0, 0),
-    }
-}
-
-fn wrote(answer: Read) -> Words {
-    match answer {
-        Read::Refused(why) => refused(why),
-        Read::Wrote(count) => told(0, 0, count.0),
-    }
-}
-
-fn updated(answer: Updated) -> Words {
-    match answer {
-        Updated::Refused(why) => refused(why),
-        Updated::Done => told(0, 0, 0),
+        Err(why) => refused(why),
+        Ok(count) => told(0, 0, count.0),
     }
 }
 
@@ -87,14 +70,14 @@ fn idle_number(yes: bool) -> u64 {
 }
 
 // An action by its number: 0 for nothing, 1 for the end, 2 to read, 3 and 4 for idle yes and no, 5 to get a frame.
-fn ran(answer: ModulatorAction) -> Words {
+fn ran(answer: Result<ModulatorAction, Refusal>) -> Words {
     match answer {
-        ModulatorAction::Refused(why) => refused(why),
-        ModulatorAction::TransmissionWillEnd(end) => told(0, 1, end.0),
-        ModulatorAction::ReadOutput => told(0, 2, 0),
-        ModulatorAction::SetIdle(yes) => told(0, idle_number(yes), 0),
-        ModulatorAction::GetNextFrame => told(0, 5, 0),
-        ModulatorAction::Nothing => told(0, 0, 0),
+        Err(why) => refused(why),
+        Ok(ModulatorAction::TransmissionWillEnd(end)) => told(0, 1, end.0),
+        Ok(ModulatorAction::ReadOutput) => told(0, 2, 0),
+        Ok(ModulatorAction::SetIdle(yes)) => told(0, idle_number(yes), 0),
+        Ok(ModulatorAction::GetNextFrame) => told(0, 5, 0),
+        Ok(ModulatorAction::Nothing) => told(0, 0, 0),
     }
 }
 
@@ -114,7 +97,7 @@ fn begin(out: &mut impl Write, rate: u64) -> io::Result<()> {
     let after = SoftModulator::new(named as u32);
     let answer = after.answer;
     let next = after.modulator;
-    layout::put_record(out, next, made(answer))
+    layout::put_record(out, next, done(answer))
 }
 
 fn provide(
@@ -126,7 +109,7 @@ fn provide(
     let after = sender.provide_next_frame(frame_of(asked[1], asked[2]), symbols);
     let answer = after.answer;
     let next = after.modulator;
-    layout::put_record(out, next, provided(answer))
+    layout::put_record(out, next, done(answer))
 }
 
 fn read_into(out: &mut impl Write, sender: SoftModulator, room: &mut [i16]) -> io::Result<()> {
@@ -152,7 +135,7 @@ fn update(out: &mut impl Write, sender: SoftModulator, asked: [u64; 4]) -> io::R
     );
     let answer = after.answer;
     let next = after.modulator;
-    layout::put_record(out, next, updated(answer))
+    layout::put_record(out, next, done(answer))
 }
 
 fn run(out: &mut impl Write, sender: SoftModulator) -> io::Result<()> {

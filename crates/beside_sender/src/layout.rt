@@ -3,7 +3,7 @@
 // count or the place that goes with it. The numbers end at byte 128, the window at 452 and the store at 8,452.
 ghost use Rattle.std.specs.Prelude.{◌≡◌, ◌≤◌, length};
 
-use modulator::{EndReport, OutputBuffer, Pending, Progress, SampleCount, SoftModulator};
+use modulator::{OutputBuffer, Pending, Progress, SampleCount, SoftModulator};
 use std::io::{self, Write};
 
 // An answer in numbers.
@@ -22,11 +22,12 @@ fn progress_of(n: [u64; 16]) -> Progress {
     }
 }
 
-fn report_of(n: [u64; 16]) -> EndReport {
+fn report_of(n: [u64; 16]) -> Option<SampleCount> {
     if n[6] == 0 {
-        return EndReport::Nothing;
+        None
+    } else {
+        Some(SampleCount(n[7] as usize))
     }
-    EndReport::After(SampleCount(n[7] as usize))
 }
 
 fn pending_of(n: [u64; 16]) -> Pending {
@@ -70,18 +71,8 @@ pub(crate) fn record_of(from: &[u8]) -> SoftModulator
     }
 }
 
-fn report_held(report: EndReport) -> u64 {
-    match report {
-        EndReport::Nothing => 0,
-        EndReport::After(_) => 1,
-    }
-}
-
-fn end_of(report: EndReport) -> u64 {
-    match report {
-        EndReport::Nothing => 0,
-        EndReport::After(end) => end.0 as u64,
-    }
+fn end_of(report: Option<SampleCount>) -> u64 {
+    report.map_or(0, |end| end.0 as u64)
 }
 
 fn numbers_of(
@@ -100,7 +91,7 @@ fn numbers_of(
         progress.tx_delay_padding.0 as u64,
         pending.update_idle as u64,
         pending.calculate_tx_end as u64,
-        report_held(report),
+        report.is_some() as u64,
         end_of(report),
         pending.try_get_frame as u64,
         buffer.output_latency.0 as u64,

@@ -16,11 +16,7 @@ mod room;
 fn count(number: u64, most: usize) -> usize
     ensures { result ≤ most }
 {
-    if number < most as u64 {
-        number as usize
-    } else {
-        most
-    }
+    (number as usize).min(most)
 }
 
 // The bytes are room to read into.

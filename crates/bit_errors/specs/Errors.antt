@@ -1,9 +1,8 @@
 -- Document 02 b): "a small bit-error count: two 184-symbol payloads, and the exact number of differing bits". Assumes nothing.
-use Rattle.std.specs.Prelude.{◌≡◌, not, cond, List, [], ◌∷◌, ◌++◌, ℕ, ◌+◌, eqb, length, Float}
+use Rattle.protocol.specs.declared.Refusal.{Refusal}
+use Rattle.std.specs.Prelude.{◌≡◌, not, cond, List, [], ◌∷◌, ◌++◌, ℕ, ◌+◌, eqb, length, Float, Result, Ok, Err}
 use Rattle.protocol.specs.Refusals.{PaperRefusal, bare, on_paper}
 use Rattle.decode.specs.Slicer.{sliced}
-use Rattle.bit_errors.specs.declared.BitErrors.{BitErrors}
-use Rattle.bit_errors.specs.declared.BitErrors.TheVariants.{Refused, Counted}
 
 -- "The count slices both payloads, whatever the symbols' values": each symbol's two bits, one after the other
 unfoldable pub bits_of : List Float → List ℕ
@@ -24,9 +23,9 @@ pub data Paper : Type 0 where
   refusal : PaperRefusal → Paper
   errors : ℕ → Paper
 
-abbrev pub paper : BitErrors → Paper
-paper (Refused why) = refusal (on_paper why)
-paper (Counted n) = errors n
+abbrev pub paper : Result ℕ Refusal → Paper
+paper (Err why) = refusal (on_paper why)
+paper (Ok n) = errors n
 
 -- "6 also for a payload that is not 184 symbols"
 unfoldable pub bit_errors_lem : List Float → List Float → Paper
@@ -36,5 +35,5 @@ bit_errors_lem sent received =
     (errors (differences (bits_of sent) (bits_of received))))
 
 -- ---- what the function promises
-abbrev pub BitErrorsSays : List Float → List Float → BitErrors → Type 0
+abbrev pub BitErrorsSays : List Float → List Float → Result ℕ Refusal → Type 0
 BitErrorsSays sent received r = paper r ≡ bit_errors_lem sent received

@@ -10,16 +10,10 @@ use protocol::Refusal;
 // The symbols of a payload: a frame's, without its burst.
 pub const PAYLOAD: usize = 184;
 
-#[derive(Clone, Copy)]
-pub enum BitErrors {
-    Refused(Refusal),
-    Counted(u32),
-}
-
 fn differs(a: u8, b: u8) -> u32
     ensures { (result ≡ differ a b) × (result ≤ 1) }
 {
-    if a == b { 0 } else { 1 }
+    u32::from(a != b)
 }
 
 fn differing_bits(a: f32, b: f32) -> u32
@@ -29,32 +23,25 @@ fn differing_bits(a: f32, b: f32) -> u32
     let y = decode::decode_sample(b);
     let first = differs(x[0], y[0]);
     let second = differs(x[1], y[1]);
-    let both = first + second;
-    both
+    first + second
 }
 
 fn counted(sent: &[f32], received: &[f32]) -> u32
     requires { (length sent.now ≡ 184) × (length received.now ≡ 184) }
     ensures { result ≡ differences (bits_of sent.now) (bits_of received.now) }
 {
-    let mut count: u32 = 0;
-    let mut i: usize = 0;
-    while i < PAYLOAD {
-        let more = differing_bits(sent[i], received[i]);
-        count += more;
-        i += 1;
+    let mut count = 0;
+    for (a, b) in sent.iter().zip(received) {
+        count += differing_bits(*a, *b);
     }
     count
 }
 
-pub fn bit_errors(sent: &[f32], received: &[f32]) -> BitErrors
+pub fn bit_errors(sent: &[f32], received: &[f32]) -> Result<u32, Refusal>
     ensures { BitErrorsSays sent.now received.now result }
 {
-    if sent.len() != PAYLOAD {
-        return BitErrors::Refused(Refusal::WrongCount);
+    if sent.len() != PAYLOAD || received.len() != PAYLOAD {
+        return Err(Refusal::WrongCount);
     }
-    if received.len() != PAYLOAD {
-        return BitErrors::Refused(Refusal::WrongCount);
-    }
-    BitErrors::Counted(counted(sent, received))
+    Ok(counted(sent, received))
 }

@@ -10,19 +10,13 @@ pub fn tap_sums(table: &[f32], row: &[f32]) -> [f32; 48]
     ensures { TapSumsSays table.now row.now result }
 {
     let mut sums = [0.0f32; 48];
-    if numbers::saturating_sub(row.len(), 47) < table.len() {
+    if row.len().saturating_sub(47) < table.len() {
         return sums;
     }
-    let mut i: usize = 0;
-    while i < table.len() {
-        let tap = table[i];
-        let mut k: usize = 0;
-        while k < 48 {
-            let place = k + i;
-            sums[k] = sums[k] + tap * row[place];
-            k += 1;
+    for (i, tap) in table.iter().enumerate() {
+        for k in 0..48 {
+            sums[k] += *tap * row[k + i];
         }
-        i += 1;
     }
     sums
 }
@@ -32,10 +26,9 @@ pub fn is_still(row: &[f32]) -> bool
     ensures { IsStillSays row.now result }
 {
     let mut all = true;
-    let mut i: usize = 0;
-    while i < row.len() {
-        all = all & (row[i] == 0.0);
-        i += 1;
+    // No `all`, which ends early: so the values are compared several at a time.
+    for value in row {
+        all &= *value == 0.0;
     }
     all
 }

@@ -3,8 +3,8 @@
 
 ghost use Rattle.std.specs.Prelude.{◌≤◌};
 
-use bit_errors::BitErrors;
 use cases_text::Lines;
+use protocol::Refusal;
 use std::io::{self, BufWriter, Write};
 
 // The words from one on as symbols: a missing one is 0.
@@ -12,20 +12,19 @@ fn payload(line: &[u8], from: usize) -> [f32; 184]
     requires { from ≤ 184 }
 {
     let mut symbols = [0.0f32; 184];
-    for i in 0..184 {
-        let k = from + i;
-        symbols[i] = cases_text::float(cases_text::word(line, k));
+    for (i, symbol) in symbols.iter_mut().enumerate() {
+        *symbol = cases_text::float(cases_text::word(line, from + i));
     }
     symbols
 }
 
-fn put_answer(out: &mut impl Write, answer: BitErrors) -> io::Result<()> {
+fn put_answer(out: &mut impl Write, answer: Result<u32, Refusal>) -> io::Result<()> {
     match answer {
-        BitErrors::Refused(why) => {
+        Err(why) => {
             out.write_all(b" refused")?;
             cases_text::put_count(out, why.number() as u64)
         }
-        BitErrors::Counted(n) => cases_text::put_count(out, n as u64),
+        Ok(n) => cases_text::put_count(out, n as u64),
     }
 }
 

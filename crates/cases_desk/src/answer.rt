@@ -1,6 +1,6 @@
 // What a call is answered with, written in words.
-use demodulator::{Carrier, Heard, Made, Offer, Replied};
-use desk::{Closed, Fed, Line, Lines, Listed};
+use demodulator::Offer;
+use desk::{Fed, Line};
 use protocol::{Kind, Refusal};
 use std::io::{self, Write};
 
@@ -9,39 +9,20 @@ fn put_refused(out: &mut impl Write, why: Refusal) -> io::Result<()> {
     cases_text::put_count(out, why.number() as u64)
 }
 
-pub fn put_made(out: &mut impl Write, answer: Made) -> io::Result<()> {
+// Of a call that tells nothing more: the word for it.
+pub fn put_done(out: &mut impl Write, answer: Result<(), Refusal>, word: &[u8]) -> io::Result<()> {
     match answer {
-        Made::Refused(why) => put_refused(out, why),
-        Made::Done => out.write_all(b" opened"),
+        Err(why) => put_refused(out, why),
+        Ok(()) => out.write_all(word),
     }
 }
 
-pub fn put_closed(out: &mut impl Write, answer: Closed) -> io::Result<()> {
+pub fn put_carrier(out: &mut impl Write, answer: Result<bool, Refusal>) -> io::Result<()> {
     match answer {
-        Closed::Refused(why) => put_refused(out, why),
-        Closed::Done => out.write_all(b" closed"),
+        Err(why) => put_refused(out, why),
+        Ok(true) => out.write_all(b" yes"),
+        Ok(false) => out.write_all(b" no"),
     }
-}
-
-pub fn put_replied(out: &mut impl Write, answer: Replied) -> io::Result<()> {
-    match answer {
-        Replied::Refused(why) => put_refused(out, why),
-        Replied::Done => out.write_all(b" done"),
-    }
-}
-
-pub fn put_carrier(out: &mut impl Write, answer: Carrier) -> io::Result<()> {
-    match answer {
-        Carrier::Refused(why) => put_refused(out, why)?,
-        Carrier::Detected(yes) => {
-            if yes {
-                out.write_all(b" yes")?;
-            } else {
-                out.write_all(b" no")?;
-            }
-        }
-    }
-    Ok(())
 }
 
 fn put_kind(out: &mut impl Write, kind: Kind) -> io::Result<()> {
@@ -54,8 +35,8 @@ fn put_kind(out: &mut impl Write, kind: Kind) -> io::Result<()> {
 }
 
 fn put_symbols(out: &mut impl Write, room: [f32; 200]) -> io::Result<()> {
-    for i in 0..192 {
-        cases_text::put_float(out, room[i])?;
+    for symbol in room.iter().take(192) {
+        cases_text::put_float(out, *symbol)?;
     }
     Ok(())
 }
@@ -76,15 +57,15 @@ pub fn put_fed(out: &mut impl Write, told: Fed, room: [f32; 200]) -> io::Result<
     let answer = told.answer;
     let fed = told.fed as u64;
     match answer {
-        Heard::Refused(why) => {
+        Err(why) => {
             put_refused(out, why)?;
             cases_text::put_count(out, fed)
         }
-        Heard::Quiet => {
+        Ok(None) => {
             out.write_all(b" quiet")?;
             cases_text::put_count(out, fed)
         }
-        Heard::Offered(offer) => {
+        Ok(Some(offer)) => {
             out.write_all(b" offered")?;
             cases_text::put_count(out, fed)?;
             put_offer(out, offer, room)
@@ -93,43 +74,28 @@ pub fn put_fed(out: &mut impl Write, told: Fed, room: [f32; 200]) -> io::Result<
 }
 
 // `-` is a closed seat; an open one has its count, and `owed` where a reply is.
-fn put_line(out: &mut impl Write, line: Line) -> io::Result<()> {
-    match line {
-        Line::Closed => {
-            out.write_all(b" -")?;
-        }
-        Line::Open { count, owed } => {
-            cases_text::put_count(out, count)?;
-            if owed {
-                out.write_all(b" owed")?;
-            }
-        }
+fn put_line(out: &mut impl Write, line: Option<Line>) -> io::Result<()> {
+    let Some(open) = line else {
+        return out.write_all(b" -");
+    };
+    cases_text::put_count(out, open.count)?;
+    if open.owed {
+        out.write_all(b" owed")?;
     }
     Ok(())
 }
 
-fn put_lines(out: &mut impl Write, lines: Lines) -> io::Result<()> {
-    let s0 = lines.s0;
-    let s1 = lines.s1;
-    let s2 = lines.s2;
-    let s3 = lines.s3;
-    let s4 = lines.s4;
-    let s5 = lines.s5;
-    let s6 = lines.s6;
-    let s7 = lines.s7;
-    put_line(out, s0)?;
-    put_line(out, s1)?;
-    put_line(out, s2)?;
-    put_line(out, s3)?;
-    put_line(out, s4)?;
-    put_line(out, s5)?;
-    put_line(out, s6)?;
-    put_line(out, s7)
-}
-
-pub fn put_listed(out: &mut impl Write, answer: Listed) -> io::Result<()> {
+pub fn put_listed(
+    out: &mut impl Write,
+    answer: Result<[Option<Line>; 8], Refusal>,
+) -> io::Result<()> {
     match answer {
-        Listed::Refused(why) => put_refused(out, why),
-        Listed::Seats(lines) => put_lines(out, lines),
+        Err(why) => put_refused(out, why),
+        Ok(lines) => {
+            for line in lines {
+                put_line(out, line)?;
+            }
+            Ok(())
+        }
     }
 }

@@ -2,14 +2,9 @@
 ghost use Rattle.desk.specs.Calls.{DeskFeedSays, DeskReplySays, DeskOpenSays, DeskCloseSays, DeskCarrierSays};
 ghost use Rattle.desk.specs.Listing.{DeskListSays};
 
-use demodulator::{Carrier, Made, Replied, Reply};
-use desk::{Closed, Desk, Fed, Listed};
-
-#[derive(Clone, Copy)]
-pub struct Opened {
-    pub answer: Made,
-    pub desk: Desk,
-}
+use demodulator::Reply;
+use desk::{Desk, Fed, Line};
+use protocol::Refusal;
 
 #[derive(Clone, Copy)]
 pub struct AfterFeed {
@@ -18,48 +13,42 @@ pub struct AfterFeed {
 }
 
 #[derive(Clone, Copy)]
-pub struct AfterReply {
-    pub answer: Replied,
+pub struct After {
+    pub answer: Result<(), Refusal>,
     pub desk: Desk,
 }
 
-#[derive(Clone, Copy)]
-pub struct AfterClose {
-    pub answer: Closed,
-    pub desk: Desk,
-}
-
-pub fn open(desk: Desk, seat: usize, rate: u32) -> Opened
+pub fn open(desk: Desk, seat: usize, rate: u32) -> After
     ensures { DeskOpenSays desk seat rate result.answer result.desk }
 {
     let mut lent = desk;
     let answer = desk::open(&mut lent, seat, rate);
-    Opened { answer, desk: lent }
+    After { answer, desk: lent }
 }
 
-pub fn close(desk: Desk, seat: usize) -> AfterClose
+pub fn close(desk: Desk, seat: usize) -> After
     ensures { DeskCloseSays desk seat result.answer result.desk }
 {
     let mut lent = desk;
     let answer = desk::close(&mut lent, seat);
-    AfterClose { answer, desk: lent }
+    After { answer, desk: lent }
 }
 
-pub fn reply(desk: Desk, seat: usize, reply: Reply) -> AfterReply
+pub fn reply(desk: Desk, seat: usize, reply: Reply) -> After
     ensures { DeskReplySays desk seat reply result.answer result.desk }
 {
     let mut lent = desk;
     let answer = desk::reply(&mut lent, seat, reply);
-    AfterReply { answer, desk: lent }
+    After { answer, desk: lent }
 }
 
-pub fn data_carrier_detect(desk: Desk, seat: usize) -> Carrier
+pub fn data_carrier_detect(desk: Desk, seat: usize) -> Result<bool, Refusal>
     ensures { DeskCarrierSays desk seat result }
 {
     desk::data_carrier_detect(&desk, seat)
 }
 
-pub fn list(desk: Desk) -> Listed
+pub fn list(desk: Desk) -> Result<[Option<Line>; 8], Refusal>
     ensures { DeskListSays desk result }
 {
     desk::list(&desk)

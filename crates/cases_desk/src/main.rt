@@ -21,7 +21,7 @@ fn feed(
     places: usize,
 ) -> io::Result<Desk> {
     let mut room = [0.0f32; 200];
-    let wide = stretch::up_to(places, 200);
+    let wide = places.min(room.len());
     let after = lent::feed(desk, seat, samples, &mut room[..wide]);
     answer::put_fed(out, after.told, room)?;
     Ok(after.desk)
@@ -85,32 +85,27 @@ fn with_owed(desk: Desk, seat: usize) -> Desk {
 
 fn open(out: &mut impl Write, desk: Desk, seat: usize, rate: u32) -> io::Result<Desk> {
     let after = lent::open(desk, seat, rate);
-    let answer = after.answer;
-    answer::put_made(out, answer)?;
+    answer::put_done(out, after.answer, b" opened")?;
     Ok(after.desk)
 }
 
 fn close(out: &mut impl Write, desk: Desk, seat: usize) -> io::Result<Desk> {
     let after = lent::close(desk, seat);
-    let answer = after.answer;
-    answer::put_closed(out, answer)?;
+    answer::put_done(out, after.answer, b" closed")?;
     Ok(after.desk)
 }
 
 fn reply(out: &mut impl Write, desk: Desk, seat: usize, reply: Reply) -> io::Result<Desk> {
     let after = lent::reply(desk, seat, reply);
-    let answer = after.answer;
-    answer::put_replied(out, answer)?;
+    answer::put_done(out, after.answer, b" done")?;
     Ok(after.desk)
 }
 
 fn made_up(desk: Desk, call: &[u8], seat: usize, number: u64) -> Desk {
-    if check::same(call, b"rate") {
-        with_rate(desk, seat, (number % 100_000) as u32)
-    } else if check::same(call, b"cursor") {
-        with_cursor(desk, seat, number as usize)
-    } else {
-        with_owed(desk, seat)
+    match call {
+        b"rate" => with_rate(desk, seat, (number % 100_000) as u32),
+        b"cursor" => with_cursor(desk, seat, number as usize),
+        _ => with_owed(desk, seat),
     }
 }
 
@@ -123,28 +118,22 @@ fn answer_call(
     places: usize,
 ) -> io::Result<Desk> {
     let number = cases_text::decimal(operand);
-    if check::same(call, b"open") {
-        open(out, desk, seat, (number % 100_000) as u32)
-    } else if check::same(call, b"close") {
-        close(out, desk, seat)
-    } else if check::same(call, b"feed") {
-        feed_zeros(out, desk, seat, number as usize, places)
-    } else if check::same(call, b"samples") {
-        feed_samples(out, desk, seat, operand)
-    } else if check::same(call, b"accept") {
-        reply(out, desk, seat, Reply::Accepted)
-    } else if check::same(call, b"reject") {
-        reply(out, desk, seat, Reply::Rejected)
-    } else if check::same(call, b"carrier") {
-        let told = lent::data_carrier_detect(desk, seat);
-        answer::put_carrier(out, told)?;
-        Ok(desk)
-    } else if check::same(call, b"list") {
-        let told = lent::list(desk);
-        answer::put_listed(out, told)?;
-        Ok(desk)
-    } else {
-        Ok(made_up(desk, call, seat, number))
+    match call {
+        b"open" => open(out, desk, seat, (number % 100_000) as u32),
+        b"close" => close(out, desk, seat),
+        b"feed" => feed_zeros(out, desk, seat, number as usize, places),
+        b"samples" => feed_samples(out, desk, seat, operand),
+        b"accept" => reply(out, desk, seat, Reply::Accepted),
+        b"reject" => reply(out, desk, seat, Reply::Rejected),
+        b"carrier" => {
+            answer::put_carrier(out, lent::data_carrier_detect(desk, seat))?;
+            Ok(desk)
+        }
+        b"list" => {
+            answer::put_listed(out, lent::list(desk))?;
+            Ok(desk)
+        }
+        _ => Ok(made_up(desk, call, seat, number)),
     }
 }
 

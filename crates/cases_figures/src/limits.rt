@@ -2,15 +2,15 @@
 // nothing, and a total without a place is put at each of the 24 in turn. A call: `add` with the rate, of the last recording or of `silence`, or
 // `merge` with another report.
 use crate::said;
-use figures::{AfterAdd, Figures, Gain, Report};
+use figures::{AfterAdd, Figures, Report};
 use std::io::{self, Write};
 
-fn gain_behind(words: &[u8], name: &[u8]) -> Gain {
+fn gain_behind(words: &[u8], name: &[u8]) -> Option<f32> {
     let place = cases_text::place_behind(words, name);
     if 0 < place {
-        return Gain::Of(cases_text::float(cases_text::word(words, place)));
+        return Some(cases_text::float(cases_text::word(words, place)));
     }
-    Gain::Nothing
+    None
 }
 
 fn figures_of(words: &[u8], place: usize) -> Figures {

@@ -48,15 +48,10 @@ fn answer_asked(
     samples: &[i16],
 ) -> io::Result<Session> {
     out.write_all(b" =")?;
-    let name = cases_text::word(line, 0);
-    if check::same(name, b"figures") {
-        return add_recording(out, session, samples);
-    }
-    if check::same(name, b"month") {
-        let month = session.month;
-        said::put_side(out, month, rate_in(line, 1))?;
-    } else {
-        limits::put_answers(out, line, samples)?;
+    match cases_text::word(line, 0) {
+        b"figures" => return add_recording(out, session, samples),
+        b"month" => said::put_side(out, session.month, rate_in(line, 1))?,
+        _ => limits::put_answers(out, line, samples)?,
     }
     Ok(session)
 }
@@ -86,24 +81,20 @@ fn answer_line(
     room: &mut [i16],
 ) -> io::Result<Session> {
     out.write_all(line)?;
-    let name = cases_text::word(line, 0);
     let recorded = session.recorded;
-    if check::same(name, b"samples") {
-        let longer = recording::append(room, recorded, cases_text::word(line, 1));
-        cases_text::end_line(out)?;
-        return Ok(with_samples(session, longer));
-    }
-    if check::same(name, b"zeros") {
-        let zeros = cases_text::decimal(cases_text::word(line, 1));
-        let longer = recording::append_zeros(room, recorded, zeros);
-        cases_text::end_line(out)?;
-        return Ok(with_samples(session, longer));
-    }
-    if check::same(name, b"recording") {
-        cases_text::end_line(out)?;
-        return Ok(begun(session, line));
-    }
-    let next = answer_asked(out, session, line, recording::front(room, recorded))?;
+    let next = match cases_text::word(line, 0) {
+        b"samples" => {
+            let longer = recording::append(room, recorded, cases_text::word(line, 1));
+            with_samples(session, longer)
+        }
+        b"zeros" => {
+            let zeros = cases_text::decimal(cases_text::word(line, 1));
+            let longer = recording::append_zeros(room, recorded, zeros);
+            with_samples(session, longer)
+        }
+        b"recording" => begun(session, line),
+        _ => answer_asked(out, session, line, recording::front(room, recorded))?,
+    };
     cases_text::end_line(out)?;
     Ok(next)
 }

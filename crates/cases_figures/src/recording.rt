@@ -1,5 +1,5 @@
 // A recording as the list has it: stretches of zeros by their length, and samples by the four digits of their bits.
-ghost use Rattle.std.specs.Prelude.{◌≡◌, ◌≤◌, length};
+ghost use Rattle.std.specs.Prelude.{◌≡◌, length};
 
 // Room for the longest recording. Only its length is told, which lending it as a slice needs.
 pub(crate) fn room() -> [i16; 20_000]
@@ -8,26 +8,14 @@ pub(crate) fn room() -> [i16; 20_000]
     [0; 20_000]
 }
 
-fn least(a: usize, b: usize) -> usize
-    ensures { result ≤ b }
-{
-    if a < b { a } else { b }
-}
-
 // The first samples, or all where they are fewer.
 pub(crate) fn front(samples: &[i16], count: usize) -> &[i16] {
-    let most = least(count, samples.len());
-    &samples[0..most]
+    &samples[..count.min(samples.len())]
 }
 
 // The sample that a pattern of 16 bits is, in two's complement.
 fn of_pattern(pattern: u64) -> i16 {
-    let low = pattern % 65536;
-    if low < 32768 {
-        low as i16
-    } else {
-        !((65535 - low) as i16)
-    }
+    ((pattern % 65536) as u16).cast_signed()
 }
 
 fn put(room: &mut [i16], at: usize, sample: i16) -> usize {

@@ -1,18 +1,19 @@
 // Figures and answers on standard output, and whether two reports are the same.
-use figures::{Added, Figures, Gain, Report};
+use figures::{Figures, Report};
+use protocol::Refusal;
 use std::io::{self, Write};
 
 fn put_totals(out: &mut impl Write, totals: [u64; 24]) -> io::Result<()> {
-    for i in 0..24 {
-        cases_text::put_count(out, totals[i])?;
+    for total in &totals {
+        cases_text::put_count(out, *total)?;
     }
     Ok(())
 }
 
-fn put_gain(out: &mut impl Write, gain: Gain) -> io::Result<()> {
+fn put_gain(out: &mut impl Write, gain: Option<f32>) -> io::Result<()> {
     match gain {
-        Gain::Nothing => out.write_all(b" none"),
-        Gain::Of(x) => cases_text::put_float(out, x),
+        None => out.write_all(b" none"),
+        Some(x) => cases_text::put_float(out, x),
     }
 }
 
@@ -36,58 +37,35 @@ pub(crate) fn put_side(out: &mut impl Write, report: Report, rate: u32) -> io::R
     }
 }
 
-fn same_totals(a: [u64; 24], b: [u64; 24]) -> bool {
-    for i in 0..24 {
-        if a[i] != b[i] {
-            return false;
-        }
-    }
-    true
-}
-
-fn same_gain(a: Gain, b: Gain) -> bool {
-    match a {
-        Gain::Nothing => match b {
-            Gain::Nothing => true,
-            Gain::Of(_) => false,
-        },
-        Gain::Of(x) => match b {
-            Gain::Nothing => false,
-            Gain::Of(y) => cases_text::same_float(x, y),
-        },
+// Gains are held to each other by their bits, as `==` does not.
+fn same_gain(a: Option<f32>, b: Option<f32>) -> bool {
+    match (a, b) {
+        (None, None) => true,
+        (Some(x), Some(y)) => cases_text::same_float(x, y),
+        _ => false,
     }
 }
 
 fn same_figures(a: Figures, b: Figures) -> bool {
-    let totals_a = a.totals;
-    let totals_b = b.totals;
-    let low_a = a.smallest;
-    let low_b = b.smallest;
-    let high_a = a.largest;
-    let high_b = b.largest;
-    same_totals(totals_a, totals_b) & same_gain(low_a, low_b) & same_gain(high_a, high_b)
+    a.totals == b.totals && same_gain(a.smallest, b.smallest) && same_gain(a.largest, b.largest)
 }
 
 fn same_report(a: Report, b: Report) -> bool {
-    let first_a = a.at_48;
-    let first_b = b.at_48;
-    let second_a = a.at_24;
-    let second_b = b.at_24;
-    same_figures(first_a, first_b) & same_figures(second_a, second_b)
+    same_figures(a.at_48, b.at_48) && same_figures(a.at_24, b.at_24)
 }
 
 // `done`, or the refusal's number and whether the report is as it was.
 pub(crate) fn put_answer(
     out: &mut impl Write,
     before: Report,
-    answer: Added,
+    answer: Result<(), Refusal>,
     after: Report,
 ) -> io::Result<()> {
     match answer {
-        Added::Done => {
+        Ok(()) => {
             out.write_all(b" done")?;
         }
-        Added::Refused(why) => {
+        Err(why) => {
             cases_text::put_count(out, why.number() as u64)?;
             if !same_report(before, after) {
                 out.write_all(b" changed")?;

@@ -2,7 +2,6 @@
 #![tactic(auto)]
 
 use cases_text::Lines;
-use decode::Correlated;
 use protocol::{Kind, SyncBurst};
 use std::io::{self, BufWriter, Write};
 
@@ -21,25 +20,20 @@ fn saturating_sub(out: &mut impl Write, a: u64, b: u64) -> io::Result<()> {
 }
 
 fn burst_named(name: &[u8]) -> SyncBurst {
-    if check::same(name, b"preamble") {
-        SyncBurst::Preamble
-    } else if check::same(name, b"lsf") {
-        SyncBurst::Frame(Kind::Lsf)
-    } else if check::same(name, b"bert") {
-        SyncBurst::Frame(Kind::Bert)
-    } else if check::same(name, b"stream") {
-        SyncBurst::Frame(Kind::Stream)
-    } else if check::same(name, b"packet") {
-        SyncBurst::Frame(Kind::Packet)
-    } else {
-        SyncBurst::EndOfTransmission
+    match name {
+        b"preamble" => SyncBurst::Preamble,
+        b"lsf" => SyncBurst::Frame(Kind::Lsf),
+        b"bert" => SyncBurst::Frame(Kind::Bert),
+        b"stream" => SyncBurst::Frame(Kind::Stream),
+        b"packet" => SyncBurst::Frame(Kind::Packet),
+        _ => SyncBurst::EndOfTransmission,
     }
 }
 
 fn eight(line: &[u8]) -> [f32; 8] {
     let mut values = [0.0f32; 8];
-    for i in 0..8 {
-        values[i] = operand(line, i + 1);
+    for (i, value) in values.iter_mut().enumerate() {
+        *value = operand(line, i + 1);
     }
     values
 }
@@ -49,12 +43,12 @@ fn correlate(out: &mut impl Write, line: &[u8]) -> io::Result<()> {
     let values = eight(line);
     let answer = decode::sync_burst_correlation(burst, &values);
     match answer {
-        Correlated::Answered(found) => {
+        Ok(found) => {
             cases_text::put_float(out, found.diff)?;
             cases_text::put_float(out, found.gain)?;
             cases_text::put_float(out, found.shift)
         }
-        Correlated::Refused(why) => cases_text::put_count(out, why.number() as u64),
+        Err(why) => cases_text::put_count(out, why.number() as u64),
     }
 }
 
@@ -63,26 +57,24 @@ fn answer(out: &mut impl Write, line: &[u8]) -> io::Result<()> {
     let name = cases_text::word(line, 0);
     let first = cases_text::word(line, 1);
     let second = cases_text::word(line, 2);
-    if first.len() == 0 {
-        slice(out, cases_text::float(name))
-    } else if check::same(name, b"max") {
-        cases_text::put_float(
+    if first.is_empty() {
+        return slice(out, cases_text::float(name));
+    }
+    match name {
+        b"max" => cases_text::put_float(
             out,
             numbers::max(cases_text::float(first), cases_text::float(second)),
-        )
-    } else if check::same(name, b"min") {
-        cases_text::put_float(
+        ),
+        b"min" => cases_text::put_float(
             out,
             numbers::min(cases_text::float(first), cases_text::float(second)),
-        )
-    } else if check::same(name, b"abs") {
-        cases_text::put_float(out, numbers::abs(cases_text::float(first)))
-    } else if check::same(name, b"as_i16") {
-        cases_text::put_signed(out, numbers::cut_to_i16(cases_text::float(first)))
-    } else if check::same(name, b"saturating_sub") {
-        saturating_sub(out, cases_text::decimal(first), cases_text::decimal(second))
-    } else {
-        correlate(out, line)
+        ),
+        b"abs" => cases_text::put_float(out, numbers::abs(cases_text::float(first))),
+        b"as_i16" => cases_text::put_signed(out, numbers::cut_to_i16(cases_text::float(first))),
+        b"saturating_sub" => {
+            saturating_sub(out, cases_text::decimal(first), cases_text::decimal(second))
+        }
+        _ => correlate(out, line),
     }
 }
 

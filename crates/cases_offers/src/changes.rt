@@ -1,8 +1,8 @@
 // The lines of a sample: what could be seen of the receiver before it, and what can be seen after it.
-use demodulator::{Candidate, Carrier, SoftDemodulator, Timer, Wait};
-use protocol::Kind;
+use demodulator::{Candidate, SoftDemodulator};
+use protocol::{Kind, Refusal};
+use search::Waiting;
 use std::io::{self, Write};
-use std::num::wrapping_add_u64;
 
 // A candidate in numbers: its kind by the order of trial, NO_KIND for none.
 #[derive(Clone, Copy)]
@@ -37,12 +37,7 @@ const NO_KIND: u64 = 4;
 const NO_TIMER: u64 = 18446744073709551615;
 
 pub(crate) fn kind_number(kind: Kind) -> u64 {
-    match kind {
-        Kind::Lsf => 0,
-        Kind::Bert => 1,
-        Kind::Stream => 2,
-        Kind::Packet => 3,
-    }
+    kind as u64
 }
 
 fn nothing_held() -> Held {
@@ -77,14 +72,14 @@ fn held_of(candidate: Candidate) -> Held {
     }
 }
 
-fn wait_in(wait: Wait) -> Waited {
+fn wait_in(wait: Option<Waiting>) -> Waited {
     match wait {
-        Wait::Free => Waited {
+        None => Waited {
             left: 0,
             age: 0,
             mark: 0,
         },
-        Wait::Due(w) => Waited {
+        Some(w) => Waited {
             left: w.left as u64,
             age: w.age as u64,
             mark: w.replaced as u64,
@@ -92,18 +87,12 @@ fn wait_in(wait: Wait) -> Waited {
     }
 }
 
-fn end_of(timer: Timer) -> u64 {
-    match timer {
-        Timer::Off => 0,
-        Timer::Until(end) => end,
-    }
-}
-
 // The timer's end as far as the carrier query tells of it: an answer that does not fit the timer shows as an end of 0, which no list has.
-fn end_told(answer: Carrier, timer: Timer) -> u64 {
+fn end_told(answer: Result<bool, Refusal>, timer: Option<u64>) -> u64 {
     match answer {
-        Carrier::Refused(_) => 0,
-        Carrier::Detected(yes) => if yes { end_of(timer) } else { NO_TIMER },
+        Err(_) => 0,
+        Ok(true) => timer.unwrap_or(0),
+        Ok(false) => NO_TIMER,
     }
 }
 
@@ -121,22 +110,18 @@ pub(crate) fn look_at(receiver: SoftDemodulator) -> Seen {
 }
 
 pub(crate) fn put_kind(out: &mut impl Write, kind: u64) -> io::Result<()> {
-    if kind == 0 {
-        out.write_all(b" lsf")
-    } else if kind == 1 {
-        out.write_all(b" bert")
-    } else if kind == 2 {
-        out.write_all(b" stream")
-    } else if kind == 3 {
-        out.write_all(b" packet")
-    } else {
-        out.write_all(b" none")
+    match kind {
+        0 => out.write_all(b" lsf"),
+        1 => out.write_all(b" bert"),
+        2 => out.write_all(b" stream"),
+        3 => out.write_all(b" packet"),
+        _ => out.write_all(b" none"),
     }
 }
 
 // A line begins with the number of the sample, which is one more than the count before it.
 pub(crate) fn put_event(out: &mut impl Write, before: u64, event: &[u8]) -> io::Result<()> {
-    write!(out, "{}", wrapping_add_u64(before, 1))?;
+    write!(out, "{}", before.wrapping_add(1))?;
     out.write_all(b" ")?;
     out.write_all(event)
 }
@@ -183,7 +168,7 @@ fn put_timer(out: &mut impl Write, before: Seen, now: Seen) -> io::Result<()> {
 // Whether a candidate is another but for so much on its age.
 fn is_older(a: Held, b: Held, by: u64) -> bool {
     (a.kind == b.kind)
-        & (a.age == wrapping_add_u64(b.age, by))
+        & (a.age == b.age.wrapping_add(by))
         & (a.diff == b.diff)
         & (a.gain == b.gain)
         & (a.shift == b.shift)
@@ -209,8 +194,7 @@ fn put_candidate(out: &mut impl Write, count: u64, before: Held, now: Held) -> i
 fn put_wait(out: &mut impl Write, before: Seen, now: Seen) -> io::Result<()> {
     let was = before.wait;
     let is = now.wait;
-    let run_down = if 1 < was.left { was.left - 1 } else { 0 };
-    if is.left != run_down {
+    if is.left != was.left.saturating_sub(1) {
         put_event(out, before.count, b"wait")?;
         put_waited(out, is)?;
         cases_text::end_line(out)?;

@@ -6,20 +6,13 @@ mod changes;
 mod stream;
 mod stretch;
 
-ghost use Rattle.std.specs.Prelude.{◌<◌};
-
 use cases_text::Lines;
 use std::io::{self, BufWriter, Write};
 use stream::Session;
 
 // The sample that a pattern of 16 bits is, in two's complement.
 fn of_pattern(pattern: u64) -> i16 {
-    let low = pattern % 65536;
-    if low < 32768 {
-        low as i16
-    } else {
-        !((65535 - low) as i16)
-    }
+    ((pattern % 65536) as u16).cast_signed()
 }
 
 // Four digits are a sample.
@@ -41,31 +34,17 @@ fn feed_zeros(out: &mut impl Write, session: Session, count: u64) -> io::Result<
 
 fn script(letters: &[u8]) -> [u8; 16] {
     let mut script = [b'-'; 16];
-    for i in 0..16 {
-        if i < letters.len() {
-            script[i] = letters[i];
-        }
+    for (reply, letter) in script.iter_mut().zip(letters) {
+        *reply = *letter;
     }
     script
 }
 
-// Sample i of the digits, and 0 past their end.
-fn sample(digits: &[u8], i: usize) -> i16
-    requires { i < 610 }
-{
-    let first = 4 * i;
-    let end = first + 4;
-    if end <= digits.len() {
-        of_pattern(cases_text::hexadecimal(&digits[first..end]))
-    } else {
-        0
-    }
-}
-
+// The samples of the digits, and 0 past their end.
 fn samples_of(digits: &[u8]) -> [i16; 610] {
     let mut samples = [0i16; 610];
-    for i in 0..610 {
-        samples[i] = sample(digits, i);
+    for (sample, four) in samples.iter_mut().zip(digits.chunks_exact(4)) {
+        *sample = of_pattern(cases_text::hexadecimal(four));
     }
     samples
 }
@@ -103,21 +82,17 @@ fn put_end(out: &mut impl Write, session: Session) -> io::Result<()> {
 fn answer_line(out: &mut impl Write, session: Session, line: &[u8]) -> io::Result<Session> {
     let name = cases_text::word(line, 0);
     out.write_all(line)?;
-    if check::same(name, b"end") {
+    if name == b"end".as_slice() {
         put_end(out, session)?;
         return Ok(session);
     }
     cases_text::end_line(out)?;
-    if check::same(name, b"samples") {
-        feed_samples(out, session, cases_text::word(line, 1))
-    } else if check::same(name, b"zeros") {
-        feed_zeros(out, session, cases_text::decimal(cases_text::word(line, 1)))
-    } else if check::same(name, b"feed") {
-        feed_stretch(out, session, cases_text::word(line, 1))
-    } else if check::same(name, b"stretches") {
-        Ok(begun_at(line))
-    } else {
-        Ok(begun(line))
+    match name {
+        b"samples" => feed_samples(out, session, cases_text::word(line, 1)),
+        b"zeros" => feed_zeros(out, session, cases_text::decimal(cases_text::word(line, 1))),
+        b"feed" => feed_stretch(out, session, cases_text::word(line, 1)),
+        b"stretches" => Ok(begun_at(line)),
+        _ => Ok(begun(line)),
     }
 }
 

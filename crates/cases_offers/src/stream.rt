@@ -1,9 +1,8 @@
 // A stream: a receiver from fresh, and the replies to its offers.
 use crate::changes;
 use crate::changes::Seen;
-use demodulator::{Heard, Offer, Replied, Reply, SoftDemodulator};
+use demodulator::{Offer, Reply, SoftDemodulator};
 use std::io::{self, Write};
-use std::num::wrapping_add_u64;
 
 #[derive(Clone, Copy)]
 pub(crate) struct Session {
@@ -42,8 +41,8 @@ fn finished(
 }
 
 fn put_symbols(out: &mut impl Write, room: [f32; 192]) -> io::Result<()> {
-    for i in 0..192 {
-        cases_text::put_float(out, room[i])?;
+    for symbol in &room {
+        cases_text::put_float(out, *symbol)?;
     }
     Ok(())
 }
@@ -67,13 +66,7 @@ pub(crate) fn put_offer(
 
 // Past the script's end every offer is rejected.
 pub(crate) fn is_accepted(session: Session) -> bool {
-    let at = session.replies;
-    if at < 16 {
-        let letter = session.script[at as usize];
-        letter == b'a'
-    } else {
-        false
-    }
+    session.script.get(session.replies as usize) == Some(&b'a')
 }
 
 pub(crate) fn put_refusal(out: &mut impl Write, number: u32) -> io::Result<()> {
@@ -94,7 +87,7 @@ pub(crate) fn settled(
     };
     let left = receiver.reply(reply);
     let answer = left.answer;
-    if let Replied::Refused(why) = answer {
+    if let Err(why) = answer {
         put_refusal(out, why.number())?;
     }
     Ok(left.demodulator)
@@ -121,7 +114,7 @@ fn offered(
     put_reply(out, accepted)?;
     let after = settled(out, receiver, accepted)?;
     let mut next = finished(out, session, after)?;
-    next.replies = wrapping_add_u64(next.replies, 1);
+    next.replies = next.replies.wrapping_add(1);
     Ok(next)
 }
 
@@ -132,9 +125,9 @@ pub(crate) fn fed(out: &mut impl Write, session: Session, sample: i16) -> io::Re
     let answer = heard.answer;
     let after = heard.demodulator;
     match answer {
-        Heard::Quiet => finished(out, session, after),
-        Heard::Offered(offer) => offered(out, session, after, offer, room),
-        Heard::Refused(why) => {
+        Ok(None) => finished(out, session, after),
+        Ok(Some(offer)) => offered(out, session, after, offer, room),
+        Err(why) => {
             put_refusal(out, why.number())?;
             Ok(session)
         }

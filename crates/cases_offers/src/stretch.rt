@@ -1,13 +1,10 @@
 // A stream in stretches: the offers and the refusal inside many samples at once, and what can be seen of the receiver after them.
-ghost use Rattle.std.specs.Prelude.{◌≤◌};
-
 use crate::stream::Session;
 use crate::{changes, stream};
-use demodulator::{Heard, Offer, SoftDemodulator};
+use demodulator::{Offer, SoftDemodulator};
 use std::io::{self, Write};
-use std::num::{wrapping_add_u64, wrapping_sub_u64};
 
-// A call of `feed`: how many samples went in, and whether the rest is given again.
+// A call of `feed`: how many samples went in, and whether the rest is given again; session and count are there either way.
 #[derive(Clone, Copy)]
 struct Turn {
     session: Session,
@@ -26,22 +23,14 @@ pub(crate) fn at_count(session: Session, count: u64) -> Session {
     next
 }
 
-fn least(a: usize, b: usize) -> usize
-    ensures { result ≤ b }
-{
-    if a < b { a } else { b }
-}
-
 // The first samples, or all where they are fewer.
 pub(crate) fn front(samples: &[i16], count: usize) -> &[i16] {
-    let most = least(count, samples.len());
-    &samples[0..most]
+    &samples[..count.min(samples.len())]
 }
 
 // Those after them, none where they are fewer.
 fn after(samples: &[i16], count: usize) -> &[i16] {
-    let most = least(count, samples.len());
-    &samples[most..]
+    &samples[count.min(samples.len())..]
 }
 
 fn put_left(out: &mut impl Write, receiver: SoftDemodulator) -> io::Result<()> {
@@ -71,11 +60,11 @@ fn offered(
     room: [f32; 192],
 ) -> io::Result<Session> {
     let accepted = stream::is_accepted(session);
-    stream::put_offer(out, wrapping_sub_u64(offer.sample, 1), offer, room)?;
+    stream::put_offer(out, offer.sample.wrapping_sub(1), offer, room)?;
     stream::put_reply(out, accepted)?;
     let mut next = session;
     next.receiver = stream::settled(out, receiver, accepted)?;
-    next.replies = wrapping_add_u64(next.replies, 1);
+    next.replies = next.replies.wrapping_add(1);
     Ok(next)
 }
 
@@ -87,7 +76,7 @@ fn feed_some(out: &mut impl Write, session: Session, samples: &[i16]) -> io::Res
     let answer = heard.answer;
     let after = heard.demodulator;
     match answer {
-        Heard::Quiet => {
+        Ok(None) => {
             let mut next = session;
             next.receiver = after;
             Ok(Turn {
@@ -96,12 +85,12 @@ fn feed_some(out: &mut impl Write, session: Session, samples: &[i16]) -> io::Res
                 more: true,
             })
         }
-        Heard::Offered(offer) => Ok(Turn {
+        Ok(Some(offer)) => Ok(Turn {
             session: offered(out, session, after, offer, room)?,
             fed,
             more: true,
         }),
-        Heard::Refused(why) => {
+        Err(why) => {
             put_refused(out, receiver, why.number())?;
             Ok(Turn {
                 session,

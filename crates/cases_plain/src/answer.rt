@@ -1,7 +1,7 @@
 // What the slow engine answers to a line, and what the rooms then hold.
 ghost use Rattle.std.specs.Prelude.{◌≤◌, ◌<◌};
 
-use plain::Listing;
+use protocol::Refusal;
 use std::io::{self, Write};
 
 // The rooms' content before a call: of no offer.
@@ -16,20 +16,14 @@ const OFFERS: usize = 12;
 fn at_most(number: u64, most: usize) -> usize
     ensures { result ≤ most }
 {
-    if number < most as u64 {
-        number as usize
-    } else {
-        most
-    }
+    (number as usize).min(most)
 }
 
 // A letter for each reply, `a` to accept.
 fn replies_of(letters: &[u8]) -> [bool; 16] {
     let mut replies = [false; 16];
-    for i in 0..16 {
-        if i < letters.len() {
-            replies[i] = letters[i] == b'a';
-        }
+    for (reply, letter) in replies.iter_mut().zip(letters) {
+        *reply = *letter == b'a';
     }
     replies
 }
@@ -37,30 +31,25 @@ fn replies_of(letters: &[u8]) -> [bool; 16] {
 fn reply_count(letters: &[u8]) -> usize
     ensures { result ≤ 16 }
 {
-    if check::same(letters, b"-") {
-        0
-    } else {
-        at_most(letters.len() as u64, 16)
+    match letters {
+        b"-" => 0,
+        _ => letters.len().min(16),
     }
 }
 
 fn put_kind(out: &mut impl Write, kind: u64) -> io::Result<()> {
-    if kind == 0 {
-        out.write_all(b" lsf")
-    } else if kind == 1 {
-        out.write_all(b" bert")
-    } else if kind == 2 {
-        out.write_all(b" stream")
-    } else if kind == 3 {
-        out.write_all(b" packet")
-    } else {
-        out.write_all(b" none")
+    match kind {
+        0 => out.write_all(b" lsf"),
+        1 => out.write_all(b" bert"),
+        2 => out.write_all(b" stream"),
+        3 => out.write_all(b" packet"),
+        _ => out.write_all(b" none"),
     }
 }
 
 fn put_symbols(out: &mut impl Write, symbols: &[f32]) -> io::Result<()> {
-    for i in 0..symbols.len() {
-        cases_text::put_float(out, symbols[i])?;
+    for symbol in symbols {
+        cases_text::put_float(out, *symbol)?;
     }
     Ok(())
 }
@@ -75,13 +64,11 @@ fn put_offer(
 {
     let at = 5 * offer;
     put_kind(out, numbers[at])?;
-    cases_text::put_count(out, numbers[at + 1])?;
-    cases_text::put_count(out, numbers[at + 2])?;
-    cases_text::put_count(out, numbers[at + 3])?;
-    cases_text::put_count(out, numbers[at + 4])?;
+    for number in &numbers[at + 1..at + 5] {
+        cases_text::put_count(out, *number)?;
+    }
     let window = 192 * offer;
-    let end = window + 192;
-    put_symbols(out, &symbols[window..end])
+    put_symbols(out, &symbols[window..window + 192])
 }
 
 fn put_offers(
@@ -90,49 +77,40 @@ fn put_offers(
     numbers: [u64; 60],
     symbols: [f32; 2304],
 ) -> io::Result<()> {
-    let listed = at_most(count as u64, OFFERS);
-    for offer in 0..listed {
+    for offer in 0..count.min(OFFERS) {
         put_offer(out, offer, numbers, symbols)?;
     }
     Ok(())
 }
 
 fn are_unused(numbers: [u64; 60], from: usize) -> bool {
-    let mut kept = true;
-    for i in from..60 {
-        kept = kept & (numbers[i] == UNUSED);
-    }
-    kept
+    numbers.iter().skip(from).all(|number| *number == UNUSED)
 }
 
 fn are_blank(symbols: [f32; 2304], from: usize) -> bool {
-    let mut kept = true;
-    for i in from..2304 {
-        kept = kept & (symbols[i] == BLANK);
-    }
-    kept
+    symbols.iter().skip(from).all(|symbol| *symbol == BLANK)
 }
 
 // Whether the places after those of `count` offers are as they were.
 fn is_rest_kept(count: usize, numbers: [u64; 60], symbols: [f32; 2304]) -> bool {
-    let listed = at_most(count as u64, OFFERS);
+    let listed = count.min(OFFERS);
     are_unused(numbers, 5 * listed) & are_blank(symbols, 192 * listed)
 }
 
 fn put_answer(
     out: &mut impl Write,
-    listing: Listing,
+    listing: Result<usize, Refusal>,
     in_full: bool,
     numbers: [u64; 60],
     symbols: [f32; 2304],
 ) -> io::Result<()> {
     match listing {
-        Listing::Refused(why) => {
+        Err(why) => {
             out.write_all(b" = refused")?;
             cases_text::put_count(out, why.number() as u64)?;
             put_kept(out, is_rest_kept(0, numbers, symbols))
         }
-        Listing::Listed(count) => {
+        Ok(count) => {
             out.write_all(b" = listed")?;
             cases_text::put_count(out, count as u64)?;
             if in_full {

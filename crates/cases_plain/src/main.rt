@@ -22,24 +22,25 @@ fn answer_line(
 {
     let name = cases_text::word(line, 0);
     out.write_all(line)?;
-    if check::same(name, b"samples") {
-        cases_text::end_line(out)?;
-        return Ok(recording::add_samples(cases_text::word(line, 1), samples, count));
+    match name {
+        b"samples" => {
+            cases_text::end_line(out)?;
+            Ok(recording::add_samples(cases_text::word(line, 1), samples, count))
+        }
+        b"zeros" => {
+            cases_text::end_line(out)?;
+            let zeros = cases_text::decimal(cases_text::word(line, 1));
+            Ok(recording::add_zeros(zeros, samples, count))
+        }
+        b"recording" => {
+            cases_text::end_line(out)?;
+            Ok(0)
+        }
+        _ => {
+            answer::put_listing(out, line, &samples[..count], name == b"list".as_slice())?;
+            Ok(count)
+        }
     }
-    if check::same(name, b"zeros") {
-        cases_text::end_line(out)?;
-        return Ok(recording::add_zeros(
-            cases_text::decimal(cases_text::word(line, 1)),
-            samples,
-            count,
-        ));
-    }
-    if check::same(name, b"recording") {
-        cases_text::end_line(out)?;
-        return Ok(0);
-    }
-    answer::put_listing(out, line, &samples[0..count], check::same(name, b"list"))?;
-    Ok(count)
 }
 
 fn replay(out: &mut impl Write, text: &[u8], samples: &mut [i16]) -> io::Result<()> {

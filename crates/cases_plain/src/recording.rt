@@ -3,12 +3,7 @@ ghost use Rattle.std.specs.Prelude.{◌≡◌, ◌≤◌, length};
 
 // The sample that a pattern of 16 bits is, in two's complement.
 fn of_pattern(pattern: u64) -> i16 {
-    let low = pattern % 65536;
-    if low < 32768 {
-        low as i16
-    } else {
-        !((65535 - low) as i16)
-    }
+    ((pattern % 65536) as u16).cast_signed()
 }
 
 // Four digits are a sample.
@@ -31,15 +26,8 @@ pub(crate) fn add_zeros(zeros: u64, samples: &mut [i16], count: usize) -> usize
     requires { count ≤ length samples.old }
     ensures { (result ≤ length samples.new) × (length samples.new ≡ length samples.old) }
 {
-    let mut next = count;
-    let mut left = zeros;
-    while next < samples.len() {
-        if left == 0 {
-            return next;
-        }
-        samples[next] = 0;
-        next += 1;
-        left -= 1;
-    }
+    let room = samples.len() - count;
+    let next = count + (zeros as usize).min(room);
+    samples[count..next].fill(0);
     next
 }

@@ -43,24 +43,24 @@ fn answer_line(
 ) -> io::Result<usize> {
     out.write_all(line)?;
     let name = cases_text::word(line, 0);
-    if check::same(name, b"send") {
+    if name == b"send".as_slice() {
         return sent::send(out, cases_text::word(line, 2), recording);
     }
     cases_text::end_line(out)?;
-    if check::same(name, b"zeros") {
-        Ok(silence(recording, decimal(line, 1)))
-    } else if check::same(name, b"append") {
-        Ok(append(recording, recorded, cases_text::word(line, 1)))
-    } else if check::same(name, b"offset") {
-        pieces::offset(recording, recorded, decimal(line, 1));
-        Ok(recorded)
-    } else if check::same(name, b"was") {
-        Ok(recorded)
-    } else {
-        let size = decimal(line, 1);
-        let room = decimal(line, 2);
-        received::receive(out, pieces::front(recording, recorded), size, room)?;
-        Ok(recorded)
+    match name {
+        b"zeros" => Ok(silence(recording, decimal(line, 1))),
+        b"append" => Ok(append(recording, recorded, cases_text::word(line, 1))),
+        b"offset" => {
+            pieces::offset(recording, recorded, decimal(line, 1));
+            Ok(recorded)
+        }
+        b"was" => Ok(recorded),
+        _ => {
+            let size = decimal(line, 1);
+            let room = decimal(line, 2);
+            received::receive(out, pieces::front(recording, recorded), size, room)?;
+            Ok(recorded)
+        }
     }
 }
 

@@ -1,51 +1,24 @@
 // Pieces of texts and of recordings.
 ghost use Rattle.std.specs.Prelude.{◌<◌, ◌≤◌};
 
-pub(crate) fn least(a: usize, b: usize) -> usize
-    ensures { result ≤ b }
-{
-    if a < b { a } else { b }
-}
-
 // The first bytes, or all where they are fewer.
 pub(crate) fn front(bytes: &[u8], length: usize) -> &[u8] {
-    let most = least(length, bytes.len());
-    &bytes[0..most]
+    &bytes[..length.min(bytes.len())]
 }
 
-// Where a read of a size ends. One of no bytes takes a byte, so that each read comes nearer to the end.
-pub(crate) fn read_end(at: usize, size: usize, length: usize) -> usize
-    requires { at < length }
-    ensures { (at < result) × (result ≤ length) }
+// How many of the bytes that are left a read of a size takes. One of no bytes takes a byte, so that each read comes nearer to the end.
+pub(crate) fn read_size(size: usize, left: usize) -> usize
+    requires { 0 < left }
+    ensures { (0 < result) × (result ≤ left) }
 {
-    let left = length - at;
-    if left <= size {
-        length
-    } else if size == 0 {
-        at + 1
-    } else {
-        at + size
-    }
+    size.max(1).min(left)
 }
 
-// Byte i of a text of two digits each, and 0 past its end.
-fn byte(digits: &[u8], i: usize) -> u8
-    requires { i < 97 }
-{
-    let first = 2 * i;
-    let end = first + 2;
-    if end <= digits.len() {
-        (cases_text::hexadecimal(&digits[first..end]) % 256) as u8
-    } else {
-        0
-    }
-}
-
-// Of a text no more than a line comes at once.
+// Two digits are a byte, and 0 stands past their end. Of a text no more than a line comes at once.
 pub(crate) fn bytes_of(digits: &[u8]) -> [u8; 97] {
     let mut bytes = [0u8; 97];
-    for i in 0..97 {
-        bytes[i] = byte(digits, i);
+    for (byte, pair) in bytes.iter_mut().zip(digits.chunks_exact(2)) {
+        *byte = (cases_text::hexadecimal(pair) % 256) as u8;
     }
     bytes
 }
@@ -61,26 +34,24 @@ fn put_byte(recording: &mut [u8], at: usize, byte: u8) -> usize {
 
 // The first `count` of the bytes go into the recording, as far as there is room, and the place after them comes back.
 pub(crate) fn put(recording: &mut [u8], at: usize, bytes: &[u8], count: usize) -> usize {
-    let most = least(count, bytes.len());
     let mut end = at;
-    for i in 0..most {
-        end = put_byte(recording, end, bytes[i]);
+    for byte in front(bytes, count) {
+        end = put_byte(recording, end, *byte);
     }
     end
 }
 
 // A sample goes up, in two's complement.
 fn raised(low: u8, high: u8, by: usize) -> [u8; 2] {
-    let sum = low as usize + 256 * (high as usize) + by % 65536;
-    [(sum % 256) as u8, (sum / 256 % 256) as u8]
+    u16::from_le_bytes([low, high])
+        .wrapping_add((by % 65536) as u16)
+        .to_le_bytes()
 }
 
 pub(crate) fn offset(recording: &mut [u8], recorded: usize, by: usize) {
-    let samples = least(recorded, recording.len()) / 2;
-    for i in 0..samples {
-        let at = 2 * i;
-        let next = at + 1;
-        let bytes = raised(recording[at], recording[next], by);
-        put(recording, at, &bytes, 2);
+    let end = recorded.min(recording.len());
+    for pair in recording[..end].chunks_exact_mut(2) {
+        let bytes = raised(pair[0], pair[1], by);
+        pair.copy_from_slice(&bytes);
     }
 }

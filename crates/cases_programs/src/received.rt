@@ -4,7 +4,6 @@ ghost use Rattle.std.specs.Prelude.{◌≤◌, IfOk, length};
 use crate::pieces;
 use receiving::Receiving;
 use std::io::{self, Write};
-use std::num::wrapping_add_u64;
 
 // What the last call consumed, and how many lines there are by now.
 #[derive(Clone, Copy)]
@@ -26,7 +25,7 @@ fn hear_into(out: &mut impl Write, turn: Turn, bytes: &[u8], lines: &mut [u8]) -
     Ok(Turn {
         receiving: next,
         consumed: after.consumed,
-        found: wrapping_add_u64(turn.found, (written / 97) as u64),
+        found: turn.found.wrapping_add((written / 97) as u64),
     })
 }
 
@@ -39,7 +38,7 @@ fn hear_some(
 ) -> io::Result<Turn>
     ensures { IfOk result (λ t. t.consumed ≤ length bytes.now) }
 {
-    let places = pieces::least(room, lines.len());
+    let places = room.min(lines.len());
     hear_into(out, turn, bytes, &mut lines[..places])
 }
 
@@ -51,15 +50,15 @@ fn hear_all(out: &mut impl Write, recording: &[u8], size: usize, room: usize) ->
         found: 0,
     };
     let mut lines = [0u8; 794624];
-    let mut at: usize = 0;
-    while at < recording.len() {
-        let end = pieces::read_end(at, size, recording.len());
-        turn = hear_some(out, turn, &recording[at..end], &mut lines, room)?;
+    let mut rest = recording;
+    while !rest.is_empty() {
+        let read = &rest[..pieces::read_size(size, rest.len())];
+        turn = hear_some(out, turn, read, &mut lines, room)?;
         let consumed = turn.consumed;
         if consumed == 0 {
             return Ok(turn.found);
         }
-        at += consumed;
+        rest = &rest[consumed..];
     }
     Ok(turn.found)
 }

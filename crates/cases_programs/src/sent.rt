@@ -4,7 +4,6 @@ ghost use Rattle.std.specs.Prelude.{◌<◌};
 use crate::pieces;
 use sending::{AfterPart, Sending};
 use std::io::{self, Write};
-use std::num::wrapping_add_u64;
 
 // Reads come in pieces of at most so many bytes: no line comes in one.
 const PIECE: usize = 40;
@@ -34,16 +33,16 @@ fn take_some(turn: Turn, digits: &[u8], recording: &mut [u8]) -> Turn {
 // Two digits are a byte.
 fn piece(part: AfterPart) -> usize {
     let sending = part.sending;
-    2 * pieces::least(sending.lacks(), PIECE)
+    2 * sending.lacks().min(PIECE)
 }
 
 fn take_all(digits: &[u8], recording: &mut [u8]) -> Turn {
     let mut turn = put_part(Sending::open(), recording, 0);
-    let mut at: usize = 0;
-    while at < digits.len() && !turn.part.last {
-        let end = pieces::read_end(at, piece(turn.part), digits.len());
-        turn = take_some(turn, &digits[at..end], recording);
-        at = end;
+    let mut rest = digits;
+    while !rest.is_empty() && !turn.part.last {
+        let size = pieces::read_size(piece(turn.part), rest.len());
+        turn = take_some(turn, &rest[..size], recording);
+        rest = &rest[size..];
     }
     turn
 }
@@ -67,18 +66,18 @@ struct Sums {
 fn added(so_far: Sums, byte: u8) -> Sums
     ensures { (result.bytes < 65521) × (result.sums < 65521) }
 {
-    let bytes = wrapping_add_u64(so_far.bytes, byte as u64) % 65521;
+    let bytes = so_far.bytes.wrapping_add(byte as u64) % 65521;
     Sums {
         bytes,
-        sums: wrapping_add_u64(so_far.sums, bytes) % 65521,
+        sums: so_far.sums.wrapping_add(bytes) % 65521,
     }
 }
 
 // A line tells a whole recording by it.
 fn adler(recording: &[u8]) -> u64 {
     let mut so_far = Sums { bytes: 1, sums: 0 };
-    for i in 0..recording.len() {
-        so_far = added(so_far, recording[i]);
+    for byte in recording {
+        so_far = added(so_far, *byte);
     }
     65536 * so_far.sums + so_far.bytes
 }

@@ -2,7 +2,7 @@
 use std::io::{self, Write};
 
 // What an offer reports of its burst: the sample at which it was taken, 0 where there is no offer, the age at which its wait was set, and the mark.
-#[derive(Clone, Copy)]
+#[derive(Clone, Copy, PartialEq, Eq)]
 pub(crate) struct Found {
     pub at: u64,
     pub kept: u64,
@@ -17,15 +17,11 @@ pub(crate) fn nothing_found() -> Found {
     }
 }
 
-fn same_found(a: Found, b: Found) -> bool {
-    (a.at == b.at) & (a.kept == b.kept) & (a.marked == b.marked)
-}
-
 // Its word; the refusal's number; whether record or room is not as it was; how many samples went in or bytes were taken,
 // with the text that says which; how many of the ring's values are new; how many of the room's first places are written,
 // as many as an offer or a line has, and of those past them; the age of the candidate that is held then, 256 where none is;
 // whether a byte waits; what an offer reports; and whether a place that the record's rate does not use is not as it was.
-#[derive(Clone, Copy)]
+#[derive(Clone, Copy, PartialEq, Eq)]
 pub(crate) struct Answer {
     pub word: usize,
     pub number: u32,
@@ -39,22 +35,6 @@ pub(crate) struct Answer {
     pub waits: bool,
     pub found: Found,
     pub unused_changed: bool,
-}
-
-pub(crate) fn same_answer(a: Answer, b: Answer) -> bool {
-    let found = a.found;
-    let other = b.found;
-    (a.word == b.word)
-        & (a.number == b.number)
-        & (a.changed == b.changed)
-        & (a.count == b.count)
-        & (a.new == b.new)
-        & (a.written == b.written)
-        & (a.past == b.past)
-        & (a.age == b.age)
-        & (a.waits == b.waits)
-        & same_found(found, other)
-        & (a.unused_changed == b.unused_changed)
 }
 
 // The texts that are written, by their places among them; those of a call that is admitted and leaves a record come first.

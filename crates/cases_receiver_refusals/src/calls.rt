@@ -5,19 +5,18 @@ use crate::answer::Answer;
 use crate::said::Said;
 use crate::{answer, made, many, said, same};
 use demodulator::{Reply, SoftDemodulator};
-use std::num::wrapping_add_u64;
 
 // What is in each place of the room before a sample: no symbol that is offered here equals it.
 pub(crate) const UNWRITTEN: f32 = -7.25;
 
 // How many of the places from `from` on, below `to`, are not as they were laid.
-pub(crate) fn written(room: [f32; 200], from: usize, to: usize) -> u64 {
-    let mut count: u64 = 0;
-    for i in from..to {
-        let new = room[i % 200] != UNWRITTEN;
-        count = wrapping_add_u64(count, new as u64);
-    }
-    count
+pub(crate) fn written<T: PartialEq>(places: &[T], laid: &T, from: usize, to: usize) -> u64 {
+    places
+        .iter()
+        .take(to)
+        .skip(from)
+        .filter(|place| *place != laid)
+        .count() as u64
 }
 
 // The answer of a call that lays so many symbols and leaves another record.
@@ -33,7 +32,7 @@ pub(crate) fn left(
     let control = after.control;
     let candidate = control.candidate;
     let held = same::held_of(candidate);
-    let new = same::new_values(0, ring, rings);
+    let new = same::new_values(&ring, &rings);
     let found = said.found;
     Answer {
         word: said.word,
@@ -55,8 +54,7 @@ pub(crate) fn left(
 pub(crate) fn room_size(words: &[u8]) -> usize
     ensures { result ≤ 200 }
 {
-    let size = cases_text::count_behind(words, b"room", 200);
-    if size <= 200 { size as usize } else { 200 }
+    (cases_text::count_behind(words, b"room", 200) as usize).min(200)
 }
 
 fn sample(words: &[u8], place: usize) -> Answer {
@@ -67,8 +65,8 @@ fn sample(words: &[u8], place: usize) -> Answer {
     let answer = after.answer;
     left(
         said::heard(answer),
-        written(room, 0, 192),
-        written(room, 192, 200),
+        written(&room, &UNWRITTEN, 0, 192),
+        written(&room, &UNWRITTEN, 192, 200),
         m,
         after.demodulator,
     )
@@ -78,7 +76,7 @@ fn reply(words: &[u8], place: usize, reply: Reply) -> Answer {
     let m = made::record(words, place);
     let after = m.reply(reply);
     let answer = after.answer;
-    left(said::replied(answer), 0, 0, m, after.demodulator)
+    left(said::done(answer, answer::DONE), 0, 0, m, after.demodulator)
 }
 
 // The query gives no record back: what it was given is what it leaves.
@@ -92,7 +90,7 @@ fn begin(words: &[u8]) -> Answer {
     let begun = SoftDemodulator::new(made::rate(words));
     let answer = begun.answer;
     let m = begun.demodulator;
-    left(said::begun(answer), 0, 0, m, m)
+    left(said::done(answer, answer::MADE), 0, 0, m, m)
 }
 
 // A word that names no call.

@@ -23,9 +23,9 @@ pub(crate) fn symbol_before(p: usize, place: usize) -> usize
 fn own_values() -> [f32; 1920] {
     let mut ring = [0.0f32; 1920];
     let mut own: f32 = 0.0;
-    for place in 0..1920 {
-        ring[place] = own;
-        own = own + 1.0;
+    for place in &mut ring {
+        *place = own;
+        own += 1.0;
     }
     ring
 }
@@ -40,7 +40,7 @@ pub(crate) fn laid(p: usize, others: f32, but: usize, from: usize) -> [f32; 1920
     }
     let mut ring = [others; 1920];
     let mut place = from;
-    for j in 0..but {
+    for _ in 0..but {
         let at = place % 1920;
         ring[at] = own[at];
         place = symbol_before(p, at);

@@ -2,7 +2,7 @@
 ghost use Rattle.std.specs.Prelude.{◌≤◌};
 
 use crate::layout;
-use demodulator::{Candidate, Control, SoftDemodulator, Timer, Wait, Waiting};
+use demodulator::{Candidate, Control, SoftDemodulator, Waiting};
 use protocol::Kind;
 
 // The line's rate, 48,000 if it is not named.
@@ -50,24 +50,24 @@ fn candidate(words: &[u8]) -> Candidate {
     }
 }
 
-fn wait(words: &[u8]) -> Wait {
+fn wait(words: &[u8]) -> Option<Waiting> {
     let left = cases_text::count_behind(words, b"wait", 65536);
     let age = cases_text::count_behind(words, b"kept", 1) % 256;
     if left < 65536 {
-        return Wait::Due(Waiting {
+        return Some(Waiting {
             left: left as u16,
             age: age as u8,
             replaced: cases_text::names(words, b"marked"),
         });
     }
-    Wait::Free
+    None
 }
 
-fn timer(words: &[u8]) -> Timer {
+fn timer(words: &[u8]) -> Option<u64> {
     if cases_text::names(words, b"timer") {
-        return Timer::Until(cases_text::count_behind(words, b"timer", 0));
+        return Some(cases_text::count_behind(words, b"timer", 0));
     }
-    Timer::Off
+    None
 }
 
 fn control(words: &[u8]) -> Control {

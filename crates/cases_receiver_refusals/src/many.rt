@@ -2,11 +2,9 @@
 ghost use Rattle.std.specs.Prelude.{◌≤◌};
 
 use crate::answer::Answer;
-use crate::said::Said;
 use crate::{answer, calls, made, said};
 use demodulator::SoftDemodulator;
-use receiving::{Odd, Receipt, Receiving};
-use std::num::wrapping_add_u64;
+use receiving::Receiving;
 
 // What is in each place of the room for lines: no byte of a line equals it.
 const UNLINED: u8 = b'-';
@@ -15,12 +13,7 @@ const UNLINED: u8 = b'-';
 fn asked(words: &[u8], name: &[u8], own: u64, most: usize) -> usize
     ensures { result ≤ most }
 {
-    let number = cases_text::count_behind(words, name, own);
-    if number <= most as u64 {
-        number as usize
-    } else {
-        most
-    }
+    (cases_text::count_behind(words, name, own) as usize).min(most)
 }
 
 fn counted(plain: Answer, text: usize, count: u64) -> Answer {
@@ -59,8 +52,8 @@ fn fed(m: SoftDemodulator, count: usize, length: usize) -> AfterFeed
     let next = after.demodulator;
     let plain = calls::left(
         said::heard(answer),
-        calls::written(room, 0, 192),
-        calls::written(room, 192, 200),
+        calls::written(&room, &calls::UNWRITTEN, 0, 192),
+        calls::written(&room, &calls::UNWRITTEN, 192, 200),
         m,
         next,
     );
@@ -84,7 +77,7 @@ fn less(count: usize, gone: usize) -> usize
     requires { count ≤ 8 }
     ensures { result ≤ 8 }
 {
-    if gone < count { count - gone } else { 0 }
+    count.saturating_sub(gone)
 }
 
 // The call after it, with those that did not go in, on the record that it left.
@@ -98,37 +91,16 @@ pub(crate) fn rest(words: &[u8], place: usize) -> Answer {
     second.answer
 }
 
-fn admitted(answer: Receipt) -> Said {
-    match answer {
-        Receipt::Refused(why) => said::no_offer(answer::REFUSED, why.number()),
-        Receipt::Admitted => said::no_offer(answer::ADMITTED, 0),
-    }
-}
-
-// How many of the places from `from` on, below `to`, are not as they were laid.
-fn lined(lines: [u8; 200], from: usize, to: usize) -> u64 {
-    let mut count: u64 = 0;
-    for i in from..to {
-        let new = lines[i % 200] != UNLINED;
-        count = wrapping_add_u64(count, new as u64);
-    }
-    count
-}
-
 // More than a byte stands for none.
-fn byte_of(odd: Odd) -> u64 {
+fn byte_of(odd: Option<u8>) -> u64 {
     match odd {
-        Odd::Nothing => 256,
-        Odd::Held(byte) => byte as u64,
+        None => 256,
+        Some(byte) => byte as u64,
     }
 }
 
-fn odd(words: &[u8]) -> Odd {
-    if cases_text::names(words, b"odd") {
-        Odd::Held(7)
-    } else {
-        Odd::Nothing
-    }
+fn odd(words: &[u8]) -> Option<u8> {
+    cases_text::names(words, b"odd").then_some(7)
 }
 
 fn with_odd(plain: Answer, before: u64, after: u64) -> Answer {
@@ -167,9 +139,9 @@ pub(crate) fn hear(words: &[u8], place: usize) -> Answer {
     let next = after.receiving;
     let left = next.odd;
     let plain = calls::left(
-        admitted(answer),
-        lined(lines, 0, 97),
-        lined(lines, 97, 200),
+        said::done(answer, answer::ADMITTED),
+        calls::written(&lines, &UNLINED, 0, 97),
+        calls::written(&lines, &UNLINED, 97, 200),
         demodulator,
         next.demodulator,
     );

@@ -2,7 +2,6 @@
 use crate::answer::Answer;
 use crate::{answer, calls, layout, made};
 use std::io::{self, Write};
-use std::num::wrapping_add_u64;
 
 // In how many of so many places, a symbol apart, back from the first, the value in that place only brings this answer.
 fn alike(answer: Answer, words: &[u8], call: &[u8], from: usize, places: u64) -> u64 {
@@ -10,8 +9,8 @@ fn alike(answer: Answer, words: &[u8], call: &[u8], from: usize, places: u64) ->
     let mut place = from;
     let mut alike: u64 = 0;
     for _ in 0..places {
-        let same = answer::same_answer(answer, calls::called(words, call, place));
-        alike = wrapping_add_u64(alike, same as u64);
+        let same = calls::called(words, call, place) == answer;
+        alike = alike.wrapping_add(same as u64);
         place = layout::symbol_before(p, place % 1920);
     }
     alike

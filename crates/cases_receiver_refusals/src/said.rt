@@ -1,7 +1,8 @@
 // What a call is answered with, in a word.
 use crate::answer;
 use crate::answer::Found;
-use demodulator::{Carrier, Heard, Made, Replied};
+use demodulator::Offer;
+use protocol::Refusal;
 
 // An answer's word, the number of a refusal, and what an offer reports.
 #[derive(Clone, Copy)]
@@ -11,7 +12,7 @@ pub(crate) struct Said {
     pub found: Found,
 }
 
-pub(crate) fn no_offer(word: usize, number: u32) -> Said {
+fn no_offer(word: usize, number: u32) -> Said {
     Said {
         word,
         number,
@@ -19,11 +20,15 @@ pub(crate) fn no_offer(word: usize, number: u32) -> Said {
     }
 }
 
-pub(crate) fn heard(answer: Heard) -> Said {
+fn refused(why: Refusal) -> Said {
+    no_offer(answer::REFUSED, why.number())
+}
+
+pub(crate) fn heard(answer: Result<Option<Offer>, Refusal>) -> Said {
     match answer {
-        Heard::Refused(why) => no_offer(answer::REFUSED, why.number()),
-        Heard::Quiet => no_offer(answer::QUIET, 0),
-        Heard::Offered(offer) => Said {
+        Err(why) => refused(why),
+        Ok(None) => no_offer(answer::QUIET, 0),
+        Ok(Some(offer)) => Said {
             word: answer::OFFERED,
             number: 0,
             found: Found {
@@ -35,24 +40,18 @@ pub(crate) fn heard(answer: Heard) -> Said {
     }
 }
 
-pub(crate) fn begun(answer: Made) -> Said {
+// The word of a call that is done, which gives back nothing but its record.
+pub(crate) fn done(answer: Result<(), Refusal>, word: usize) -> Said {
     match answer {
-        Made::Refused(why) => no_offer(answer::REFUSED, why.number()),
-        Made::Done => no_offer(answer::MADE, 0),
+        Err(why) => refused(why),
+        Ok(()) => no_offer(word, 0),
     }
 }
 
-pub(crate) fn replied(answer: Replied) -> Said {
+pub(crate) fn queried(answer: Result<bool, Refusal>) -> Said {
     match answer {
-        Replied::Refused(why) => no_offer(answer::REFUSED, why.number()),
-        Replied::Done => no_offer(answer::DONE, 0),
-    }
-}
-
-pub(crate) fn queried(answer: Carrier) -> Said {
-    match answer {
-        Carrier::Refused(why) => no_offer(answer::REFUSED, why.number()),
-        Carrier::Detected(yes) => {
+        Err(why) => refused(why),
+        Ok(yes) => {
             let word = if yes { answer::YES } else { answer::NO };
             no_offer(word, 0)
         }

@@ -2,8 +2,7 @@
 // text is written by hand, from the documents' refusals and the texts of `house`.
 #![tactic(auto)]
 
-use bit_errors::BitErrors;
-use decode::{Correlated, Correlation};
+use decode::Correlation;
 use house::{Program, Trouble};
 use protocol::{Kind, Refusal, SyncBurst};
 use std::io::{self, BufWriter, Write};
@@ -35,8 +34,8 @@ fn put_answer(out: &mut impl Write, values: &[f32]) -> io::Result<()> {
     out.write_all(b":")?;
     let answer = decode::sync_burst_correlation(SyncBurst::Frame(Kind::Lsf), values);
     match answer {
-        Correlated::Refused(why) => put_refusal(out, why)?,
-        Correlated::Answered(found) => put_correlation(out, found)?,
+        Err(why) => put_refusal(out, why)?,
+        Ok(found) => put_correlation(out, found)?,
     }
     cases_text::end_line(out)
 }
@@ -111,11 +110,11 @@ fn put_payloads(out: &mut impl Write, sent: &[f32], received: &[f32]) -> io::Res
     out.write_all(b" symbols:")?;
     let answer = bit_errors::bit_errors(sent, received);
     match answer {
-        BitErrors::Refused(why) => {
+        Err(why) => {
             out.write_all(b" a payload that is not 184 symbols:")?;
             cases_text::put_count(out, why.number() as u64)?;
         }
-        BitErrors::Counted(n) => {
+        Ok(n) => {
             out.write_all(b" differing bits")?;
             cases_text::put_count(out, n as u64)?;
         }

@@ -1,7 +1,6 @@
 // What opening a replay is answered with, as the list has it.
 use demodulator::Offer;
 use protocol::{Kind, Refusal};
-use replay::Opened;
 use std::io::{self, Write};
 
 // What the room holds before: no symbol is so large.
@@ -17,8 +16,8 @@ fn put_kind(out: &mut impl Write, kind: Kind) -> io::Result<()> {
 }
 
 fn put_symbols(out: &mut impl Write, room: [f32; 200]) -> io::Result<()> {
-    for i in 0..192 {
-        cases_text::put_float(out, room[i])?;
+    for symbol in room.iter().take(192) {
+        cases_text::put_float(out, *symbol)?;
     }
     Ok(())
 }
@@ -53,23 +52,22 @@ fn put_refusal(out: &mut impl Write, why: Refusal) -> io::Result<()> {
 
 // How many places are as they were.
 fn put_kept(out: &mut impl Write, room: [f32; 200]) -> io::Result<()> {
-    let mut kept: u64 = 0;
-    for i in 0..200 {
-        if room[i] == BLANK {
-            kept = std::num::wrapping_add_u64(kept, 1);
-        }
-    }
+    let kept = room.iter().filter(|place| **place == BLANK).count();
     out.write_all(b" kept")?;
-    cases_text::put_count(out, kept)
+    cases_text::put_count(out, kept as u64)
 }
 
-pub(crate) fn put_answer(out: &mut impl Write, opened: Opened, room: [f32; 200]) -> io::Result<()> {
+pub(crate) fn put_answer(
+    out: &mut impl Write,
+    opened: Result<Option<Offer>, Refusal>,
+    room: [f32; 200],
+) -> io::Result<()> {
     match opened {
-        Opened::Refused(why) => put_refusal(out, why)?,
-        Opened::Nothing => {
+        Err(why) => put_refusal(out, why)?,
+        Ok(None) => {
             out.write_all(b" nothing")?;
         }
-        Opened::Found(offer) => put_offer(out, offer, room)?,
+        Ok(Some(offer)) => put_offer(out, offer, room)?,
     }
     put_kept(out, room)
 }

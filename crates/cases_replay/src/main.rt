@@ -14,11 +14,9 @@ struct Tape {
     count: usize,
 }
 
-// The sample that a pattern of 16 bits is.
+// The sample that a pattern of 16 bits is, in two's complement.
 fn of_pattern(pattern: u64) -> i16 {
-    let low = pattern % 256;
-    let high = pattern / 256 % 256;
-    house::i16_of_bytes(low as u8, high as u8)
+    ((pattern % 65536) as u16).cast_signed()
 }
 
 // Four digits are a sample.
@@ -88,28 +86,26 @@ fn answer_line(
 ) -> io::Result<Tape> {
     let name = cases_text::word(line, 0);
     out.write_all(line)?;
-    if check::same(name, b"open") {
+    if name == b"open".as_slice() {
         open(out, tape, samples, line)?;
         cases_text::end_line(out)?;
         return Ok(tape);
     }
     cases_text::end_line(out)?;
-    if check::same(name, b"samples") {
-        let count = add_samples(cases_text::word(line, 1), samples, tape.count);
-        return Ok(Tape {
+    match name {
+        b"samples" => Ok(Tape {
             rate: tape.rate,
-            count,
-        });
+            count: add_samples(cases_text::word(line, 1), samples, tape.count),
+        }),
+        b"zeros" => {
+            let zeros = cases_text::decimal(cases_text::word(line, 1));
+            Ok(Tape {
+                rate: tape.rate,
+                count: add_zeros(zeros, samples, tape.count),
+            })
+        }
+        _ => Ok(begun(line)),
     }
-    if check::same(name, b"zeros") {
-        let zeros = cases_text::decimal(cases_text::word(line, 1));
-        let count = add_zeros(zeros, samples, tape.count);
-        return Ok(Tape {
-            rate: tape.rate,
-            count,
-        });
-    }
-    Ok(begun(line))
 }
 
 fn replay(out: &mut impl Write, text: &[u8], samples: &mut [i16]) -> io::Result<()> {

@@ -1,7 +1,8 @@
 // What the list says of a call: its answer, and what the sender keeps after it.
 ghost use Rattle.std.specs.Prelude.{◌≤◌};
 
-use modulator::{EndReport, ModulatorAction, SoftModulator};
+use modulator::{ModulatorAction, SampleCount, SoftModulator};
+use protocol::Refusal;
 use std::io::{self, Write};
 
 // What is in each place of the room before a read.
@@ -16,39 +17,41 @@ pub(crate) fn put_refusal(out: &mut impl Write, number: u32) -> io::Result<()> {
 // The samples that were written; of the rest only what is not as it was laid.
 pub(crate) fn put_room(out: &mut impl Write, room: [i16; 4000], written: usize) -> io::Result<()> {
     cases_text::put_count(out, written as u64)?;
-    for i in 0..4000 {
-        let sample = room[i];
+    for (i, sample) in room.iter().enumerate() {
         if i < written {
-            cases_text::put_signed(out, sample)?;
-        } else if sample != UNWRITTEN {
+            cases_text::put_signed(out, *sample)?;
+        } else if *sample != UNWRITTEN {
             out.write_all(b" and past them")?;
-            cases_text::put_signed(out, sample)?;
+            cases_text::put_signed(out, *sample)?;
         }
     }
     Ok(())
 }
 
-pub(crate) fn put_action(out: &mut impl Write, action: ModulatorAction) -> io::Result<()> {
+pub(crate) fn put_action(
+    out: &mut impl Write,
+    action: Result<ModulatorAction, Refusal>,
+) -> io::Result<()> {
     match action {
-        ModulatorAction::Refused(why) => put_refusal(out, why.number())?,
-        ModulatorAction::TransmissionWillEnd(end) => {
+        Err(why) => put_refusal(out, why.number())?,
+        Ok(ModulatorAction::TransmissionWillEnd(end)) => {
             out.write_all(b" end")?;
             cases_text::put_count(out, end.0 as u64)?;
         }
-        ModulatorAction::ReadOutput => {
+        Ok(ModulatorAction::ReadOutput) => {
             out.write_all(b" read")?;
         }
-        ModulatorAction::SetIdle(idle) => {
+        Ok(ModulatorAction::SetIdle(idle)) => {
             if idle {
                 out.write_all(b" idle yes")?;
             } else {
                 out.write_all(b" idle no")?;
             }
         }
-        ModulatorAction::GetNextFrame => {
+        Ok(ModulatorAction::GetNextFrame) => {
             out.write_all(b" frame")?;
         }
-        ModulatorAction::Nothing => {
+        Ok(ModulatorAction::Nothing) => {
             out.write_all(b" nothing")?;
         }
     }
@@ -64,10 +67,8 @@ fn window_places(rate: u32) -> usize
 
 pub(crate) fn put_window(out: &mut impl Write, m: SoftModulator) -> io::Result<()> {
     cases_text::put_count(out, m.filter_cursor as u64)?;
-    let window = m.filter_win;
-    let places = window_places(m.rate);
-    for i in 0..places {
-        cases_text::put_float(out, window[i])?;
+    for value in &m.filter_win[..window_places(m.rate)] {
+        cases_text::put_float(out, *value)?;
     }
     Ok(())
 }
@@ -80,10 +81,10 @@ fn put_flag(out: &mut impl Write, flag: bool) -> io::Result<()> {
     }
 }
 
-fn put_report(out: &mut impl Write, report: EndReport) -> io::Result<()> {
+fn put_report(out: &mut impl Write, report: Option<SampleCount>) -> io::Result<()> {
     match report {
-        EndReport::Nothing => out.write_all(b" none"),
-        EndReport::After(end) => cases_text::put_count(out, end.0 as u64),
+        None => out.write_all(b" none"),
+        Some(end) => cases_text::put_count(out, end.0 as u64),
     }
 }
 

@@ -1,9 +1,7 @@
 // The calls of a session, each with the operands of its line.
-ghost use Rattle.std.specs.Prelude.{◌≤◌};
-
 use crate::answers;
 use given_symbols::Traffic;
-use modulator::{DelaySteps, ModulatorFrame, Provided, Read, SampleCount, SoftModulator, Updated};
+use modulator::{DelaySteps, ModulatorFrame, SampleCount, SoftModulator};
 use std::io::{self, Write};
 
 fn count(line: &[u8], k: usize) -> usize {
@@ -13,18 +11,16 @@ fn count(line: &[u8], k: usize) -> usize {
 // The words after the first as symbols: a missing one is 0.
 fn symbols(line: &[u8]) -> [f32; 192] {
     let mut symbols = [0.0f32; 192];
-    for i in 0..192 {
-        let k = i + 1;
-        symbols[i] = cases_text::float(cases_text::word(line, k));
+    for (i, symbol) in symbols.iter_mut().enumerate() {
+        *symbol = cases_text::float(cases_text::word(line, i + 1));
     }
     symbols
 }
 
 fn window(line: &[u8]) -> [f32; 81] {
     let mut window = [0.0f32; 81];
-    for i in 0..81 {
-        let k = i + 2;
-        window[i] = cases_text::float(cases_text::word(line, k));
+    for (i, value) in window.iter_mut().enumerate() {
+        *value = cases_text::float(cases_text::word(line, i + 2));
     }
     window
 }
@@ -38,7 +34,7 @@ pub(crate) fn provided(
     let symbols = symbols(line);
     let left = m.provide_next_frame(frame, &symbols);
     let answer = left.answer;
-    if let Provided::Refused(why) = answer {
+    if let Err(why) = answer {
         answers::put_refusal(out, why.number())?;
     }
     Ok(left.modulator)
@@ -59,25 +55,18 @@ pub(crate) fn preamble(
     )
 }
 
-// As much of the room as is asked for.
-fn part_of_room(size: usize) -> usize
-    ensures { result ≤ 4000 }
-{
-    if size <= 4000 { size } else { 4000 }
-}
-
 pub(crate) fn read(
     out: &mut impl Write,
     m: SoftModulator,
     line: &[u8],
 ) -> io::Result<SoftModulator> {
     let mut room = [answers::UNWRITTEN; 4000];
-    let length = part_of_room(count(line, 1));
+    let length = count(line, 1).min(room.len());
     let left = m.read_output_samples(&mut room[..length]);
     let answer = left.answer;
     match answer {
-        Read::Refused(why) => answers::put_refusal(out, why.number())?,
-        Read::Wrote(n) => answers::put_room(out, room, n.0)?,
+        Err(why) => answers::put_refusal(out, why.number())?,
+        Ok(n) => answers::put_room(out, room, n.0)?,
     }
     Ok(left.modulator)
 }
@@ -93,7 +82,7 @@ pub(crate) fn updated(
         SampleCount(count(line, 3)),
     );
     let answer = left.answer;
-    if let Updated::Refused(why) = answer {
+    if let Err(why) = answer {
         answers::put_refusal(out, why.number())?;
     }
     Ok(left.modulator)

@@ -11,29 +11,21 @@ use std::io::{self, BufWriter, Write};
 
 fn answer(out: &mut impl Write, m: SoftModulator, line: &[u8]) -> io::Result<SoftModulator> {
     let name = cases_text::word(line, 0);
-    if check::same(name, b"none") {
-        calls::provided(out, m, ModulatorFrame::Nothing, line)
-    } else if check::same(name, b"preamble") {
-        calls::preamble(out, m, Traffic::Ordinary, line)
-    } else if check::same(name, b"bert-preamble") {
-        calls::preamble(out, m, Traffic::Bert, line)
-    } else if check::same(name, b"symbols") {
-        calls::provided(out, m, ModulatorFrame::Symbols(Traffic::Ordinary), line)
-    } else if check::same(name, b"bert") {
-        calls::provided(out, m, ModulatorFrame::Symbols(Traffic::Bert), line)
-    } else if check::same(name, b"end") {
-        calls::provided(out, m, ModulatorFrame::EndOfTransmission, line)
-    } else if check::same(name, b"read") {
-        calls::read(out, m, line)
-    } else if check::same(name, b"update") {
-        calls::updated(out, m, line)
-    } else if check::same(name, b"run") {
-        calls::ran(out, m)
-    } else if check::same(name, b"look") {
-        answers::put_window(out, m)?;
-        Ok(m)
-    } else {
-        Ok(calls::windowed(m, line))
+    match name {
+        b"none" => calls::provided(out, m, ModulatorFrame::Nothing, line),
+        b"preamble" => calls::preamble(out, m, Traffic::Ordinary, line),
+        b"bert-preamble" => calls::preamble(out, m, Traffic::Bert, line),
+        b"symbols" => calls::provided(out, m, ModulatorFrame::Symbols(Traffic::Ordinary), line),
+        b"bert" => calls::provided(out, m, ModulatorFrame::Symbols(Traffic::Bert), line),
+        b"end" => calls::provided(out, m, ModulatorFrame::EndOfTransmission, line),
+        b"read" => calls::read(out, m, line),
+        b"update" => calls::updated(out, m, line),
+        b"run" => calls::ran(out, m),
+        b"look" => {
+            answers::put_window(out, m)?;
+            Ok(m)
+        }
+        _ => Ok(calls::windowed(m, line)),
     }
 }
 
@@ -47,7 +39,7 @@ fn begun(line: &[u8]) -> SoftModulator {
 // A line that names a session starts afresh.
 fn answer_line(out: &mut impl Write, m: SoftModulator, line: &[u8]) -> io::Result<SoftModulator> {
     out.write_all(line)?;
-    if check::same(cases_text::word(line, 0), b"session") {
+    if cases_text::word(line, 0) == b"session".as_slice() {
         cases_text::end_line(out)?;
         return Ok(begun(line));
     }

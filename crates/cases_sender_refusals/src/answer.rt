@@ -1,7 +1,7 @@
 // A call's answer: its words, the number and the place that go with them, whether a refusal changed anything, and what stands in the room of a read.
 ghost use Rattle.std.specs.Prelude.{◌≤◌};
 
-use modulator::{Made, ModulatorAction, Provided, Read, Updated};
+use modulator::{ModulatorAction, SampleCount};
 use protocol::{Place, Refusal};
 use std::io::{self, Write};
 
@@ -63,36 +63,19 @@ fn refused(why: Refusal, kept: bool) -> Answer {
     }
 }
 
-// There is no record before it to be kept.
-pub(crate) fn of_new(answer: Made) -> Answer {
+// `done` is said of a call that is not refused.
+pub(crate) fn of_done(answer: Result<(), Refusal>, kept: bool, done: usize) -> Answer {
     match answer {
-        Made::Refused(why) => refused(why, true),
-        Made::Done => plain(DONE, 0),
-    }
-}
-
-pub(crate) fn of_frame(answer: Provided, kept: bool, done: usize) -> Answer {
-    match answer {
-        Provided::Refused(why) => refused(why, kept),
-        Provided::Done => plain(done, 0),
-    }
-}
-
-pub(crate) fn of_update(answer: Updated, kept: bool) -> Answer {
-    match answer {
-        Updated::Refused(why) => refused(why, kept),
-        Updated::Done => plain(DONE, 0),
+        Err(why) => refused(why, kept),
+        Ok(()) => plain(done, 0),
     }
 }
 
 // A refused read has to keep the room too.
-pub(crate) fn of_read(answer: Read, kept: bool, room: [i16; 16]) -> Answer {
+pub(crate) fn of_read(answer: Result<SampleCount, Refusal>, kept: bool, room: [i16; 16]) -> Answer {
     match answer {
-        Read::Refused(why) => {
-            let laid = [UNWRITTEN; 16];
-            refused(why, kept & same_room(room, laid))
-        }
-        Read::Wrote(count) => Answer {
+        Err(why) => refused(why, kept & (room == [UNWRITTEN; 16])),
+        Ok(count) => Answer {
             words: WROTE,
             number: count.0 as u64,
             place: Place::Nothing,
@@ -102,67 +85,32 @@ pub(crate) fn of_read(answer: Read, kept: bool, room: [i16; 16]) -> Answer {
     }
 }
 
-pub(crate) fn of_action(answer: ModulatorAction, kept: bool) -> Answer {
+pub(crate) fn of_action(answer: Result<ModulatorAction, Refusal>, kept: bool) -> Answer {
     match answer {
-        ModulatorAction::Refused(why) => refused(why, kept),
-        ModulatorAction::TransmissionWillEnd(end) => plain(TRANSMIT_END, end.0 as u64),
-        ModulatorAction::ReadOutput => plain(READ_OUTPUT, 0),
-        ModulatorAction::SetIdle(idle) => plain(if idle { IDLE_YES } else { IDLE_NO }, 0),
-        ModulatorAction::GetNextFrame => plain(GET_A_FRAME, 0),
-        ModulatorAction::Nothing => plain(NOTHING, 0),
-    }
-}
-
-fn same_room(a: [i16; 16], b: [i16; 16]) -> bool {
-    let mut all = true;
-    for i in 0..16 {
-        all = all & (a[i] == b[i]);
-    }
-    all
-}
-
-fn is_at(place: Place, at: usize) -> bool {
-    match place {
-        Place::Nothing => false,
-        Place::Symbol(other) => other == at,
-        Place::Line(_) => false,
-    }
-}
-
-fn is_line(place: Place, line: usize) -> bool {
-    match place {
-        Place::Nothing => false,
-        Place::Symbol(_) => false,
-        Place::Line(other) => other == line,
-    }
-}
-
-fn is_nothing(place: Place) -> bool {
-    match place {
-        Place::Nothing => true,
-        Place::Symbol(_) => false,
-        Place::Line(_) => false,
+        Err(why) => refused(why, kept),
+        Ok(ModulatorAction::TransmissionWillEnd(end)) => plain(TRANSMIT_END, end.0 as u64),
+        Ok(ModulatorAction::ReadOutput) => plain(READ_OUTPUT, 0),
+        Ok(ModulatorAction::SetIdle(idle)) => plain(if idle { IDLE_YES } else { IDLE_NO }, 0),
+        Ok(ModulatorAction::GetNextFrame) => plain(GET_A_FRAME, 0),
+        Ok(ModulatorAction::Nothing) => plain(NOTHING, 0),
     }
 }
 
 fn same_place(a: Place, b: Place) -> bool {
-    match a {
-        Place::Nothing => is_nothing(b),
-        Place::Symbol(at) => is_at(b, at),
-        Place::Line(line) => is_line(b, line),
+    match (a, b) {
+        (Place::Nothing, Place::Nothing) => true,
+        (Place::Symbol(at), Place::Symbol(other)) => at == other,
+        (Place::Line(line), Place::Line(other)) => line == other,
+        _ => false,
     }
 }
 
 pub(crate) fn same(a: Answer, b: Answer) -> bool {
-    let room = a.room;
-    let other = b.room;
-    let place = a.place;
-    let beside = b.place;
-    (a.words == b.words)
-        & (a.number == b.number)
-        & same_place(place, beside)
-        & (a.changed == b.changed)
-        & same_room(room, other)
+    a.words == b.words
+        && a.number == b.number
+        && same_place(a.place, b.place)
+        && a.changed == b.changed
+        && a.room == b.room
 }
 
 fn put_words(out: &mut impl Write, words: usize) -> io::Result<()> {
@@ -183,8 +131,8 @@ fn put_room(out: &mut impl Write, room: [i16; 16], size: usize) -> io::Result<()
     requires { size ≤ 16 }
 {
     out.write_all(b":")?;
-    for i in 0..size {
-        put_sample(out, room[i])?;
+    for sample in &room[..size] {
+        put_sample(out, *sample)?;
     }
     Ok(())
 }

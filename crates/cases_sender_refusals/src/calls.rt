@@ -1,6 +1,4 @@
 // The sender's calls on a record, each with the operands that a line names.
-ghost use Rattle.std.specs.Prelude.{◌≤◌};
-
 use crate::answer::Answer;
 use crate::same::same;
 use crate::{answer, made};
@@ -14,24 +12,14 @@ pub(crate) struct Left {
     pub after: SoftModulator,
 }
 
-// A number, or the most that there is.
-fn at_most(n: usize, most: usize) -> usize
-    ensures { result ≤ most }
-{
-    if n <= most { n } else { most }
-}
-
 // The burst of a BERT frame, DF55.
 const HEAD: [f32; 8] = [-1.0, 1.0, -1.0, -1.0, 1.0, 1.0, 1.0, 1.0];
 
 // The burst, if the line names it, and one value in all other places.
 fn headed(parts: &[u8], others: f32) -> [f32; 193] {
-    let head = HEAD;
     let mut symbols = [others; 193];
     if cases_text::names(parts, b"df55") {
-        for i in 0..8 {
-            symbols[i] = head[i];
-        }
+        symbols[..8].copy_from_slice(&HEAD);
     }
     symbols
 }
@@ -64,7 +52,7 @@ fn beside(m: SoftModulator, frame: ModulatorFrame, after: SoftModulator) -> usiz
 // Such symbols are given where a line names what the others are.
 fn provided(m: SoftModulator, parts: &[u8], frame: ModulatorFrame) -> Left {
     let symbols = symbols(parts);
-    let given = at_most(made::count(parts, made::GIVEN), 193);
+    let given = made::count(parts, made::GIVEN).min(193);
     let left = m.provide_next_frame(frame, &symbols[..given]);
     let answer = left.answer;
     let after = left.modulator;
@@ -74,7 +62,7 @@ fn provided(m: SoftModulator, parts: &[u8], frame: ModulatorFrame) -> Left {
         answer::DONE
     };
     Left {
-        answer: answer::of_frame(answer, same(m, after), done),
+        answer: answer::of_done(answer, same(m, after), done),
         after,
     }
 }
@@ -82,7 +70,7 @@ fn provided(m: SoftModulator, parts: &[u8], frame: ModulatorFrame) -> Left {
 // So much room, up to sixteen places.
 fn read(m: SoftModulator, parts: &[u8]) -> Left {
     let mut room = [answer::UNWRITTEN; 16];
-    let size = at_most(made::count(parts, made::ROOM), 16);
+    let size = made::count(parts, made::ROOM).min(16);
     let left = m.read_output_samples(&mut room[..size]);
     let answer = left.answer;
     let after = left.modulator;
@@ -101,7 +89,7 @@ fn updated(m: SoftModulator, parts: &[u8]) -> Left {
     let answer = left.answer;
     let after = left.modulator;
     Left {
-        answer: answer::of_update(answer, same(m, after)),
+        answer: answer::of_done(answer, same(m, after), answer::DONE),
         after,
     }
 }
@@ -116,13 +104,13 @@ fn ran(m: SoftModulator) -> Left {
     }
 }
 
-// A fresh record of the line's rate.
+// A fresh record of the line's rate. There is none before it to be kept.
 fn begun(parts: &[u8]) -> Left {
     let left = SoftModulator::new(made::rate(parts));
     let answer = left.answer;
     let after = left.modulator;
     Left {
-        answer: answer::of_new(answer),
+        answer: answer::of_done(answer, true, answer::DONE),
         after,
     }
 }

@@ -3,7 +3,6 @@ use crate::answer::Answer;
 use crate::{answer, calls, made, shown, turns};
 use modulator::SoftModulator;
 use std::io::{self, Write};
-use std::num::wrapping_add_u64;
 
 // In how many of the window's places the line's value brings this answer.
 fn alike(answer: Answer, before: SoftModulator, parts: &[u8], call: usize) -> u64 {
@@ -11,7 +10,7 @@ fn alike(answer: Answer, before: SoftModulator, parts: &[u8], call: usize) -> u6
     for place in 0..81 {
         let left = calls::called(before, parts, call, place);
         let other = left.answer;
-        alike = wrapping_add_u64(alike, answer::same(answer, other) as u64);
+        alike = alike.wrapping_add(answer::same(answer, other) as u64);
     }
     alike
 }

@@ -1,5 +1,5 @@
 // Made-up records: a fit one, but for what a line names.
-use modulator::{EndReport, OutputBuffer, Pending, Progress, SampleCount, SoftModulator};
+use modulator::{OutputBuffer, Pending, Progress, SampleCount, SoftModulator};
 
 // The names' places in the fit line, which is in `count`.
 const CURSOR: usize = 0;
@@ -44,9 +44,8 @@ pub(crate) fn count(parts: &[u8], place: usize) -> usize {
 // A sample of its own in each place, so that none can move unseen: place i holds 1000 + i.
 fn store() -> [i16; 4000] {
     let mut store = [0i16; 4000];
-    for place in 0..4000 {
-        let sample = place + 1000;
-        store[place] = sample as i16;
+    for (place, sample) in store.iter_mut().enumerate() {
+        *sample = (place + 1000) as i16;
     }
     store
 }
@@ -55,9 +54,9 @@ fn store() -> [i16; 4000] {
 fn ramp() -> [f32; 81] {
     let mut window = [0.0f32; 81];
     let mut value: f32 = 1.0;
-    for place in 0..81 {
-        window[place] = value;
-        value = value + 1.0;
+    for place in &mut window {
+        *place = value;
+        value += 1.0;
     }
     window
 }
@@ -91,14 +90,14 @@ fn pending(parts: &[u8]) -> Pending {
         Pending {
             update_idle: true,
             calculate_tx_end: false,
-            report_tx_end: EndReport::After(SampleCount(end)),
+            report_tx_end: Some(SampleCount(end)),
             try_get_frame: true,
         }
     } else {
         Pending {
             update_idle: true,
             calculate_tx_end: true,
-            report_tx_end: EndReport::Nothing,
+            report_tx_end: None,
             try_get_frame: false,
         }
     }

@@ -1,5 +1,5 @@
 // A look at a record.
-use modulator::{EndReport, OutputBuffer, Pending, Progress, SoftModulator};
+use modulator::{OutputBuffer, Pending, Progress, SampleCount, SoftModulator};
 use std::io::{self, Write};
 
 fn put_label(out: &mut impl Write, label: usize) -> io::Result<()> {
@@ -21,8 +21,8 @@ fn put_numbers(out: &mut impl Write, progress: Progress, buffer: OutputBuffer) -
     put_number(out, 5, buffer.output_latency.0)
 }
 
-fn put_report(out: &mut impl Write, report: EndReport) -> io::Result<()> {
-    if let EndReport::After(end) = report {
+fn put_report(out: &mut impl Write, report: Option<SampleCount>) -> io::Result<()> {
+    if let Some(end) = report {
         put_number(out, 7, end.0)?;
     }
     Ok(())

@@ -2,7 +2,7 @@
 // with a line feed where the line names its place: no byte of them can be kept unseen.
 use crate::answer;
 use crate::same::same;
-use modulator::{Provided, SoftModulator};
+use modulator::SoftModulator;
 use sending::{AfterPart, Sending};
 use std::io::{self, Write};
 
@@ -37,22 +37,12 @@ fn read_bytes(parts: &[u8]) -> [u8; 97] {
 }
 
 fn is_same(a: Sending, b: Sending) -> bool {
-    let m = a.modulator;
-    let other = b.modulator;
-    let line = a.line;
-    let other_line = b.line;
-    same(m, other) & check::same(&line, &other_line) & (a.have == b.have) & (a.number == b.number)
+    same(a.modulator, b.modulator) && a.line == b.line && a.have == b.have && a.number == b.number
 }
 
 // Nothing is to be written or told, and no byte was taken.
 fn is_silent(after: AfterPart) -> bool {
-    let bytes = after.bytes;
-    let zeros = [0u8; 5440];
-    check::same(&bytes, &zeros)
-        & (after.length == 0)
-        & (after.taken == 0)
-        & !after.bad
-        & !after.last
+    after.bytes == [0u8; 5440] && after.length == 0 && after.taken == 0 && !after.bad && !after.last
 }
 
 fn put_label(out: &mut impl Write, label: usize) -> io::Result<()> {
@@ -92,8 +82,8 @@ pub(crate) fn turn(
     let answer = after.answer;
     let next = after.sending;
     let kept = is_same(before, next) & is_silent(after);
-    answer::put(out, answer::of_frame(answer, kept, answer::DONE), parts)?;
-    if let Provided::Done = answer {
+    answer::put(out, answer::of_done(answer, kept, answer::DONE), parts)?;
+    if answer.is_ok() {
         put_done(out, after)?;
     }
     Ok(next.modulator)

@@ -31,17 +31,17 @@ fn put_refusal(out: &mut impl Write, why: Refusal) -> io::Result<()> {
     }
 }
 
-fn put_answer(out: &mut impl Write, answer: Checked) -> io::Result<()> {
+fn put_answer(out: &mut impl Write, answer: Result<Checked, Refusal>) -> io::Result<()> {
     out.write_all(b" =")?;
     match answer {
-        Checked::Refused(why) => put_refusal(out, why)?,
-        Checked::Yes => out.write_all(b" yes")?,
-        Checked::Differs(sample) => {
+        Err(why) => put_refusal(out, why)?,
+        Ok(Checked::Yes) => out.write_all(b" yes")?,
+        Ok(Checked::Differs(sample)) => {
             out.write_all(b" differs")?;
             cases_text::put_count(out, sample as u64)?;
         }
-        Checked::Short => out.write_all(b" short")?,
-        Checked::Long => out.write_all(b" long")?,
+        Ok(Checked::Short) => out.write_all(b" short")?,
+        Ok(Checked::Long) => out.write_all(b" long")?,
     }
     cases_text::end_line(out)
 }
@@ -60,7 +60,7 @@ fn check(
     pieces::raise(stretch, decimal(line, 4), decimal(line, 5));
     put_answer(
         out,
-        supplier::check(padding, text, pieces::samples_front(stretch, count)),
+        supplier::check(padding, text, pieces::front(stretch, count)),
     )
 }
 
@@ -74,29 +74,27 @@ fn answer_line(
 ) -> io::Result<Lengths> {
     out.write_all(line)?;
     let name = cases_text::word(line, 0);
-    if check::same(name, b"check") {
+    if name == b"check".as_slice() {
         check(
             out,
             line,
-            pieces::bytes_front(text, lengths.text),
-            pieces::samples_front(recording, lengths.recording),
+            pieces::front(text, lengths.text),
+            pieces::front(recording, lengths.recording),
             stretch,
         )?;
         return Ok(lengths);
     }
     cases_text::end_line(out)?;
-    if check::same(name, b"text") {
-        Ok(Lengths {
+    match name {
+        b"text" => Ok(Lengths {
             text: pieces::put_bytes(text, cases_text::word(line, 2)),
             recording: 0,
-        })
-    } else if check::same(name, b"samples") {
-        Ok(Lengths {
+        }),
+        b"samples" => Ok(Lengths {
             text: lengths.text,
             recording: pieces::put_samples(recording, lengths.recording, cases_text::word(line, 1)),
-        })
-    } else {
-        Ok(lengths)
+        }),
+        _ => Ok(lengths),
     }
 }
 

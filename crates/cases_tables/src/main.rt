@@ -13,25 +13,24 @@ fn put_tap(out: &mut impl Write, i: usize, tap: f32) -> io::Result<()> {
 }
 
 fn put_taps(out: &mut impl Write, taps: &[f32]) -> io::Result<()> {
-    for i in 0..taps.len() {
-        put_tap(out, i, taps[i])?;
+    for (i, tap) in taps.iter().enumerate() {
+        put_tap(out, i, *tap)?;
     }
     Ok(())
 }
 
 fn put_burst(out: &mut impl Write, name: &[u8], burst: SyncBurst) -> io::Result<()> {
     out.write_all(name)?;
-    let signs = burst.target();
-    for i in 0..8 {
-        cases_text::put_signed(out, signs[i] as i16)?;
+    for sign in &burst.target() {
+        cases_text::put_signed(out, *sign as i16)?;
     }
     cases_text::end_line(out)
 }
 
 fn put_frame(out: &mut impl Write, name: &[u8], symbols: [f32; 192]) -> io::Result<()> {
     out.write_all(name)?;
-    for i in 0..192 {
-        cases_text::put_float(out, symbols[i])?;
+    for symbol in &symbols {
+        cases_text::put_float(out, *symbol)?;
     }
     cases_text::end_line(out)
 }

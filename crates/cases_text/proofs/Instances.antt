@@ -2,12 +2,11 @@
 use mathlib.Core.Path.{◌≡◌, refl}
 use mathlib.Core.Bool.{true}
 use mathlib.Core.List.{List, [], ◌∷◌}
-use Prim.Native.Nat.{ℕ, ◌≤◌, ◌+◌}
-use lib.ListN.{drop}
+use Prim.Native.Nat.{ℕ, ◌≤◌}
 use lib.Dec.{lit<, lit≤}
 use Rattle.cases_text.specs.Places.{index_of, begin_of, end_of, part_of}
 use Rattle.cases_text.specs.Behind.{same_word, behind_to}
-use Rattle.cases_text.proofs.Words.{index_here, index_passed, index_at_end, same_test, same_word_lem, next_begins, between_is, none_past, word_found, word_passed, words_done}
+use Rattle.cases_text.proofs.Words.{same_test, next_begins, between_is, none_past, word_found, word_passed, words_done}
 
 abbrev line : List ℕ
 line = 97 ∷ 98 ∷ 32 ∷ 99 ∷ []
@@ -19,9 +18,6 @@ first = 97 ∷ 98 ∷ []
 same_test_meets : true ≡ same_word first first
 unfolding same_word
 same_test_meets = same_test {P = first ≡ first} true (same_word first first) (λ e. refl) (λ e. refl) (λ e. refl) (λ e. refl)
-
-same_word_meets : true ≡ same_word first first
-same_word_meets = same_word_lem first first true (λ e. refl) (λ e. refl)
 
 -- ---- where the words lie: the first ends at 2, and the second begins at 3
 ends : 2 ≡ end_of 32 line 0
@@ -53,13 +49,3 @@ word_passed_meets = word_passed line first 1 1 (lit< tt) refl word_found_meets
 words_done_meets : behind_to line first 4 ≡ behind_to line first 2
 unfolding begin_of end_of index_of
 words_done_meets = words_done line first 2 2 (lit≤ tt)
-
--- ---- letters: a space stands at 2, none at 1, and past the end there is none
-index_here_meets : index_of 32 (drop 2 line) ≡ 0
-index_here_meets = index_here 32 line 2 (lit< tt) refl
-
-index_passed_meets : index_of 32 (drop 1 line) ≡ index_of 32 (drop 2 line) + 1
-index_passed_meets = index_passed 32 line 1 (lit< tt) refl
-
-index_at_end_meets : index_of 32 (drop 4 line) ≡ 0
-index_at_end_meets = index_at_end 32 line 4 (lit≤ tt)

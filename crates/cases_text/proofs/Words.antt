@@ -1,17 +1,16 @@
--- Two words are the same exactly if the test says so; where the parts of a line begin; and the place after a name, word by word. Assumes nothing.
-use mathlib.Core.Path.{◌≡◌, refl, sym, ap, ◌∙◌, subst}
-use mathlib.Core.Bool.{Bool, true, false, ◌&&◌, true≢false}
+-- The test of two words; where the parts of a line begin; and the place after a name, word by word. Assumes nothing.
+use mathlib.Core.Path.{◌≡◌, refl, sym, ap, ◌∙◌}
+use mathlib.Core.Bool.{Bool, true, false}
 use mathlib.Core.List.{List, [], ◌∷◌}
 use Prim.Native.Nat.{ℕ, zero, suc, ◌+◌, ◌≤◌, ◌<◌, min}
 use native.Mathlib.Nat.{add-zero, add-suc}
 use native.Mathlib.Numerals.{add-one}
 use native.Mathlib.Omega.{arith}
-use borrow.Author.Tests.{eqb-true, eq-eqb, lt-ltb, le-ltb}
+use borrow.Author.Tests.{lt-ltb, le-ltb}
 use lib.Dec.{eqb}
-use lib.ListN.{length, get_or, drop}
-use Rattle.std.proofs.Math.Seq.{drop-cons}
-use Rattle.std.proofs.lemmas.List.{drop_all}
-use Rattle.cases_text.specs.Places.{index_of, begin_of, end_of, between, part_of, word_of}
+use lib.Pointwise.{pointwise}
+use lib.ListN.{length}
+use Rattle.cases_text.specs.Places.{begin_of, end_of, between, part_of, word_of}
 use Rattle.cases_text.specs.Behind.{same_word, behind_to}
 
 -- two tests of one fact agree
@@ -21,41 +20,13 @@ same_test true false told seen told' seen' = sym (seen' (told refl))
 same_test false true told seen told' seen' = seen (told' refl)
 same_test false false told seen told' seen' = refl
 
-both : (a b : Bool) → (a && b) ≡ true → (a ≡ true) × (b ≡ true)
-both true b h = (refl, h)
-both false b h = absurd (true≢false (sym h))
-
-same_letters : (a b : List ℕ) → same_word a b ≡ true → a ≡ b
+-- `==` of two words is the definition's test
+pub same_word_lem : (a b : List ℕ) → pointwise eqb a b ≡ same_word a b
 unfolding same_word
-same_letters [] [] h = refl
-same_letters [] (y ∷ v) h = absurd (true≢false (sym h))
-same_letters (x ∷ u) [] h = absurd (true≢false (sym h))
-same_letters (x ∷ u) (y ∷ v) h =
-    let t = both (eqb x y) (same_word u v) h in
-    ap (λ (z : ℕ). z ∷ u) (eqb-true x y t.0) ∙ ap (λ (w : List ℕ). y ∷ w) (same_letters u v t.1)
-
-as_itself : (a : List ℕ) → same_word a a ≡ true
-unfolding same_word
-as_itself [] = refl
-as_itself (x ∷ u) = rw (eq-eqb x x refl) (as_itself u)
-
--- a test of two words is the definition's
-pub same_word_lem : (a b : List ℕ) (r : Bool) → (r ≡ true → a ≡ b) → (a ≡ b → r ≡ true) → r ≡ same_word a b
-same_word_lem a b r told seen =
-    same_test r (same_word a b) told seen (same_letters a b) (λ e. subst (λ (w : List ℕ). same_word a w ≡ true) e (as_itself a))
-
--- a letter that stands at a place is the first from there on, one that does not is looked for from the next place on, and past the end there is none
-pub index_here : (letter : ℕ) (line : List ℕ) (k : ℕ) → k < length line → get_or line k 0 ≡ letter → index_of letter (drop k line) ≡ 0
-unfolding index_of
-index_here letter line k l e = rw (drop-cons line k 0 l, eq-eqb _ _ e)
-
-pub index_passed : (letter : ℕ) (line : List ℕ) (k : ℕ) → k < length line → eqb (get_or line k 0) letter ≡ false → index_of letter (drop k line) ≡ index_of letter (drop (k + 1) line) + 1
-unfolding index_of
-index_passed letter line k l e = rw (drop-cons line k 0 l, e, add-one k, add-one (index_of letter (drop (suc k) line)))
-
-pub index_at_end : (letter : ℕ) (line : List ℕ) (k : ℕ) → length line ≤ k → index_of letter (drop k line) ≡ 0
-unfolding index_of
-index_at_end letter line k h = rw (drop_all k line h)
+same_word_lem [] [] = refl
+same_word_lem [] (y ∷ v) = refl
+same_word_lem (x ∷ u) [] = refl
+same_word_lem (x ∷ u) (y ∷ v) = rw (same_word_lem u v)
 
 -- the next part begins after the end of this one, at most at the line's end
 pub next_begins : (letter : ℕ) (line : List ℕ) (k at end : ℕ) → at ≡ begin_of letter line k → end ≡ end_of letter line at → min (end + 1) (length line) ≡ begin_of letter line (k + 1)

@@ -11,9 +11,10 @@ pub fn place_behind(words: &[u8], name: &[u8]) -> usize
     let mut place: usize = 0;
     let mut at: usize = 0;
     let mut k: usize = 0;
+    // A turn goes on by a word, whose length no range knows: an iterator of words beside `Lines` would be no plainer.
     while at < words.len() {
         let end = find(words, b' ', at);
-        if check::same(&words[at..end], name) {
+        if &words[at..end] == name {
             place = k + 1;
         }
         at = next(words, end);

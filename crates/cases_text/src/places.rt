@@ -5,11 +5,7 @@ ghost use Rattle.cases_text.specs.Places.{PartBegins, end_of, part_of, BeginsSay
 pub fn begins(word: &[u8], letter: u8) -> bool
     ensures { BeginsSays word.now letter result }
 {
-    if 0 < word.len() {
-        word[0] == letter
-    } else {
-        false
-    }
+    word.first() == Some(&letter)
 }
 
 // The next such letter from a place on, or the line's end.
@@ -19,11 +15,11 @@ pub(crate) fn find(line: &[u8], letter: u8, at: usize) -> usize
     ensures low { at ≤ result }
     ensures high { result ≤ length line.now }
 {
-    let mut end = at;
-    while end < line.len() && line[end] != letter {
-        end += 1;
-    }
-    end
+    let rest = &line[at..];
+    at + rest
+        .iter()
+        .position(|other| *other == letter)
+        .unwrap_or(rest.len())
 }
 
 // The place after one, at most the line's end.
@@ -31,7 +27,7 @@ pub(crate) fn next(line: &[u8], at: usize) -> usize
     requires { at ≤ length line.now }
     ensures { result ≡ min (at + 1) (length line.now) }
 {
-    if at < line.len() { at + 1 } else { at }
+    line.len().min(at + 1)
 }
 
 // A part begins after the letter that ends the part before it; one that is missing, at the line's end.
@@ -39,11 +35,8 @@ fn begin(line: &[u8], letter: u8, k: usize) -> usize
     ensures { PartBegins letter line.now k result }
 {
     let mut at: usize = 0;
-    let mut i: usize = 0;
-    while i < k {
-        let end = find(line, letter, at);
-        at = next(line, end);
-        i += 1;
+    for _i in 0..k {
+        at = next(line, find(line, letter, at));
     }
     at
 }

@@ -7,43 +7,27 @@ use crate::begins;
 fn digit(letter: u8) -> u64
     ensures { Digit letter result }
 {
-    if letter < b'0' {
-        0
-    } else if letter <= b'9' {
-        (letter - b'0') as u64
-    } else if letter < b'a' {
-        0
-    } else if letter <= b'f' {
-        (letter - b'a' + 10) as u64
-    } else {
-        0
+    match letter {
+        b'0'..=b'9' => (letter - b'0') as u64,
+        b'a'..=b'f' => (letter - b'a' + 10) as u64,
+        _ => 0,
     }
 }
 
 // One digit more. A number that a u64 does not hold stays at the largest.
+#[tactic(auto, unfolding(crate::specs::Numbers::appended))]
 fn appended(base: u64, number: u64, digit: u64) -> u64
-    requires { (0 < base) × (digit < 16) }
     ensures { result ≡ appended base number digit }
 {
-    let most = (u64::MAX - digit) / base;
-    if number <= most {
-        let raised = number * base;
-        raised + digit
-    } else {
-        u64::MAX
-    }
+    number.saturating_mul(base).saturating_add(digit)
 }
 
 fn number(word: &[u8], base: u64) -> u64
-    requires { 0 < base }
     ensures { result ≡ number_of base word.now }
 {
     let mut value: u64 = 0;
-    let mut i: usize = 0;
-    while i < word.len() {
-        let next = digit(word[i]);
-        value = appended(base, value, next);
-        i += 1;
+    for letter in word {
+        value = appended(base, value, digit(*letter));
     }
     value
 }

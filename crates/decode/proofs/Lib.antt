@@ -1,5 +1,7 @@
 -- The laws of `decode`: that each promise leaves one answer, the examples of document 01, and what a match of the correlator is and what follows from it. Assumes nothing.
 pub mod OnlyAnswer
+-- what `all` answers, by a list's places
+pub mod ByPlaces
 -- readers that agree, and six bursts from one spread
 pub mod Same
 -- P3 to P11

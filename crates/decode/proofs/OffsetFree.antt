@@ -22,7 +22,7 @@ use Rattle.numbers.proofs.Sums.{sum_same}
 use Rattle.numbers.proofs.Zeros.{add_nought}
 use Rattle.protocol.specs.declared.SyncBurst.{SyncBurst}
 use Rattle.protocol.specs.Bursts.{signs_of}
-use Rattle.decode.specs.Correlator.{farthest, threshold, zero_unsigned, highest, lowest, gain_of, shift_of, symbol_of, distance_of, summed, diff_of, distances, correlation, matches}
+use Rattle.decode.specs.Correlator.{farthest, threshold, zero_unsigned, gain_of, shift_of, symbol_of, distance_of, summed, diff_of, distances, correlation, matches}
 use Rattle.decode.specs.Offset.{above, below, MovedBy, wholes, offset_by, OffsetFree}
 use Rattle.decode.proofs.Scale.{million}
 use Rattle.decode.proofs.Opened.{unsigned_at, gain_at, shift_at}

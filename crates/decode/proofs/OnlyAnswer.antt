@@ -1,4 +1,6 @@
 -- Each function's promise fixes its answer: what the paper writes of one answer it writes of no other. That there is one on every input is the function's own proof. Assumes nothing.
+use Rattle.std.specs.Prelude.{Result, Ok, Err}
+use Rattle.protocol.specs.declared.Refusal.{Refusal}
 use mathlib.Core.Path.{◌≡◌, refl, sym, ap, ◌∙◌}
 use mathlib.Core.Bool.{Bool}
 use mathlib.Core.List.{List}
@@ -7,8 +9,6 @@ use lib.Ieee.{Float}
 use Rattle.numbers.proofs.Answer.{same_answer}
 use Rattle.protocol.specs.declared.SyncBurst.{SyncBurst}
 use Rattle.protocol.proofs.Numbers.{numbered, numbered_back}
-use Rattle.decode.specs.declared.Correlated.{Correlated}
-use Rattle.decode.specs.declared.Correlated.TheVariants.{Refused, Answered}
 use Rattle.decode.specs.declared.Correlation.{Correlation}
 use Rattle.decode.specs.declared.Spread.{Spread}
 use Rattle.decode.specs.Slicer.{DecodeSampleSays}
@@ -31,17 +31,17 @@ pub compare_only_answer : (burst : SyncBurst) (vs : List Float) (spread : Spread
 compare_only_answer burst vs spread r s = same_answer
 
 -- the answer of which the paper writes this
-unwritten : Paper → Correlated
-unwritten (refusal n) = Refused (numbered n)
-unwritten (values diff gain shift) = Answered (record { diff = diff; gain = gain; shift = shift })
+unwritten : Paper → Result Correlation Refusal
+unwritten (refusal n) = Err (numbered n)
+unwritten (values diff gain shift) = Ok (record { diff = diff; gain = gain; shift = shift })
 
-unwritten_back : (r : Correlated) → unwritten (paper r) ≡ r
+unwritten_back : (r : Result Correlation Refusal) → unwritten (paper r) ≡ r
 unfolding unwritten
-unwritten_back (Refused why) = ap Refused (numbered_back why)
-unwritten_back (Answered c) = refl
+unwritten_back (Err why) = ap Err (numbered_back why)
+unwritten_back (Ok c) = refl
 
-pub paper_once : (r s : Correlated) → paper r ≡ paper s → r ≡ s
+pub paper_once : (r s : Result Correlation Refusal) → paper r ≡ paper s → r ≡ s
 paper_once r s e = sym (unwritten_back r) ∙ ap unwritten e ∙ unwritten_back s
 
-pub sync_burst_correlation_only_answer : (burst : SyncBurst) (vs : List Float) (r s : Correlated) → SyncBurstCorrelationSays burst vs r → SyncBurstCorrelationSays burst vs s → r ≡ s
+pub sync_burst_correlation_only_answer : (burst : SyncBurst) (vs : List Float) (r s : Result Correlation Refusal) → SyncBurstCorrelationSays burst vs r → SyncBurstCorrelationSays burst vs s → r ≡ s
 sync_burst_correlation_only_answer burst vs r s p q = paper_once r s (same_answer p q)

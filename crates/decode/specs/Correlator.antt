@@ -1,6 +1,7 @@
 -- Document 01, 'The receiver': "Correlate at k: the eight values F(k-70), F(k-60), .. F(k)". Here `v i` is the value i of the eight, the oldest 0, wherever it is kept:
 -- in a slice, in a ring, or in a list of samples. Assumes nothing.
-use Rattle.std.specs.Prelude.{◌≡◌, Bool, cond, ◌&&◌, List, ℕ, zero, suc, eqb, ℤ, pos, length, get_or, Float}
+use Rattle.protocol.specs.declared.Refusal.{Refusal}
+use Rattle.std.specs.Prelude.{◌≡◌, Bool, cond, ◌&&◌, List, ℕ, zero, suc, eqb, ℤ, pos, length, get_or, Float, Result, Ok, Err}
 use Rattle.std.specs.Float.{nan, binary32}
 use Rattle.std.specs.Float.Ieee.{of_bits, of_int, add, sub, div, lt, le}
 use Rattle.numbers.specs.Choice.{larger, smaller, size_of}
@@ -10,8 +11,6 @@ use Rattle.protocol.specs.declared.SyncBurst.{SyncBurst}
 use Rattle.protocol.specs.Bursts.{signs_of}
 use Rattle.protocol.specs.Refusals.{PaperRefusal, bare, on_paper}
 use Rattle.decode.specs.declared.Correlation.{Correlation}
-use Rattle.decode.specs.declared.Correlated.{Correlated}
-use Rattle.decode.specs.declared.Correlated.TheVariants.{Refused, Answered}
 
 abbrev pub zero32 : Float
 zero32 = of_bits binary32 0
@@ -93,9 +92,9 @@ pub data Paper : Type 0 where
   refusal : PaperRefusal → Paper
   values : Float → Float → Float → Paper
 
-abbrev pub paper : Correlated → Paper
-paper (Refused why) = refusal (on_paper why)
-paper (Answered c) = values c.diff c.gain c.shift
+abbrev pub paper : Result Correlation Refusal → Paper
+paper (Err why) = refusal (on_paper why)
+paper (Ok c) = values c.diff c.gain c.shift
 
 abbrev pub told : Correlation → Paper
 told c = values c.diff c.gain c.shift
@@ -113,5 +112,5 @@ correlated burst vs =
 abbrev pub InRangeSays : Float → Bool → Type 0
 InRangeSays x r = r ≡ in_range x
 
-abbrev pub SyncBurstCorrelationSays : SyncBurst → List Float → Correlated → Type 0
+abbrev pub SyncBurstCorrelationSays : SyncBurst → List Float → Result Correlation Refusal → Type 0
 SyncBurstCorrelationSays burst vs r = paper r ≡ correlated burst vs

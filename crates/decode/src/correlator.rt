@@ -3,7 +3,7 @@ ghost use Rattle.std.specs.Prelude.{◌≡◌, map, length};
 ghost use Rattle.decode.specs.Correlator.{zero_unsigned, distance_of, summed, distances, InRangeSays, SyncBurstCorrelationSays};
 ghost use Rattle.decode.specs.Parts.{values_of, eight_in_range_lem, extremes_of, UnsignZerosSays, SpreadOfSays, CompareSays};
 
-use crate::{Correlated, Correlation, Spread};
+use crate::{Correlation, Spread};
 use protocol::{Refusal, SyncBurst};
 
 // No burst matches below it.
@@ -30,56 +30,38 @@ pub fn in_range(value: f32) -> bool
     value >= -VALUE_LIMIT && value <= VALUE_LIMIT
 }
 
-fn eight_in_range(samples: &[f32]) -> bool
-    requires { length samples.now ≡ 8 }
+fn eight_in_range(samples: &[f32; 8]) -> bool
     ensures { result ≡ eight_in_range_lem samples.now }
 {
-    let mut all = true;
-    let mut i: usize = 0;
-    while i < 8 {
-        all = all & in_range(samples[i]);
-        i += 1;
-    }
-    all
+    samples.iter().all(|sample| in_range(*sample))
 }
 
-// Document 01 reads -0.0 as 0.0: adding 0.0 does that, and changes no other value.
-fn unsign_slice(samples: &[f32]) -> [f32; 8]
-    requires { length samples.now ≡ 8 }
-    ensures { result ≡ map zero_unsigned samples.now }
-{
-    let mut values = [0.0f32; 8];
-    let mut i: usize = 0;
-    while i < 8 {
-        values[i] = samples[i] + 0.0;
-        i += 1;
-    }
-    values
-}
-
-// The eight values as the correlator reads them.
+// The eight values as the correlator reads them. Document 01 reads -0.0 as 0.0: adding 0.0 does that, and changes no other value.
 pub fn unsign_zeros(values: [f32; 8]) -> [f32; 8]
     ensures { UnsignZerosSays values result }
 {
-    unsign_slice(&values)
+    let mut unsigned = values;
+    for value in unsigned.iter_mut() {
+        *value += 0.0;
+    }
+    unsigned
 }
 
 // The Rust begins with the ends of f32's range, and this with the first value: for values in range that is the same.
-fn extremes(values: [f32; 8]) -> Span
-    ensures { result ≡ extremes_of (values_of values) }
+fn extremes(values: &[f32; 8]) -> Span
+    ensures { result ≡ extremes_of (values_of values.now) }
 {
     let mut high = values[0];
     let mut low = values[0];
-    let mut i: usize = 0;
-    while i < 7 {
-        i += 1;
-        high = numbers::max(high, values[i]);
-        low = numbers::min(low, values[i]);
+    for value in &values[1..] {
+        high = numbers::max(high, *value);
+        low = numbers::min(low, *value);
     }
     Span { high, low }
 }
 
 // How far a value lies from the symbol that the burst has there.
+#[tactic(auto, unfolding(crate::specs::Correlator::distance_of, crate::specs::Correlator::symbol_of))]
 fn distance(gain: f32, shift: f32, target: i8, value: f32) -> f32
     ensures { result ≡ distance_of gain shift target value }
 {
@@ -91,24 +73,23 @@ fn summed(target: [i8; 8], values: [f32; 8], gain: f32, shift: f32) -> f32
     ensures { result ≡ summed (distances target gain shift (values_of values)) }
 {
     let mut diff: f32 = 0.0;
-    let mut i: usize = 0;
-    while i < 8 {
-        let sym_diff = distance(gain, shift, target[i], values[i]);
+    for (sign, value) in target.iter().zip(&values) {
+        let sym_diff = distance(gain, shift, *sign, *value);
         if sym_diff > SYNC_BIT_THRESHOLD {
             diff = NO_MATCH;
             break;
         }
         diff = diff + sym_diff;
-        i += 1;
     }
     diff
 }
 
 // The gain and the shift of eight values with their zeros unsigned: the same for every burst.
+#[tactic(auto, unfolding(crate::specs::Correlator::gain_of, crate::specs::Correlator::shift_of))]
 pub fn spread_of(values: [f32; 8]) -> Spread
     ensures { SpreadOfSays values result }
 {
-    let e = extremes(values);
+    let e = extremes(&values);
     Spread {
         gain: (e.high - e.low) / 2.0,
         shift: (e.high + e.low) / 2.0,
@@ -134,16 +115,16 @@ pub fn compare(burst: SyncBurst, values: [f32; 8], spread: Spread) -> Correlatio
 }
 
 // The whole correlator: eight values of any origin.
-pub fn sync_burst_correlation(burst: SyncBurst, samples: &[f32]) -> Correlated
+pub fn sync_burst_correlation(burst: SyncBurst, samples: &[f32]) -> Result<Correlation, Refusal>
     ensures { SyncBurstCorrelationSays burst samples.now result }
 {
-    if samples.len() != 8 {
-        return Correlated::Refused(Refusal::WrongCount);
+    let Ok(samples) = <[f32; 8]>::try_from(samples) else {
+        return Err(Refusal::WrongCount);
+    };
+    if !eight_in_range(&samples) {
+        return Err(Refusal::ValueOutside);
     }
-    if !eight_in_range(samples) {
-        return Correlated::Refused(Refusal::ValueOutside);
-    }
-    let values = unsign_slice(samples);
+    let values = unsign_zeros(samples);
     let answer = compare(burst, values, spread_of(values));
-    Correlated::Answered(answer)
+    Ok(answer)
 }

@@ -1,8 +1,6 @@
 // From symbols to bits, and from eight filtered values to a burst: the slicer and the correlator of the Rust's decode.rs.
 #![tactic(auto)]
 
-use protocol::Refusal;
-
 mod correlator;
 mod slicer;
 
@@ -23,11 +21,4 @@ pub struct Correlation {
 pub struct Spread {
     pub gain: f32,
     pub shift: f32,
-}
-
-// A correlation, or why there is none.
-#[derive(Clone, Copy)]
-pub enum Correlated {
-    Refused(Refusal),
-    Answered(Correlation),
 }

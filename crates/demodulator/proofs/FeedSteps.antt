@@ -1,4 +1,6 @@
 -- A stretch, sample by sample: what is left to be fed after a step, and that the promise fixes the answer. Assumes nothing.
+use Rattle.std.specs.Prelude.{Option, Some, None, Result, Ok, Err}
+use Rattle.demodulator.specs.declared.Offer.{Offer}
 use mathlib.Core.Path.{◌≡◌, refl, sym, ap, ◌∙◌, subst}
 use mathlib.Core.Bool.{Bool, true, false, not, cond}
 use mathlib.Core.List.{List, [], ◌∷◌}
@@ -17,8 +19,6 @@ use Rattle.protocol.specs.Refusals.{PaperRefusal, on_paper}
 use Rattle.search.specs.Turn.{Outcome, quiet, offer, sampled}
 use Rattle.search.proofs.AgeInPass.{by_test}
 use Rattle.demodulator.specs.declared.SoftDemodulator.{SoftDemodulator}
-use Rattle.demodulator.specs.declared.Heard.{Heard}
-use Rattle.demodulator.specs.declared.Heard.TheVariants.{Refused, Quiet, Offered}
 use Rattle.demodulator.specs.declared.AfterStretch.{AfterStretch}
 use Rattle.demodulator.specs.Spans.{eight}
 use Rattle.demodulator.specs.Record.{back, stored}
@@ -66,38 +66,38 @@ goes_on P (carrier there) before last rest p q r = p
 
 -- ---- one step of a stretch
 -- a stretch that ends with this answer
-abbrev pub ends : ℕ → Heard → SoftDemodulator → List Float → Stretch SoftDemodulator
+abbrev pub ends : ℕ → Result (Option Offer) Refusal → SoftDemodulator → List Float → Stretch SoftDemodulator
 ends n answer m room = record { answer = heard_paper (told_after n answer); fed = n + went_in answer; state = m; room = room }
 
-stops : (b : Bool) (why : Refusal) → heard_paper (cond b (Refused why) Quiet) ≡ cond b (refusal (on_paper why)) nothing
+stops : (b : Bool) (why : Refusal) → heard_paper (cond b (Err why) (Ok None)) ≡ cond b (refusal (on_paper why)) nothing
 stops true why = refl
 stops false why = refl
 
 module _ (R : Rate) (m : SoftDemodulator) (x : ℤ) (xs : List ℤ) (room : List Float) (n : ℕ) (m' : SoftDemodulator) (room' : List Float) where
   -- by the answer that the step gave
-  turned : (answer : Heard) → DemodAt R m x room (record { answer = answer; demodulator = m' }) room'
+  turned : (answer : Result (Option Offer) Refusal) → DemodAt R m x room (record { answer = answer; demodulator = m' }) room'
       → rest_from R n m (x ∷ xs) room ≡ goes_on_lem (heard_paper answer) (stops_before (heard_paper answer) n m room) (record { answer = heard_paper answer; fed = n + 1; state = m'; room = room' }) (rest_from R (n + 1) m' xs room')
   unfolding fed_from
   turned answer says = rw (says.answers, says.leaves, says.writes)
 
-  pub fed_on : (answer : Heard) → DemodAt R m x room (record { answer = answer; demodulator = m' }) room' → is_quiet_lem answer ≡ true → rest_from R n m (x ∷ xs) room ≡ rest_from R (n + 1) m' xs room'
+  pub fed_on : (answer : Result (Option Offer) Refusal) → DemodAt R m x room (record { answer = answer; demodulator = m' }) room' → is_quiet_lem answer ≡ true → rest_from R n m (x ∷ xs) room ≡ rest_from R (n + 1) m' xs room'
   unfolding goes_on_lem
-  fed_on (Refused why) says e = absurd (subst T (sym e) tt)
-  fed_on Quiet says e = (turned Quiet says)
-  fed_on (Offered o) says e = absurd (subst T (sym e) tt)
+  fed_on (Err why) says e = absurd (subst T (sym e) tt)
+  fed_on (Ok None) says e = (turned (Ok None) says)
+  fed_on (Ok (Some o)) says e = absurd (subst T (sym e) tt)
 
-  pub fed_ends : (answer : Heard) → DemodAt R m x room (record { answer = answer; demodulator = m' }) room' → is_quiet_lem answer ≡ false → rest_from R n m (x ∷ xs) room ≡ ends n answer m' room'
+  pub fed_ends : (answer : Result (Option Offer) Refusal) → DemodAt R m x room (record { answer = answer; demodulator = m' }) room' → is_quiet_lem answer ≡ false → rest_from R n m (x ∷ xs) room ≡ ends n answer m' room'
   unfolding goes_on_lem
-  fed_ends (Refused why) says e =
+  fed_ends (Err why) says e =
       let none : n + 0 ≡ n = omega arith in
       let stays = refused_unmoved R m x room _ (sym says.answers) in
       let same : m' ≡ m = says.leaves ∙ stays.0 in
       let same_room : room' ≡ room = says.writes ∙ stays.1 in
-      rw (same, same_room, none, stops (eqb n 0) why) (turned (Refused why) says)
-  fed_ends Quiet says e = absurd (subst T e tt)
-  fed_ends (Offered o) says e = (turned (Offered o) says)
+      rw (same, same_room, none, stops (eqb n 0) why) (turned (Err why) says)
+  fed_ends (Ok None) says e = absurd (subst T e tt)
+  fed_ends (Ok (Some o)) says e = (turned (Ok (Some o)) says)
 
-pub fed_out : (R : Rate) (n : ℕ) (m : SoftDemodulator) (room : List Float) → rest_from R n m [] room ≡ record { answer = heard_paper Quiet; fed = n; state = m; room = room }
+pub fed_out : (R : Rate) (n : ℕ) (m : SoftDemodulator) (room : List Float) → rest_from R n m [] room ≡ record { answer = heard_paper (Ok None); fed = n; state = m; room = room }
 unfolding fed_from
 fed_out R n m room = refl
 
@@ -107,10 +107,10 @@ unfolding fed
 fed_some R m [] room l = absurd (not-suc-le-zero l)
 fed_some R m (x ∷ xs) room l = refl
 
-pub one_at_most : (answer : Heard) → went_in answer ≤ 1
-one_at_most (Refused why) = lit≤ tt
-one_at_most Quiet = lit≤ tt
-one_at_most (Offered o) = lit≤ tt
+pub one_at_most : (answer : Result (Option Offer) Refusal) → went_in answer ≤ 1
+one_at_most (Err why) = lit≤ tt
+one_at_most (Ok None) = lit≤ tt
+one_at_most (Ok (Some o)) = lit≤ tt
 
 -- ---- the promise
 pub feeds : (p : ℕ) (m : SoftDemodulator) → p ≡ samples_in_lem m.rate → (xs : List ℤ) (room : List Float) (r : AfterStretch) (after : List Float)
@@ -133,22 +133,22 @@ feed_only_answer m xs room r s after other p q =
 
 -- no sample is given
 module _ (p : ℕ) (m : SoftDemodulator) (known : rate_fit m.rate ≡ true) (own : p ≡ samples_in_lem m.rate) where
-  pub nothing_unfit : record_fit_lem p m ≡ false → FeedsNothing m (record { answer = Refused RecordUnfit; fed = 0; demodulator = m })
+  pub nothing_unfit : record_fit_lem p m ≡ false → FeedsNothing m (record { answer = Err RecordUnfit; fed = 0; demodulator = m })
   unfolding fed
   nothing_unfit e room = record { answers = rw (rw own at e, known); counts = refl; leaves = refl; writes = refl }
 
-  pub nothing_fed : record_fit_lem p m ≡ true → FeedsNothing m (record { answer = Quiet; fed = 0; demodulator = m })
+  pub nothing_fed : record_fit_lem p m ≡ true → FeedsNothing m (record { answer = (Ok None); fed = 0; demodulator = m })
   unfolding fed
   nothing_fed e room = record { answers = rw (rw own at e); counts = refl; leaves = refl; writes = refl }
 
 -- a rate that is none: the stretch is refused, whatever it gives
-pub feeds_other_rate : (m : SoftDemodulator) → rate_fit m.rate ≡ false → (xs : List ℤ) (room : List Float) → FeedSays m xs room (record { answer = Refused WrongRate; fed = 0; demodulator = m }) room
+pub feeds_other_rate : (m : SoftDemodulator) → rate_fit m.rate ≡ false → (xs : List ℤ) (room : List Float) → FeedSays m xs room (record { answer = Err WrongRate; fed = 0; demodulator = m }) room
 unfolding fed record_fit_lem
 feeds_other_rate m other [] room = record { answers = rw other; counts = refl; leaves = refl; writes = refl }
 feeds_other_rate m other (x ∷ xs) room =
     let d = sample_other_rate (rate_of m.rate) m x room other in
     feeds (samples_in_lem m.rate) m refl (x ∷ xs) room _ room
-    (fed_ends (rate_of m.rate) m x xs room 0 m room (Refused WrongRate) (record { answers = rw d; leaves = rw d; writes = rw d }) refl)
+    (fed_ends (rate_of m.rate) m x xs room 0 m room (Err WrongRate) (record { answers = rw d; leaves = rw d; writes = rw d }) refl)
 
 pub feeds_nothing : (m : SoftDemodulator) (xs : List ℤ) (room : List Float) (r : AfterStretch) → length xs ≡ 0 → FeedsNothing m r → FeedSays m xs room r room
 feeds_nothing m [] room r e says = says room

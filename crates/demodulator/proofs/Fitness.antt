@@ -1,4 +1,5 @@
 -- What a fit record is known to be, clause by clause. Assumes nothing.
+use Rattle.std.specs.Prelude.{Option, Some, None}
 use mathlib.Core.List.{List}
 use mathlib.Core.Path.{◌≡◌, sym, ◌∙◌}
 use mathlib.Core.Bool.{Bool, true, false, not, ◌&&◌, cond}
@@ -15,8 +16,6 @@ use Rattle.numbers.proofs.Below.{all_below_lem}
 use Rattle.shaping.specs.Rate.{rate_fit, tap_count, ring_places}
 use Rattle.decode.specs.Correlator.{in_range}
 use Rattle.search.specs.declared.Waiting.{Waiting}
-use Rattle.search.specs.declared.Wait.{Wait}
-use Rattle.search.specs.declared.Wait.TheVariants.{Free, Due}
 use Rattle.search.specs.declared.Control.{Control}
 use Rattle.search.specs.Fit.{control_fit_lem}
 use Rattle.search.proofs.Fitness.{both, ControlFacts, control_facts}
@@ -72,9 +71,9 @@ either : (b : Bool) → (7 ≤ cond b 191 7) × (cond b 191 7 ≤ 191)
 either true = (lit≤ tt, lit≤ tt)
 either false = (lit≤ tt, lit≤ tt)
 
-pub places_between : (w : Wait) → (7 ≤ places_read_lem w) × (places_read_lem w ≤ 191)
-places_between Free = (lit≤ tt, lit≤ tt)
-places_between (Due w) = either (eqb w.left 1)
+pub places_between : (w : Option Waiting) → (7 ≤ places_read_lem w) × (places_read_lem w ≤ 191)
+places_between None = (lit≤ tt, lit≤ tt)
+places_between (Some w) = either (eqb w.left 1)
 
 -- the tests that a sample's value and a reply's must pass, by the value's place in their order
 abbrev sample_test : ℕ → SoftDemodulator → ℕ → Bool
@@ -99,7 +98,7 @@ module _ (p : ℕ) (m : SoftDemodulator) (fit : fit_for_sample_lem p m ≡ true)
   sample_seven j l = sample_places j (lt_of_lt_of_le l (places_between m.control.wait).0)
 
   -- and all the others of a window that is due
-  pub sample_window : (w : Waiting) → m.control.wait ≡ Due w → w.left ≡ 1 → (j : ℕ) → j < 191 → T (in_range (back p m (p * j + (p - 1))))
+  pub sample_window : (w : Waiting) → m.control.wait ≡ Some w → w.left ≡ 1 → (j : ℕ) → j < 191 → T (in_range (back p m (p * j + (p - 1))))
   sample_window w due one j l =
       let n : places_read_lem m.control.wait ≡ 191 = rw (due, one) in
       sample_places j (rw n l)

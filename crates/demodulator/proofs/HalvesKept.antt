@@ -1,4 +1,7 @@
 -- What a sample leaves of the window's halves: they agree after it exactly if they did before it, so that a stretch tests them once; and that window and ring keep their places. Assumes nothing.
+use Rattle.std.specs.Prelude.{Option, Result}
+use Rattle.demodulator.specs.declared.Offer.{Offer}
+use Rattle.protocol.specs.declared.Refusal.{Refusal}
 use mathlib.Core.Path.{◌≡◌, refl, sym, ◌∙◌}
 use mathlib.Core.Bool.{true, not}
 use mathlib.Core.List.{List}
@@ -12,7 +15,6 @@ use Rattle.shaping.specs.Rate.{Rate, window_places}
 use Rattle.search.specs.Turn.{Outcome, quiet, offer, sampled}
 use Rattle.search.proofs.AgeInPass.{by_test}
 use Rattle.demodulator.specs.declared.SoftDemodulator.{SoftDemodulator}
-use Rattle.demodulator.specs.declared.Heard.{Heard}
 use Rattle.demodulator.specs.Spans.{eight}
 use Rattle.demodulator.specs.Record.{back, stored}
 use Rattle.demodulator.specs.Fit.{halves_agree_lem, unfit_number, fit_for_sample_lem}
@@ -56,5 +58,5 @@ module _ (R : Rate) (m : SoftDemodulator) (long : window_places R.p ≤ length m
       finished_kept (not-false (fit_for_sample_lem R.p m) fit) (sampled R.p (eight R.p (back R.p (stored R m x))) c)
 
   -- of a step's promise
-  pub step_kept : (answer : Heard) (m' : SoftDemodulator) (room' : List Float) → DemodAt R m x room (record { answer = answer; demodulator = m' }) room' → KeepsHalves R.p m m'
+  pub step_kept : (answer : Result (Option Offer) Refusal) (m' : SoftDemodulator) (room' : List Float) → DemodAt R m x room (record { answer = answer; demodulator = m' }) room' → KeepsHalves R.p m m'
   step_kept answer m' room' says = rw says.leaves sample_kept

@@ -1,4 +1,6 @@
 -- The laws of the receiver's record and of its calls. Assumes nothing.
+-- places written as a part of a list
+pub mod WrittenPart
 -- a place brought back into its ring
 pub mod Wrap
 -- the ring's reader, and what a store does to it

@@ -1,5 +1,9 @@
 -- Each call's promise fixes its answer, the record that it leaves and the room: what the paper writes of one answer it writes of no other. That there is one on every input is the
 -- call's own proof. Assumes nothing.
+use Rattle.std.specs.Prelude.{Bool, Option, Some, None, Result, Ok, Err}
+use Rattle.demodulator.specs.declared.After.{After}
+use Rattle.demodulator.specs.declared.Offer.{Offer}
+use Rattle.protocol.specs.declared.Refusal.{Refusal}
 use mathlib.Core.Path.{◌≡◌, refl, sym, ap, ◌∙◌}
 use mathlib.Core.Bool.{false}
 use mathlib.Core.List.{List}
@@ -10,90 +14,67 @@ use Rattle.numbers.proofs.Answer.{same_answer}
 use Rattle.protocol.proofs.Numbers.{numbered, numbered_back}
 use Rattle.search.specs.declared.Reply.{Reply}
 use Rattle.demodulator.specs.declared.SoftDemodulator.{SoftDemodulator}
-use Rattle.demodulator.specs.declared.Made.{Made}
-use Rattle.demodulator.specs.declared.Made.TheVariants.{Refused as MakeRefused, Done as Begun}
-use Rattle.demodulator.specs.declared.Heard.{Heard}
-use Rattle.demodulator.specs.declared.Heard.TheVariants.{Refused as HeardRefused, Quiet, Offered}
-use Rattle.demodulator.specs.declared.Replied.{Replied}
-use Rattle.demodulator.specs.declared.Replied.TheVariants.{Refused as ReplyRefused, Done}
-use Rattle.demodulator.specs.declared.Carrier.{Carrier}
-use Rattle.demodulator.specs.declared.Carrier.TheVariants.{Refused as CarrierRefused, Detected}
-use Rattle.demodulator.specs.declared.AfterNew.{AfterNew}
-use Rattle.demodulator.specs.declared.AfterSample.{AfterSample}
-use Rattle.demodulator.specs.declared.AfterReply.{AfterReply}
-use Rattle.demodulator.specs.Calls.{Paper, refusal, nothing, frame, done, carrier, made_paper, heard_paper, replied_paper, carrier_paper, NewSays, DemodSays, ReplySays, DataCarrierDetectSays}
+use Rattle.demodulator.specs.Calls.{Paper, refusal, nothing, frame, done, carrier, done_paper, heard_paper, carrier_paper, NewSays, DemodSays, ReplySays, DataCarrierDetectSays}
 
 -- ---- the answer of which the paper writes this
 pub once : {A B : Type 0} (paper : A → B) (unwritten : B → A) → ((r : A) → unwritten (paper r) ≡ r) → (r s : A) → paper r ≡ paper s → r ≡ s
 once paper unwritten back r s e = sym (back r) ∙ ap unwritten e ∙ back s
 
-made_as : Paper → Made
-made_as (refusal n) = MakeRefused (numbered n)
-made_as nothing = Begun
-made_as (frame o) = Begun
-made_as done = Begun
-made_as (carrier there) = Begun
+pub done_as : Paper → Result Unit Refusal
+done_as (refusal n) = Err (numbered n)
+done_as nothing = Ok tt
+done_as (frame o) = Ok tt
+done_as done = Ok tt
+done_as (carrier there) = Ok tt
 
-made_back : (r : Made) → made_as (made_paper r) ≡ r
-unfolding made_as
-made_back (MakeRefused why) = ap MakeRefused (numbered_back why)
-made_back Begun = refl
+pub done_back : (r : Result Unit Refusal) → done_as (done_paper r) ≡ r
+unfolding done_as
+done_back (Err why) = ap Err (numbered_back why)
+done_back (Ok _) = refl
 
-pub heard : Paper → Heard
-heard (refusal n) = HeardRefused (numbered n)
-heard nothing = Quiet
-heard (frame o) = Offered o
-heard done = Quiet
-heard (carrier there) = Quiet
+pub heard : Paper → Result (Option Offer) Refusal
+heard (refusal n) = Err (numbered n)
+heard nothing = Ok None
+heard (frame o) = Ok (Some o)
+heard done = Ok None
+heard (carrier there) = Ok None
 
-pub heard_back : (r : Heard) → heard (heard_paper r) ≡ r
+pub heard_back : (r : Result (Option Offer) Refusal) → heard (heard_paper r) ≡ r
 unfolding heard
-heard_back (HeardRefused why) = ap HeardRefused (numbered_back why)
-heard_back Quiet = refl
-heard_back (Offered o) = refl
+heard_back (Err why) = ap Err (numbered_back why)
+heard_back (Ok None) = refl
+heard_back (Ok (Some o)) = refl
 
-replied : Paper → Replied
-replied (refusal n) = ReplyRefused (numbered n)
-replied nothing = Done
-replied (frame o) = Done
-replied done = Done
-replied (carrier there) = Done
+detected : Paper → Result Bool Refusal
+detected (refusal n) = Err (numbered n)
+detected nothing = Ok false
+detected (frame o) = Ok false
+detected done = Ok false
+detected (carrier there) = Ok there
 
-replied_back : (r : Replied) → replied (replied_paper r) ≡ r
-unfolding replied
-replied_back (ReplyRefused why) = ap ReplyRefused (numbered_back why)
-replied_back Done = refl
-
-detected : Paper → Carrier
-detected (refusal n) = CarrierRefused (numbered n)
-detected nothing = Detected false
-detected (frame o) = Detected false
-detected done = Detected false
-detected (carrier there) = Detected there
-
-detected_back : (r : Carrier) → detected (carrier_paper r) ≡ r
+detected_back : (r : Result Bool Refusal) → detected (carrier_paper r) ≡ r
 unfolding detected
-detected_back (CarrierRefused why) = ap CarrierRefused (numbered_back why)
-detected_back (Detected there) = refl
+detected_back (Err why) = ap Err (numbered_back why)
+detected_back (Ok there) = refl
 
 -- ---- the calls
-pub new_only_answer : (rate : ℕ) (r s : AfterNew) → NewSays rate r → NewSays rate s → r ≡ s
+pub new_only_answer : (rate : ℕ) (r s : After Unit) → NewSays rate r → NewSays rate s → r ≡ s
 new_only_answer rate r s p q =
-    let answers = once made_paper made_as made_back r.answer s.answer (same_answer p.answers q.answers) in
+    let answers = once done_paper done_as done_back r.answer s.answer (same_answer p.answers q.answers) in
     let leaves : r.demodulator ≡ s.demodulator = same_answer p.leaves q.leaves in
     λ i. record { answer = answers i; demodulator = leaves i }
 
-pub demod_only_answer : (m : SoftDemodulator) (x : ℤ) (room : List Float) (r s : AfterSample) (after other : List Float) → DemodSays m x room r after → DemodSays m x room s other → (r ≡ s) × (after ≡ other)
+pub demod_only_answer : (m : SoftDemodulator) (x : ℤ) (room : List Float) (r s : After (Option Offer)) (after other : List Float) → DemodSays m x room r after → DemodSays m x room s other → (r ≡ s) × (after ≡ other)
 demod_only_answer m x room r s after other p q =
     let answers = once heard_paper heard heard_back r.answer s.answer (same_answer p.answers q.answers) in
     let leaves : r.demodulator ≡ s.demodulator = same_answer p.leaves q.leaves in
     (λ i. record { answer = answers i; demodulator = leaves i }, same_answer p.writes q.writes)
 
-pub reply_only_answer : (m : SoftDemodulator) (reply : Reply) (r s : AfterReply) → ReplySays m reply r → ReplySays m reply s → r ≡ s
+pub reply_only_answer : (m : SoftDemodulator) (reply : Reply) (r s : After Unit) → ReplySays m reply r → ReplySays m reply s → r ≡ s
 reply_only_answer m reply r s p q =
-    let answers = once replied_paper replied replied_back r.answer s.answer (same_answer p.answers q.answers) in
+    let answers = once done_paper done_as done_back r.answer s.answer (same_answer p.answers q.answers) in
     let leaves : r.demodulator ≡ s.demodulator = same_answer p.leaves q.leaves in
     λ i. record { answer = answers i; demodulator = leaves i }
 
-pub data_carrier_detect_only_answer : (m : SoftDemodulator) (r s : Carrier) → DataCarrierDetectSays m r → DataCarrierDetectSays m s → r ≡ s
+pub data_carrier_detect_only_answer : (m : SoftDemodulator) (r s : Result Bool Refusal) → DataCarrierDetectSays m r → DataCarrierDetectSays m s → r ≡ s
 data_carrier_detect_only_answer m r s p q = once carrier_paper detected detected_back r s (same_answer p q)

@@ -1,4 +1,5 @@
 -- Small instances of the laws of a step, at a fresh record: what the laws ask can be met. Assumes nothing.
+use Rattle.std.specs.Prelude.{None, Ok}
 use mathlib.Core.Path.{◌≡◌, refl}
 use mathlib.Core.Bool.{true}
 use mathlib.Core.List.{List}
@@ -20,7 +21,6 @@ use Rattle.search.specs.Turn.{counted, waited_turn}
 use Rattle.search.specs.Fit.{candidate_fit_lem, wait_fit_lem, control_fit_lem}
 use Rattle.search.specs.Promises.{TurnOfSays}
 use Rattle.demodulator.specs.declared.SoftDemodulator.{SoftDemodulator}
-use Rattle.demodulator.specs.declared.Heard.TheVariants.{Quiet}
 use Rattle.demodulator.specs.declared.step.Places.{Places}
 use Rattle.demodulator.specs.Spans.{eight}
 use Rattle.demodulator.specs.Record.{fresh_control, fresh, assembled, back, stored}
@@ -81,7 +81,7 @@ fresh_turns = refl
 
 looks_meets :
     DemodAt at48 (fresh 48000) (pos 1) room
-    (record { answer = Quiet; demodulator = assembled 48000 after.filter_win 1 after.rx_win 1 (searched 10 (values_of values) (counted fresh_control)) })
+    (record { answer = (Ok None); demodulator = assembled 48000 after.filter_win 1 after.rx_win 1 (searched 10 (values_of values) (counted fresh_control)) })
     room
 unfolding fresh
 looks_meets = looks 10 (fresh 48000).filter_win after.filter_win (fresh 48000).rx_win after.rx_win start fresh_control (pos 1) fresh_stores room fresh_accepts 48000 refl (Look (counted fresh_control)) fresh_turns (counted fresh_control) refl values values_held (searched 10 (values_of values) (counted fresh_control)) refl
@@ -92,4 +92,4 @@ unfolding fresh
 fresh_long = omega (arith, length-replicate 162 (pos 0))
 
 step_kept_meets : KeepsHalves 10 (fresh 48000) (assembled 48000 after.filter_win 1 after.rx_win 1 (searched 10 (values_of values) (counted fresh_control)))
-step_kept_meets = step_kept at48 (fresh 48000) fresh_long (pos 1) room Quiet _ room looks_meets
+step_kept_meets = step_kept at48 (fresh 48000) fresh_long (pos 1) room (Ok None) _ room looks_meets

@@ -1,4 +1,7 @@
 -- What a step leaves, by its turn, is what the call is to leave. Assumes nothing.
+use Rattle.std.specs.Prelude.{Option, Some, None, Result, Ok}
+use Rattle.demodulator.specs.declared.Offer.{Offer}
+use Rattle.protocol.specs.declared.Refusal.{Refusal}
 use mathlib.Core.Path.{◌≡◌, refl, sym, ap, ◌∙◌}
 use mathlib.Core.Bool.{true}
 use mathlib.Core.List.{List}
@@ -11,13 +14,11 @@ use Rattle.decode.specs.Parts.{values_of}
 use Rattle.search.specs.declared.Control.{Control}
 use Rattle.search.specs.declared.Shown.{Shown}
 use Rattle.search.specs.declared.Turn.{Turn}
-use Rattle.search.specs.declared.Turn.TheVariants.{Rest, Offer, Look}
+use Rattle.search.specs.declared.Turn.TheVariants.{Rest, Offer as OfferTurn, Look}
 use Rattle.search.specs.Turn.{Outcome, quiet, offer, comes_to, sampled}
 use Rattle.search.specs.Promises.{TurnOfSays, SearchedSays}
 use Rattle.search.proofs.SearchSame.{searched_same}
 use Rattle.demodulator.specs.declared.SoftDemodulator.{SoftDemodulator}
-use Rattle.demodulator.specs.declared.Heard.{Heard}
-use Rattle.demodulator.specs.declared.Heard.TheVariants.{Quiet, Offered}
 use Rattle.demodulator.specs.declared.step.Places.{Places}
 use Rattle.demodulator.specs.Spans.{eight, symbol_at}
 use Rattle.demodulator.specs.Record.{assembled, back, with_control, stored}
@@ -51,7 +52,7 @@ module _ (p : ℕ) (window window' : List ℤ) (ring ring' : List Float) (at : P
 
   module _ (room : List Float) (accepts : Accepts p window ring at c room) (rate : ℕ) (known : rate_fit rate ≡ true) where
     -- what the step leaves, by what the sample comes to
-    step_says : (o : Outcome) → o ≡ sampled p (eight p (back p (stored (rate_at p) (before rate) x))) c → (answer : Heard) (d : Control) (room' : List Float)
+    step_says : (o : Outcome) → o ≡ sampled p (eight p (back p (stored (rate_at p) (before rate) x))) c → (answer : Result (Option Offer) Refusal) (d : Control) (room' : List Float)
         → heard_paper answer ≡ (finished p (stored (rate_at p) (before rate) x) room o).answer
         → with_control d (stored (rate_at p) (before rate) x) ≡ (finished p (stored (rate_at p) (before rate) x) room o).demodulator
         → room' ≡ (finished p (stored (rate_at p) (before rate) x) room o).room
@@ -66,16 +67,16 @@ module _ (p : ℕ) (window window' : List ℤ) (ring ring' : List Float) (at : P
       unfolding sampled
       comes o told = ap (comes_to p (eight p (back p (stored (rate_at p) (before rate) x)))) (sym told ∙ says)
 
-      pub rests : (d : Control) → r ≡ Rest d → DemodAt (rate_at p) (before rate) x room (record { answer = Quiet; demodulator = after rate d }) room
-      rests d told = step_says (quiet d) (comes (Rest d) told) Quiet d room refl refl refl
+      pub rests : (d : Control) → r ≡ Rest d → DemodAt (rate_at p) (before rate) x room (record { answer = (Ok None); demodulator = after rate d }) room
+      rests d told = step_says (quiet d) (comes (Rest d) told) (Ok None) d room refl refl refl
 
-      pub offers : (shown : Shown) (d : Control) → r ≡ Offer shown d → (room' : List Float) → room' ≡ written (symbol_at p shown (back p (after rate c))) 192 room
-          → DemodAt (rate_at p) (before rate) x room (record { answer = Offered (offer_of shown d.sample); demodulator = after rate d }) room'
+      pub offers : (shown : Shown) (d : Control) → r ≡ OfferTurn shown d → (room' : List Float) → room' ≡ written (symbol_at p shown (back p (after rate c))) 192 room
+          → DemodAt (rate_at p) (before rate) x room (record { answer = Ok (Some (offer_of shown d.sample)); demodulator = after rate d }) room'
       offers shown d told room' w =
-          step_says (offer shown d) (comes (Offer shown d) told) (Offered (offer_of shown d.sample)) d room' refl refl
+          step_says (offer shown d) (comes (OfferTurn shown d) told) (Ok (Some (offer_of shown d.sample))) d room' refl refl
           (w ∙ ap (λ (m : SoftDemodulator). written (symbol_at p shown (back p m)) 192 room) (stores rate c))
 
       pub looks : (d : Control) → r ≡ Look d → (values : List Float) → values ≡ firsts (eight p (back p (after rate c))) 8 → (found : Control) → SearchedSays p d values found
-          → DemodAt (rate_at p) (before rate) x room (record { answer = Quiet; demodulator = after rate found }) room
+          → DemodAt (rate_at p) (before rate) x room (record { answer = (Ok None); demodulator = after rate found }) room
       looks d told values e found says-found =
-          step_says (quiet found) (ap quiet (says-found ∙ searched_same p (values_of values) (eight p (back p (stored (rate_at p) (before rate) x))) (seen rate values e) d) ∙ comes (Look d) told) Quiet found room refl refl refl
+          step_says (quiet found) (ap quiet (says-found ∙ searched_same p (values_of values) (eight p (back p (stored (rate_at p) (before rate) x))) (seen rate values e) d) ∙ comes (Look d) told) (Ok None) found room refl refl refl

@@ -1,4 +1,6 @@
 -- Samples that are quiet, by a walk over their filtered values in a row, are fed one by one with the same outcome. Assumes nothing.
+use Rattle.std.specs.Prelude.{Option, Some, None, Ok}
+use Rattle.search.specs.declared.Waiting.{Waiting}
 use mathlib.Core.Path.{◌≡◌, refl, sym, ap, subst, ◌∙◌}
 use mathlib.Core.Bool.{true, false}
 use mathlib.Core.List.{List}
@@ -17,8 +19,6 @@ use Rattle.numbers.proofs.Below.{below_all}
 use Rattle.shaping.specs.Rate.{Rate, rate_fit, tap_count, ring_places}
 use Rattle.shaping.proofs.RateFacts.{Facts}
 use Rattle.decode.specs.Correlator.{in_range}
-use Rattle.search.specs.declared.Wait.{Wait}
-use Rattle.search.specs.declared.Wait.TheVariants.{Free, Due}
 use Rattle.search.specs.declared.Control.{Control}
 use Rattle.search.specs.Turn.{quiet, control_of, sampled}
 use Rattle.search.specs.Fit.{control_fit_lem}
@@ -29,7 +29,6 @@ use Rattle.quiet.specs.declared.Walked.{Walked}
 use Rattle.quiet.specs.Walk.{is_due_lem, goes_on_lem as walksOn, walked_to, walked_from}
 use Rattle.quiet.proofs.GoesOn.{Goes, goes}
 use Rattle.demodulator.specs.declared.SoftDemodulator.{SoftDemodulator}
-use Rattle.demodulator.specs.declared.Heard.TheVariants.{Quiet}
 use Rattle.demodulator.specs.Spans.{eight}
 use Rattle.demodulator.specs.Record.{back, with_control, stored}
 use Rattle.demodulator.specs.Fit.{places_read_lem, record_fit_lem, fit_for_sample_lem}
@@ -41,14 +40,14 @@ use Rattle.demodulator.proofs.StoredMany.{Standing, standing, eight_row, seven_r
 
 -- ---- a sample at which the walk goes on
 -- it is quiet
-quiet_turn : (p : ℕ) (u : ℕ → Float) (w : Wait) (c : Control) → c.wait ≡ w → is_due_lem w ≡ false → sampled p u c ≡ quiet (control_of (sampled p u c))
-quiet_turn p u Free c e h = rw (sampled_free p u c e)
-quiet_turn p u (Due w) c e h = rw (sampled_rest p u c w e (leb-false w.left 1 h))
+quiet_turn : (p : ℕ) (u : ℕ → Float) (w : Option Waiting) (c : Control) → c.wait ≡ w → is_due_lem w ≡ false → sampled p u c ≡ quiet (control_of (sampled p u c))
+quiet_turn p u None c e h = rw (sampled_free p u c e)
+quiet_turn p u (Some w) c e h = rw (sampled_rest p u c w e (leb-false w.left 1 h))
 
 -- and reads the seven places of a search only
-seven : (w : Wait) → is_due_lem w ≡ false → places_read_lem w ≡ 7
-seven Free h = refl
-seven (Due w) h = let more = leb-false w.left 1 h in rw (ne_eqb w.left 1 (λ e. omega arith))
+seven : (w : Option Waiting) → is_due_lem w ≡ false → places_read_lem w ≡ 7
+seven None h = refl
+seven (Some w) h = let more = leb-false w.left 1 h in rw (ne_eqb w.left 1 (λ e. omega arith))
 
 module _ (R : Rate) (F : Facts R) (m : SoftDemodulator) (rate : rate_fit m.rate ≡ true) (s : Standing R.p m) (xs : List ℤ) (room : List Float) (enough : 192 ≤ length room) (row : List Float) (count : ℕ)
     (holds_row : (i : ℕ) → i < count + 7 * R.p → get_or row i nan ≡ row_at R m xs i) (range : (i : ℕ) → i < count + 7 * R.p → T (in_range (get_or row i nan))) where
@@ -82,7 +81,7 @@ module _ (R : Rate) (F : Facts R) (m : SoftDemodulator) (rate : rate_fit m.rate 
 
   -- one sample
   one : (k : ℕ) (c : Control) → k < count → Goes p c → (d : Control) → d ≡ next k c
-      → DemodAt R (with_control c (at k)) (get_or xs k (pos 0)) room (record { answer = Quiet; demodulator = with_control d (at (suc k)) }) room
+      → DemodAt R (with_control c (at k)) (get_or xs k (pos 0)) room (record { answer = (Ok None); demodulator = with_control d (at (suc k)) }) room
   unfolding stored_to
   one k c l g d e =
       let y = get_or xs k (pos 0) in
@@ -105,7 +104,7 @@ module _ (R : Rate) (F : Facts R) (m : SoftDemodulator) (rate : rate_fit m.rate 
   next_told fed k c d w l h g e rest =
       let one_more : fed + k + 1 ≡ fed + (k + 1) = omega arith in
       rw (drop_at k xs (pos 0) (omega arith))
-      (fed_on R _ _ _ _ _ _ _ Quiet (one k c l g d e) refl
+      (fed_on R _ _ _ _ _ _ _ (Ok None) (one k c l g d e) refl
       ∙ ap (λ (q : ℕ). rest_from R q (with_control d (at (suc k))) (drop (suc k) xs) room) one_more
       ∙ subst (λ (q : ℕ). rest_from R (fed + (k + 1)) (with_control d (at q)) (drop q xs) room ≡ rest_from R (fed + w.fed) (with_control w.control (at w.fed)) (drop w.fed xs) room) (add-one k) rest)
 

@@ -1,26 +1,15 @@
 -- What each call answers at a rate, and what it leaves: the record, and the room for symbols. Assumes nothing.
-use Rattle.std.specs.Prelude.{◌≡◌, Bool, true, false, not, cond, List, [], ℕ, ◌^◌, eqb, ltb, ℤ, length, Float}
+use Rattle.demodulator.specs.declared.After.{After}
+use Rattle.protocol.specs.declared.Refusal.{Refusal}
+use Rattle.std.specs.Prelude.{◌≡◌, Bool, true, false, not, cond, List, [], ℕ, ◌^◌, eqb, ltb, ℤ, length, Float, Option, Some, None, is_some, Result, Ok, Err}
 use Rattle.numbers.specs.Firsts.{written}
 use Rattle.shaping.specs.Rate.{Rate, rate_fit, samples_in_lem, rate_of}
 use Rattle.protocol.specs.Refusals.{PaperRefusal, bare, on_paper}
-use Rattle.search.specs.declared.Timer.{Timer}
-use Rattle.search.specs.declared.Timer.TheVariants.{Off, Until}
 use Rattle.search.specs.declared.Shown.{Shown}
 use Rattle.search.specs.declared.Reply.{Reply}
 use Rattle.search.specs.Turn.{Outcome, quiet, offer, sampled, replied}
 use Rattle.demodulator.specs.declared.SoftDemodulator.{SoftDemodulator}
 use Rattle.demodulator.specs.declared.Offer.{Offer}
-use Rattle.demodulator.specs.declared.Made.{Made}
-use Rattle.demodulator.specs.declared.Made.TheVariants.{Refused as MakeRefused, Done as Begun}
-use Rattle.demodulator.specs.declared.Heard.{Heard}
-use Rattle.demodulator.specs.declared.Heard.TheVariants.{Refused as HeardRefused, Quiet, Offered}
-use Rattle.demodulator.specs.declared.Replied.{Replied}
-use Rattle.demodulator.specs.declared.Replied.TheVariants.{Refused as ReplyRefused, Done}
-use Rattle.demodulator.specs.declared.Carrier.{Carrier}
-use Rattle.demodulator.specs.declared.Carrier.TheVariants.{Refused as CarrierRefused, Detected}
-use Rattle.demodulator.specs.declared.AfterNew.{AfterNew}
-use Rattle.demodulator.specs.declared.AfterSample.{AfterSample}
-use Rattle.demodulator.specs.declared.AfterReply.{AfterReply}
 use Rattle.demodulator.specs.Spans.{eight, symbol_at}
 use Rattle.demodulator.specs.Record.{back, fresh, stored, with_control}
 use Rattle.demodulator.specs.Fit.{unfit_number, record_fit_lem, fit_for_sample_lem, fit_for_reply_lem}
@@ -41,22 +30,18 @@ is_refusal (frame o) = false
 is_refusal done = false
 is_refusal (carrier held) = false
 
-abbrev pub made_paper : Made → Paper
-made_paper (MakeRefused why) = refusal (on_paper why)
-made_paper Begun = done
+abbrev pub done_paper : Result Unit Refusal → Paper
+done_paper (Err why) = refusal (on_paper why)
+done_paper (Ok _) = done
 
-abbrev pub heard_paper : Heard → Paper
-heard_paper (HeardRefused why) = refusal (on_paper why)
-heard_paper Quiet = nothing
-heard_paper (Offered o) = frame o
+abbrev pub heard_paper : Result (Option Offer) Refusal → Paper
+heard_paper (Err why) = refusal (on_paper why)
+heard_paper (Ok None) = nothing
+heard_paper (Ok (Some o)) = frame o
 
-abbrev pub replied_paper : Replied → Paper
-replied_paper (ReplyRefused why) = refusal (on_paper why)
-replied_paper Done = done
-
-abbrev pub carrier_paper : Carrier → Paper
-carrier_paper (CarrierRefused why) = refusal (on_paper why)
-carrier_paper (Detected there) = carrier there
+abbrev pub carrier_paper : Result Bool Refusal → Paper
+carrier_paper (Err why) = refusal (on_paper why)
+carrier_paper (Ok there) = carrier there
 
 -- ---- what a call leaves
 pub record Left : Type 0 where
@@ -103,9 +88,8 @@ answered p m reply room =
 
 -- ---- the carrier
 -- "Carrier detect is yes exactly while the timer is held."
-abbrev pub timer_held : Timer → Bool
-timer_held Off = false
-timer_held (Until end) = true
+abbrev pub timer_held : Option ℕ → Bool
+timer_held timer = is_some timer
 
 unfoldable pub detected : ℕ → SoftDemodulator → Paper
 detected p m = cond (not (record_fit_lem p m)) (refusal (bare (unfit_number m))) (carrier (timer_held m.control.dcd))
@@ -116,22 +100,22 @@ unfoldable pub made : ℕ → Left
 made rate = record { answer = cond (rate_fit rate) done (refusal (bare 15)); demodulator = fresh rate; room = [] }
 
 -- ---- what the functions promise: each call is at the record's own rate
-pub record NewSays (rate : ℕ) (r : AfterNew) : Type 0 where
-  pub answers : made_paper r.answer ≡ (made rate).answer
+pub record NewSays (rate : ℕ) (r : After Unit) : Type 0 where
+  pub answers : done_paper r.answer ≡ (made rate).answer
   pub leaves : r.demodulator ≡ (made rate).demodulator
 
 -- what a sample promises at a rate
-pub record DemodAt (R : Rate) (m : SoftDemodulator) (x : ℤ) (room : List Float) (r : AfterSample) (after : List Float) : Type 0 where
+pub record DemodAt (R : Rate) (m : SoftDemodulator) (x : ℤ) (room : List Float) (r : After (Option Offer)) (after : List Float) : Type 0 where
   pub answers : heard_paper r.answer ≡ (demodulated R m x room).answer
   pub leaves : r.demodulator ≡ (demodulated R m x room).demodulator
   pub writes : after ≡ (demodulated R m x room).room
 
-abbrev pub DemodSays : SoftDemodulator → ℤ → List Float → AfterSample → List Float → Type 0
+abbrev pub DemodSays : SoftDemodulator → ℤ → List Float → After (Option Offer) → List Float → Type 0
 DemodSays m = DemodAt (rate_of m.rate) m
 
-pub record ReplySays (m : SoftDemodulator) (reply : Reply) (r : AfterReply) : Type 0 where
-  pub answers : replied_paper r.answer ≡ (answered (samples_in_lem m.rate) m reply []).answer
+pub record ReplySays (m : SoftDemodulator) (reply : Reply) (r : After Unit) : Type 0 where
+  pub answers : done_paper r.answer ≡ (answered (samples_in_lem m.rate) m reply []).answer
   pub leaves : r.demodulator ≡ (answered (samples_in_lem m.rate) m reply []).demodulator
 
-abbrev pub DataCarrierDetectSays : SoftDemodulator → Carrier → Type 0
+abbrev pub DataCarrierDetectSays : SoftDemodulator → Result Bool Refusal → Type 0
 DataCarrierDetectSays m r = carrier_paper r ≡ detected (samples_in_lem m.rate) m

@@ -1,10 +1,10 @@
 -- A stretch of samples in one call, said once for any receiver: the single samples one after the other, until one brings an offer or would be refused. Assumes nothing.
-use Rattle.std.specs.Prelude.{◌≡◌, Bool, true, false, cond, List, [], ◌∷◌, ℕ, ◌+◌, eqb, ℤ, Float}
+use Rattle.demodulator.specs.declared.Offer.{Offer}
+use Rattle.protocol.specs.declared.Refusal.{Refusal}
+use Rattle.std.specs.Prelude.{◌≡◌, Bool, true, false, cond, List, [], ◌∷◌, ℕ, ◌+◌, eqb, ℤ, Float, Option, Some, None, Result, Ok, Err}
 use Rattle.shaping.specs.Rate.{Rate, rate_of}
 use Rattle.protocol.specs.Refusals.{bare}
 use Rattle.demodulator.specs.declared.SoftDemodulator.{SoftDemodulator}
-use Rattle.demodulator.specs.declared.Heard.{Heard}
-use Rattle.demodulator.specs.declared.Heard.TheVariants.{Refused, Quiet, Offered}
 use Rattle.demodulator.specs.declared.AfterStretch.{AfterStretch}
 use Rattle.demodulator.specs.Fit.{unfit_number, record_fit_lem}
 use Rattle.demodulator.specs.Calls.{Paper, refusal, nothing, frame, done, carrier, heard_paper, demodulated}
@@ -67,20 +67,20 @@ abbrev pub fed_into : Rate → SoftDemodulator → List ℤ → List Float → S
 fed_into R = fed SoftDemodulator (sample_said R) (sample_next R) (sample_room R) (empty_said R.p)
 
 -- ---- an answer, as the code looks at it
-abbrev pub is_quiet_lem : Heard → Bool
-is_quiet_lem (Refused why) = false
-is_quiet_lem Quiet = true
-is_quiet_lem (Offered o) = false
+abbrev pub is_quiet_lem : Result (Option Offer) Refusal → Bool
+is_quiet_lem (Err why) = false
+is_quiet_lem (Ok None) = true
+is_quiet_lem (Ok (Some o)) = false
 
-abbrev pub went_in : Heard → ℕ
-went_in (Refused why) = 0
-went_in Quiet = 1
-went_in (Offered o) = 1
+abbrev pub went_in : Result (Option Offer) Refusal → ℕ
+went_in (Err why) = 0
+went_in (Ok None) = 1
+went_in (Ok (Some o)) = 1
 
-abbrev pub told_after : ℕ → Heard → Heard
-told_after n (Refused why) = cond (eqb n 0) (Refused why) Quiet
-told_after n Quiet = Quiet
-told_after n (Offered o) = Offered o
+abbrev pub told_after : ℕ → Result (Option Offer) Refusal → Result (Option Offer) Refusal
+told_after n (Err why) = cond (eqb n 0) (Err why) (Ok None)
+told_after n (Ok None) = Ok None
+told_after n (Ok (Some o)) = Ok (Some o)
 
 -- ---- what the function promises
 pub record FeedSays (m : SoftDemodulator) (xs : List ℤ) (room : List Float) (r : AfterStretch) (after : List Float) : Type 0 where

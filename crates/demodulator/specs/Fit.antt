@@ -1,10 +1,9 @@
 -- Document 01's 'Unfit receiver', the phrases of the window and of the ring, around those of the control: a record is fit where its rate is one of the two and no phrase applies. Over p, the samples in a symbol. Assumes nothing.
-use Rattle.std.specs.Prelude.{Bool, false, ◌&&◌, cond, List, ℕ, ◌+◌, ◌-◌, ◌*◌, eqb, ltb, ℤ, pos, negsuc, get_or}
+use Rattle.search.specs.declared.Waiting.{Waiting}
+use Rattle.std.specs.Prelude.{Bool, false, ◌&&◌, cond, List, ℕ, ◌+◌, ◌-◌, ◌*◌, eqb, ltb, ℤ, pos, negsuc, get_or, Option, Some, None}
 use Rattle.numbers.specs.Below.{all_below}
 use Rattle.shaping.specs.Rate.{rate_fit, tap_count, ring_places}
 use Rattle.decode.specs.Correlator.{in_range}
-use Rattle.search.specs.declared.Wait.{Wait}
-use Rattle.search.specs.declared.Wait.TheVariants.{Free, Due}
 use Rattle.search.specs.Fit.{control_fit_lem}
 use Rattle.demodulator.specs.declared.SoftDemodulator.{SoftDemodulator}
 use Rattle.demodulator.specs.Record.{back}
@@ -38,9 +37,9 @@ unfit_number m = cond (rate_fit m.rate) 1 15
 
 -- "in one of the seven ring places this sample's search would read besides the new value or, where the wait is 1, in one of the other places the window reads":
 -- once the sample is stored these are the values p, 2p, .. samples ago, so before it those p - 1, 2p - 1, .. ago
-abbrev pub places_read_lem : Wait → ℕ
-places_read_lem Free = 7
-places_read_lem (Due w) = cond (eqb w.left 1) 191 7
+abbrev pub places_read_lem : Option Waiting → ℕ
+places_read_lem None = 7
+places_read_lem (Some w) = cond (eqb w.left 1) 191 7
 
 unfoldable pub fit_for_sample_lem : ℕ → SoftDemodulator → Bool
 fit_for_sample_lem p m = record_fit_lem p m && all_below (places_read_lem m.control.wait) (λ (j : ℕ). in_range (back p m (p * j + (p - 1))))

@@ -1,11 +1,11 @@
 -- A call over a window and a ring that the caller lends promises what the call on the record does, of the record that the parts make. Assumes nothing.
-use Rattle.std.specs.Prelude.{List, ℕ, ℤ, Float}
+use Rattle.demodulator.specs.declared.After.{After}
+use Rattle.demodulator.specs.declared.Offer.{Offer}
+use Rattle.protocol.specs.declared.Refusal.{Refusal}
+use Rattle.std.specs.Prelude.{List, ℕ, ℤ, Float, Bool, Option, Result}
 use Rattle.search.specs.declared.Control.{Control}
 use Rattle.search.specs.declared.Reply.{Reply}
-use Rattle.demodulator.specs.declared.Heard.{Heard}
-use Rattle.demodulator.specs.declared.Carrier.{Carrier}
 use Rattle.demodulator.specs.declared.AfterStretch.{AfterStretch}
-use Rattle.demodulator.specs.declared.AfterReply.{AfterReply}
 use Rattle.demodulator.specs.declared.lent.FedLent.{FedLent}
 use Rattle.demodulator.specs.declared.lent.RepliedLent.{RepliedLent}
 use Rattle.demodulator.specs.Record.{assembled}
@@ -13,7 +13,7 @@ use Rattle.demodulator.specs.Calls.{ReplySays, DataCarrierDetectSays}
 use Rattle.demodulator.specs.Feed.{FeedSays}
 
 -- "with record and buffers as they were": no sample went in
-abbrev pub kept_parts : Heard → ℕ → ℕ → Control → FedLent
+abbrev pub kept_parts : Result (Option Offer) Refusal → ℕ → ℕ → Control → FedLent
 kept_parts answer windowCursor ringCursor c =
     record { answer = answer; fed = 0; filter_cursor = windowCursor; rx_cursor = ringCursor; control = c }
 
@@ -23,7 +23,7 @@ stretch_of rate window ring r =
     record { answer = r.answer; fed = r.fed; demodulator = assembled rate window r.filter_cursor ring r.rx_cursor r.control }
 
 -- what a reply leaves: of the record the control alone changes
-abbrev pub reply_of : ℕ → List ℤ → List Float → ℕ → ℕ → RepliedLent → AfterReply
+abbrev pub reply_of : ℕ → List ℤ → List Float → ℕ → ℕ → RepliedLent → After Unit
 reply_of rate window ring windowCursor ringCursor r =
     record { answer = r.answer; demodulator = assembled rate window windowCursor ring ringCursor r.control }
 
@@ -38,6 +38,6 @@ ReplyLentSays rate window ring windowCursor ringCursor c reply r =
     ReplySays (assembled rate window windowCursor ring ringCursor c) reply (reply_of rate window ring windowCursor ringCursor r)
 
 -- "Carrier detect is yes exactly while the timer is held": the ring is not asked for, and the answer is the same whatever it holds
-abbrev pub CarrierLentSays : ℕ → List ℤ → ℕ → ℕ → Control → Carrier → Type 0
+abbrev pub CarrierLentSays : ℕ → List ℤ → ℕ → ℕ → Control → Result Bool Refusal → Type 0
 CarrierLentSays rate window windowCursor ringCursor c r =
     (ring : List Float) → DataCarrierDetectSays (assembled rate window windowCursor ring ringCursor c) r

@@ -1,17 +1,15 @@
 -- The receiver's record: its window and its ring, and how the rules read them at a rate. Places and cursors are here, and in the first clauses of fitness. Assumes nothing.
-use Rattle.std.specs.Prelude.{List, false, ℕ, ◌+◌, ◌-◌, ◌%◌, ℤ, pos, get_or, set, replicate, Float}
+use Rattle.std.specs.Prelude.{List, false, ℕ, ◌+◌, ◌-◌, ◌%◌, ℤ, pos, get_or, set, replicate, Float, None}
 use Rattle.std.specs.Float.{nan, binary32}
 use Rattle.std.specs.Float.Ieee.{of_bits}
 use Rattle.shaping.specs.Rate.{Rate, at48, tap_count, window_places, ring_places}
 use Rattle.shaping.specs.Sum.{dot, sample_from}
 use Rattle.search.specs.declared.Candidate.TheVariants.{Nothing}
-use Rattle.search.specs.declared.Wait.TheVariants.{Free}
-use Rattle.search.specs.declared.Timer.TheVariants.{Off}
 use Rattle.search.specs.declared.Control.{Control}
 use Rattle.demodulator.specs.declared.SoftDemodulator.{SoftDemodulator}
 
 abbrev pub fresh_control : Control
-fresh_control = record { candidate = Nothing; wait = Free; dcd = Off; owed = false; sample = 0 }
+fresh_control = record { candidate = Nothing; wait = None; dcd = None; owed = false; sample = 0 }
 
 -- "Samples before the first are 0. F(k) is 0.0 for k below 1."
 -- The arrays have the lengths of 48 kHz at either rate.

@@ -1,9 +1,8 @@
 -- What the functions of a step ask and promise: the definitions of `Calls`, of a record that is given by its parts. Assumes nothing.
-use Rattle.std.specs.Prelude.{◌≡◌, true, false, List, ℕ, ◌^◌, ◌≤◌, ◌<◌, ℤ, length, Float}
+use Rattle.std.specs.Prelude.{◌≡◌, true, false, List, ℕ, ◌^◌, ◌≤◌, ◌<◌, ℤ, length, Float, Err}
 use Rattle.shaping.specs.Rate.{Known, rate_fit, rate_at}
 use Rattle.protocol.specs.declared.Refusal.{Refusal}
 use Rattle.search.specs.declared.Control.{Control}
-use Rattle.demodulator.specs.declared.Heard.TheVariants.{Refused}
 use Rattle.demodulator.specs.declared.step.Places.{Places}
 use Rattle.demodulator.specs.declared.step.Stepped.{Stepped}
 use Rattle.demodulator.specs.Record.{assembled}
@@ -20,7 +19,7 @@ pub record Accepts (p : ℕ) (window : List ℤ) (ring : List Float) (at : Place
 
 -- "Every refusal returns its number only, with record and buffers as they were."
 abbrev pub unmoved : Refusal → Places → Control → Stepped
-unmoved why at c = record { answer = Refused why; places = at; control = c }
+unmoved why at c = record { answer = Err why; places = at; control = c }
 
 -- what `demod` promises of a record, of the record's parts, whichever of the two its rate is
 abbrev pub Steps : ℕ → List ℤ → List Float → Places → Control → ℤ → List Float → Stepped → List ℤ → List Float → List Float → Type 0

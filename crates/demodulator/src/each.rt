@@ -5,47 +5,43 @@ ghost use Rattle.demodulator.specs.Feed.{is_quiet_lem, went_in, told_after};
 ghost use Rattle.demodulator.specs.Stretch.{Lent, FeedsEach};
 
 use crate::step::Places;
-use crate::{Heard, step, stretch};
+use crate::{Offer, step, stretch};
+use protocol::Refusal;
 use search::Control;
+use shaping::PerSymbol;
 
 // What became of the samples, with all of the record that is not lent.
 #[derive(Clone, Copy)]
 pub(crate) struct Fed {
-    pub answer: Heard,
+    pub answer: Result<Option<Offer>, Refusal>,
     pub fed: usize,
     pub places: Places,
     pub control: Control,
 }
 
-fn is_quiet(answer: Heard) -> bool
+fn is_quiet(answer: Result<Option<Offer>, Refusal>) -> bool
     ensures { result ≡ is_quiet_lem answer }
 {
-    match answer {
-        Heard::Refused(_) => false,
-        Heard::Quiet => true,
-        Heard::Offered(_) => false,
-    }
+    matches!(answer, Ok(None))
 }
 
 // How many samples go in with such an answer.
-fn count_in(answer: Heard) -> usize
+fn count_in(answer: Result<Option<Offer>, Refusal>) -> usize
     ensures { result ≡ went_in answer }
 {
     match answer {
-        Heard::Refused(_) => 0,
-        Heard::Quiet => 1,
-        Heard::Offered(_) => 1,
+        Err(_) => 0,
+        Ok(_) => 1,
     }
 }
 
 // Once samples went in, a refusal is left to the call that gives the rest.
-fn tell(answer: Heard, fed: usize) -> Heard
+fn tell(answer: Result<Option<Offer>, Refusal>, fed: usize) -> Result<Option<Offer>, Refusal>
     ensures { result ≡ told_after fed answer }
 {
     match answer {
-        Heard::Refused(_) => if fed == 0 { answer } else { Heard::Quiet },
-        Heard::Quiet => answer,
-        Heard::Offered(_) => answer,
+        Err(_) if fed != 0 => Ok(None),
+        _ => answer,
     }
 }
 
@@ -58,7 +54,7 @@ fn is_plain(halves: bool, room: usize, count: usize) -> bool
 
 // The samples one after the other, until one brings an offer or would be refused. After each stretch one sample goes by itself: so the turn ends, whatever it is.
 pub(crate) fn feed_each(
-    p: usize,
+    p: PerSymbol,
     filter_win: &mut [i16; 162],
     rx_win: &mut [f32; 1920],
     places: Places,
@@ -74,6 +70,7 @@ pub(crate) fn feed_each(
     let mut next = places;
     let mut now = control;
     let mut fed: usize = 0;
+    // A stretch takes as many samples as are quiet, so no range gives the next one's place.
     while fed < samples.len() {
         let stretched = stretch::advance_stretch(
             p,
@@ -89,7 +86,7 @@ pub(crate) fn feed_each(
         fed += stretched.fed;
         if fed == samples.len() {
             return Fed {
-                answer: Heard::Quiet,
+                answer: Ok(None),
                 fed,
                 places: next,
                 control: now,
@@ -113,7 +110,7 @@ pub(crate) fn feed_each(
         fed += 1;
     }
     Fed {
-        answer: Heard::Quiet,
+        answer: Ok(None),
         fed,
         places: next,
         control: now,

@@ -5,12 +5,13 @@ ghost use Rattle.demodulator.specs.Record.{assembled};
 ghost use Rattle.demodulator.specs.Feed.{FeedsNothing, FeedSays};
 
 use crate::step::Places;
-use crate::{AfterStretch, Heard, SoftDemodulator, each, fit};
+use crate::{AfterStretch, SoftDemodulator, each, fit};
 use protocol::Refusal;
 use search::Control;
+use shaping::PerSymbol;
 
 // No sample is given, so no filtered value is tested.
-fn feed_nothing(p: usize, demodulator: SoftDemodulator) -> AfterStretch
+fn feed_nothing(p: PerSymbol, demodulator: SoftDemodulator) -> AfterStretch
     requires { (rate_fit demodulator.rate ≡ true) × (p ≡ samples_in_lem demodulator.rate) }
     ensures { FeedsNothing demodulator result }
 {
@@ -24,13 +25,13 @@ fn feed_nothing(p: usize, demodulator: SoftDemodulator) -> AfterStretch
         control,
     ) {
         return AfterStretch {
-            answer: Heard::Refused(Refusal::RecordUnfit),
+            answer: Err(Refusal::RecordUnfit),
             fed: 0,
             demodulator,
         };
     }
     AfterStretch {
-        answer: Heard::Quiet,
+        answer: Ok(None),
         fed: 0,
         demodulator,
     }
@@ -62,14 +63,13 @@ impl SoftDemodulator {
         ensures { FeedSays self samples.now room.old result room.new }
     {
         let rate = self.rate;
-        if !shaping::is_rate(rate) {
+        let Some(p) = PerSymbol::of(rate) else {
             return AfterStretch {
-                answer: Heard::Refused(Refusal::WrongRate),
+                answer: Err(Refusal::WrongRate),
                 fed: 0,
                 demodulator: self,
             };
-        }
-        let p = shaping::samples_in(rate);
+        };
         if samples.len() == 0 {
             return feed_nothing(p, self);
         }

@@ -1,16 +1,17 @@
 // The calls over a window and a ring that the caller lends, changed in place: nothing of the record's 8 KB is copied.
-ghost use Rattle.std.specs.Prelude.{◌≡◌, length};
+ghost use Rattle.std.specs.Prelude.{◌≡◌};
 ghost use Rattle.demodulator.specs.Lent.{kept_parts, FeedLentSays, ReplyLentSays, CarrierLentSays};
 
 use crate::step::Places;
-use crate::{Carrier, Heard, Replied, Reply, each, fit, ring};
+use crate::{Offer, Reply, each, fit, ring};
 use protocol::Refusal;
-use search::{Control, Timer};
+use search::Control;
+use shaping::PerSymbol;
 
 // What became of the samples, with all of the record that is not lent.
 #[derive(Clone, Copy)]
 pub struct FedLent {
-    pub answer: Heard,
+    pub answer: Result<Option<Offer>, Refusal>,
     pub fed: usize,
     pub filter_cursor: usize,
     pub rx_cursor: usize,
@@ -20,12 +21,17 @@ pub struct FedLent {
 // What became of a reply: of the record the control alone changes.
 #[derive(Clone, Copy)]
 pub struct RepliedLent {
-    pub answer: Replied,
+    pub answer: Result<(), Refusal>,
     pub control: Control,
 }
 
 // No sample went in.
-fn keep(answer: Heard, filter_cursor: usize, rx_cursor: usize, control: Control) -> FedLent
+fn keep(
+    answer: Result<Option<Offer>, Refusal>,
+    filter_cursor: usize,
+    rx_cursor: usize,
+    control: Control,
+) -> FedLent
     ensures { result ≡ kept_parts answer filter_cursor rx_cursor control }
 {
     FedLent {
@@ -35,27 +41,6 @@ fn keep(answer: Heard, filter_cursor: usize, rx_cursor: usize, control: Control)
         rx_cursor,
         control,
     }
-}
-
-fn has_162(filter_win: [i16; 162]) -> bool
-    ensures { length filter_win ≡ 162 }
-{
-    true
-}
-
-fn has_1920(rx_win: [f32; 1920]) -> bool
-    ensures { length rx_win ≡ 1920 }
-{
-    true
-}
-
-// How many places a lent array has is known of its value alone: the copies are the proof's, and the compiler leaves them out.
-fn are_whole(filter_win: &[i16; 162], rx_win: &[f32; 1920]) -> bool
-    ensures { (length filter_win.now ≡ 162) × (length rx_win.now ≡ 1920) }
-{
-    let window = *filter_win;
-    let ring = *rx_win;
-    has_162(window) & has_1920(ring)
 }
 
 // The samples one after the other, until one brings an offer or would be refused. Only the first can be refused:
@@ -72,32 +57,20 @@ pub fn feed_lent(
 ) -> FedLent
     ensures { FeedLentSays rate filter_win.old rx_win.old filter_cursor rx_cursor control samples.now room.old result filter_win.new rx_win.new room.new }
 {
-    if !shaping::is_rate(rate) {
-        return keep(
-            Heard::Refused(Refusal::WrongRate),
-            filter_cursor,
-            rx_cursor,
-            control,
-        );
-    }
-    let p = shaping::samples_in(rate);
+    let Some(p) = PerSymbol::of(rate) else {
+        return keep(Err(Refusal::WrongRate), filter_cursor, rx_cursor, control);
+    };
     let halves = fit::halves_agree(p, &*filter_win);
     if samples.len() == 0 {
         if !fit::record_fit(p, halves, filter_cursor, rx_cursor, control) {
-            return keep(
-                Heard::Refused(Refusal::RecordUnfit),
-                filter_cursor,
-                rx_cursor,
-                control,
-            );
+            return keep(Err(Refusal::RecordUnfit), filter_cursor, rx_cursor, control);
         }
-        return keep(Heard::Quiet, filter_cursor, rx_cursor, control);
+        return keep(Ok(None), filter_cursor, rx_cursor, control);
     }
     let places = Places {
         filter_cursor,
         rx_cursor,
     };
-    are_whole(&*filter_win, &*rx_win);
     let done = each::feed_each(
         p, filter_win, rx_win, places, control, halves, samples, room,
     );
@@ -125,31 +98,30 @@ pub fn reply_lent(
 ) -> RepliedLent
     ensures { ReplyLentSays rate filter_win.now rx_win.now filter_cursor rx_cursor control reply result }
 {
-    if !shaping::is_rate(rate) {
+    let Some(p) = PerSymbol::of(rate) else {
         return RepliedLent {
-            answer: Replied::Refused(Refusal::WrongRate),
+            answer: Err(Refusal::WrongRate),
             control,
         };
-    }
-    let p = shaping::samples_in(rate);
+    };
     let halves = fit::halves_agree(p, filter_win);
     if !fit::fit_for_reply(p, halves, rx_win, filter_cursor, rx_cursor, control) {
         return RepliedLent {
-            answer: Replied::Refused(Refusal::RecordUnfit),
+            answer: Err(Refusal::RecordUnfit),
             control,
         };
     }
     if !control.owed {
         return RepliedLent {
-            answer: Replied::Refused(Refusal::NoReplyOwed),
+            answer: Err(Refusal::NoReplyOwed),
             control,
         };
     }
     let values = ring::eight(p, rx_win, rx_cursor);
-    let symbol = p as u8;
+    let symbol = p.samples() as u8;
     let settled = search::replied(symbol, control, reply, values);
     RepliedLent {
-        answer: Replied::Done,
+        answer: Ok(()),
         control: settled,
     }
 }
@@ -161,20 +133,15 @@ pub fn carrier_lent(
     filter_cursor: usize,
     rx_cursor: usize,
     control: Control,
-) -> Carrier
+) -> Result<bool, Refusal>
     ensures { CarrierLentSays rate filter_win.now filter_cursor rx_cursor control result }
 {
-    if !shaping::is_rate(rate) {
-        return Carrier::Refused(Refusal::WrongRate);
-    }
-    let p = shaping::samples_in(rate);
+    let Some(p) = PerSymbol::of(rate) else {
+        return Err(Refusal::WrongRate);
+    };
     let halves = fit::halves_agree(p, filter_win);
     if !fit::record_fit(p, halves, filter_cursor, rx_cursor, control) {
-        return Carrier::Refused(Refusal::RecordUnfit);
+        return Err(Refusal::RecordUnfit);
     }
-    let timer = control.dcd;
-    match timer {
-        Timer::Off => Carrier::Detected(false),
-        Timer::Until(_) => Carrier::Detected(true),
-    }
+    Ok(control.dcd.is_some())
 }

@@ -4,6 +4,7 @@
 ghost use Rattle.demodulator.specs.Calls.{NewSays, DemodSays, ReplySays, DataCarrierDetectSays};
 
 use protocol::{Kind, Refusal};
+use shaping::PerSymbol;
 use step::Places;
 
 mod each;
@@ -16,7 +17,7 @@ mod step;
 mod stretch;
 
 pub use lent::{FedLent, RepliedLent, carrier_lent, feed_lent, reply_lent};
-pub use search::{Candidate, Control, Reply, Timer, Wait, Waiting};
+pub use search::{Candidate, Control, Reply, Waiting};
 
 // At 24 kHz the first 82 places of the window and the first 960 of the ring are used.
 #[derive(Clone, Copy)]
@@ -42,44 +43,10 @@ pub struct Offer {
     pub gain: f32,
 }
 
-// What comes of asking for a fresh record.
+// A call's answer, or why it is refused, and the record that the next call is given.
 #[derive(Clone, Copy)]
-pub enum Made {
-    Refused(Refusal),
-    Done,
-}
-
-// What a sample is answered with.
-#[derive(Clone, Copy)]
-pub enum Heard {
-    Refused(Refusal),
-    Quiet,
-    Offered(Offer),
-}
-
-// What a reply is answered with.
-#[derive(Clone, Copy)]
-pub enum Replied {
-    Refused(Refusal),
-    Done,
-}
-
-#[derive(Clone, Copy)]
-pub enum Carrier {
-    Refused(Refusal),
-    Detected(bool),
-}
-
-// An answer, and the record that the next call is given.
-#[derive(Clone, Copy)]
-pub struct AfterNew {
-    pub answer: Made,
-    pub demodulator: SoftDemodulator,
-}
-
-#[derive(Clone, Copy)]
-pub struct AfterSample {
-    pub answer: Heard,
+pub struct After<A> {
+    pub answer: Result<A, Refusal>,
     pub demodulator: SoftDemodulator,
 }
 
@@ -87,20 +54,14 @@ pub struct AfterSample {
 // after a quiet one that is shorter than what was given, the rest would be refused.
 #[derive(Clone, Copy)]
 pub struct AfterStretch {
-    pub answer: Heard,
+    pub answer: Result<Option<Offer>, Refusal>,
     pub fed: usize,
-    pub demodulator: SoftDemodulator,
-}
-
-#[derive(Clone, Copy)]
-pub struct AfterReply {
-    pub answer: Replied,
     pub demodulator: SoftDemodulator,
 }
 
 impl SoftDemodulator {
     // A fresh record of a rate. A rate that is none is refused, and beside the refusal comes a fresh record that says it: every call refuses that.
-    pub fn new(rate: u32) -> AfterNew
+    pub fn new(rate: u32) -> After<()>
         ensures { NewSays rate result }
     {
         let demodulator = SoftDemodulator {
@@ -111,36 +72,35 @@ impl SoftDemodulator {
             rx_cursor: 0,
             control: Control {
                 candidate: Candidate::Nothing,
-                wait: Wait::Free,
-                dcd: Timer::Off,
+                wait: None,
+                dcd: None,
                 owed: false,
                 sample: 0,
             },
         };
         if !shaping::is_rate(rate) {
-            return AfterNew {
-                answer: Made::Refused(Refusal::WrongRate),
+            return After {
+                answer: Err(Refusal::WrongRate),
                 demodulator,
             };
         }
-        AfterNew {
-            answer: Made::Done,
+        After {
+            answer: Ok(()),
             demodulator,
         }
     }
 
     // A sample: refused, quiet, or a frame offered, whose symbols are then the room's first 192. Window and ring are copied, lent to the step, and built into the record again.
-    pub fn demod(self, sample: i16, room: &mut [f32]) -> AfterSample
+    pub fn demod(self, sample: i16, room: &mut [f32]) -> After<Option<Offer>>
         ensures { DemodSays self sample room.old result room.new }
     {
         let rate = self.rate;
-        if !shaping::is_rate(rate) {
-            return AfterSample {
-                answer: Heard::Refused(Refusal::WrongRate),
+        let Some(p) = PerSymbol::of(rate) else {
+            return After {
+                answer: Err(Refusal::WrongRate),
                 demodulator: self,
             };
-        }
-        let p = shaping::samples_in(rate);
+        };
         let mut filter_win = self.filter_win;
         let halves = fit::halves_agree(p, &filter_win);
         let mut rx_win = self.rx_win;
@@ -162,7 +122,7 @@ impl SoftDemodulator {
         let next = stepped.places;
         let control = stepped.control;
         let answer = stepped.answer;
-        AfterSample {
+        After {
             answer,
             demodulator: SoftDemodulator {
                 rate,
@@ -176,17 +136,16 @@ impl SoftDemodulator {
     }
 
     // The reply to an offer: accepted, the sample is finished; rejected, it is searched.
-    pub fn reply(self, reply: Reply) -> AfterReply
+    pub fn reply(self, reply: Reply) -> After<()>
         ensures { ReplySays self reply result }
     {
         let rate = self.rate;
-        if !shaping::is_rate(rate) {
-            return AfterReply {
-                answer: Replied::Refused(Refusal::WrongRate),
+        let Some(p) = PerSymbol::of(rate) else {
+            return After {
+                answer: Err(Refusal::WrongRate),
                 demodulator: self,
             };
-        }
-        let p = shaping::samples_in(rate);
+        };
         let control = self.control;
         let halves = fit::halves_agree(p, &self.filter_win);
         if !fit::fit_for_reply(
@@ -197,46 +156,41 @@ impl SoftDemodulator {
             self.rx_cursor,
             control,
         ) {
-            return AfterReply {
-                answer: Replied::Refused(Refusal::RecordUnfit),
+            return After {
+                answer: Err(Refusal::RecordUnfit),
                 demodulator: self,
             };
         }
         if !control.owed {
-            return AfterReply {
-                answer: Replied::Refused(Refusal::NoReplyOwed),
+            return After {
+                answer: Err(Refusal::NoReplyOwed),
                 demodulator: self,
             };
         }
         let values = ring::eight(p, &self.rx_win, self.rx_cursor);
-        let symbol = p as u8;
+        let symbol = p.samples() as u8;
         let settled = search::replied(symbol, control, reply, values);
         let mut demodulator = self;
         demodulator.control = settled;
-        AfterReply {
-            answer: Replied::Done,
+        After {
+            answer: Ok(()),
             demodulator,
         }
     }
 
     // Whether the carrier timer is held. The Rust always says no.
-    pub fn data_carrier_detect(self) -> Carrier
+    pub fn data_carrier_detect(self) -> Result<bool, Refusal>
         ensures { DataCarrierDetectSays self result }
     {
         let rate = self.rate;
-        if !shaping::is_rate(rate) {
-            return Carrier::Refused(Refusal::WrongRate);
-        }
-        let p = shaping::samples_in(rate);
+        let Some(p) = PerSymbol::of(rate) else {
+            return Err(Refusal::WrongRate);
+        };
         let control = self.control;
         let halves = fit::halves_agree(p, &self.filter_win);
         if !fit::record_fit(p, halves, self.filter_cursor, self.rx_cursor, control) {
-            return Carrier::Refused(Refusal::RecordUnfit);
+            return Err(Refusal::RecordUnfit);
         }
-        let timer = control.dcd;
-        match timer {
-            Timer::Off => Carrier::Detected(false),
-            Timer::Until(_) => Carrier::Detected(true),
-        }
+        Ok(control.dcd.is_some())
     }
 }

@@ -1,12 +1,12 @@
 // One sample at p samples a symbol, over a window and a ring that the caller lends: nothing large is copied.
 ghost use Rattle.std.specs.Prelude.{◌≡◌};
-ghost use Rattle.shaping.specs.Rate.{Known};
 ghost use Rattle.demodulator.specs.Fit.{halves_agree_lem};
 ghost use Rattle.demodulator.specs.Steps.{Accepts, Steps, unmoved};
 
-use crate::{Heard, Offer, fit, ring};
+use crate::{Offer, fit, ring};
 use protocol::Refusal;
 use search::{Control, LAST_COUNT, Turn};
+use shaping::PerSymbol;
 
 // Where the window and the ring are written next.
 #[derive(Clone, Copy)]
@@ -18,14 +18,14 @@ pub(crate) struct Places {
 // An answer, with all of the record that is not lent.
 #[derive(Clone, Copy)]
 pub(crate) struct Stepped {
-    pub answer: Heard,
+    pub answer: Result<Option<Offer>, Refusal>,
     pub places: Places,
     pub control: Control,
 }
 
 // The sample is taken: nothing refuses it.
 fn advance(
-    p: usize,
+    p: PerSymbol,
     filter_win: &mut [i16; 162],
     rx_win: &mut [f32; 1920],
     places: Places,
@@ -39,8 +39,9 @@ fn advance(
     let filter_cursor = places.filter_cursor;
     let rx_cursor = places.rx_cursor;
     ring::store(p, filter_win, filter_cursor, rx_win, rx_cursor, sample);
-    let filter_next = ring::place_after(8 * p + 1, filter_cursor);
-    let rx_next = ring::place_after(192 * p, rx_cursor);
+    let per = p.samples();
+    let filter_next = ring::place_after(8 * per + 1, filter_cursor);
+    let rx_next = ring::place_after(192 * per, rx_cursor);
     let places = Places {
         filter_cursor: filter_next,
         rx_cursor: rx_next,
@@ -49,7 +50,7 @@ fn advance(
     let turn = search::turn_of(control, number);
     match turn {
         Turn::Rest(rested) => Stepped {
-            answer: Heard::Quiet,
+            answer: Ok(None),
             places,
             control: rested,
         },
@@ -60,24 +61,24 @@ fn advance(
             ring::write_window(p, &*rx_win, rx_next, shown, room);
             let kind = shown.kind;
             Stepped {
-                answer: Heard::Offered(Offer {
+                answer: Ok(Some(Offer {
                     kind,
                     sample: owing.sample,
                     taken_at: shown.taken_at,
                     age: shown.age,
                     replaced: shown.replaced,
                     gain: shown.gain,
-                }),
+                })),
                 places,
                 control: owing,
             }
         }
         Turn::Look(looking) => {
             let values = ring::eight(p, &*rx_win, rx_next);
-            let symbol = p as u8;
+            let symbol = per as u8;
             let found = search::searched(symbol, looking, values);
             Stepped {
-                answer: Heard::Quiet,
+                answer: Ok(None),
                 places,
                 control: found,
             }
@@ -89,7 +90,7 @@ fn refused(why: Refusal, places: Places, control: Control) -> Stepped
     ensures { result ≡ unmoved why places control }
 {
     Stepped {
-        answer: Heard::Refused(why),
+        answer: Err(why),
         places,
         control,
     }
@@ -97,7 +98,7 @@ fn refused(why: Refusal, places: Places, control: Control) -> Stepped
 
 // All that can refuse a sample is tested before anything is written; whether the window's halves agree is the caller's to test, once for all its samples.
 pub(crate) fn step(
-    p: usize,
+    p: PerSymbol,
     filter_win: &mut [i16; 162],
     rx_win: &mut [f32; 1920],
     places: Places,
@@ -106,7 +107,7 @@ pub(crate) fn step(
     sample: i16,
     room: &mut [f32],
 ) -> Stepped
-    requires { (Known p) × (halves ≡ halves_agree_lem p filter_win.old) }
+    requires { halves ≡ halves_agree_lem p filter_win.old }
     ensures { Steps p filter_win.old rx_win.old places control sample room.old result filter_win.new rx_win.new room.new }
 {
     if !fit::fit_for_sample(

@@ -6,7 +6,8 @@ ghost use Rattle.demodulator.specs.Stretch.{Inside, StoresKnown, HasValues, Stor
 
 use crate::step::Places;
 use crate::{ring, row};
-use search::{Control, Wait};
+use search::{Control, Waiting};
+use shaping::PerSymbol;
 
 // The most samples at once: 13 blocks of 48. At either rate a frame that is found in them is not due in them.
 const MOST: usize = 624;
@@ -24,24 +25,25 @@ pub(crate) struct Stretched {
 
 // A sample whose filtered value is known.
 fn store_known(
-    p: usize,
+    p: PerSymbol,
     filter_win: &mut [i16; 162],
     rx_win: &mut [f32; 1920],
     places: Places,
     sample: i16,
     filtered: f32,
 ) -> Places
-    requires { (p ≤ 10) × (Inside p places) }
+    requires { Inside p places }
     ensures { StoresKnown p filter_win.old rx_win.old places sample filtered filter_win.new rx_win.new result }
 {
     let filter_cursor = places.filter_cursor;
     let rx_cursor = places.rx_cursor;
+    let per = p.samples();
     filter_win[filter_cursor] = sample;
-    let again = filter_cursor + (8 * p + 1);
+    let again = filter_cursor + (8 * per + 1);
     filter_win[again] = sample;
     rx_win[rx_cursor] = filtered;
-    let filter_next = ring::place_after(8 * p + 1, filter_cursor);
-    let rx_next = ring::place_after(192 * p, rx_cursor);
+    let filter_next = ring::place_after(8 * per + 1, filter_cursor);
+    let rx_next = ring::place_after(192 * per, rx_cursor);
     Places {
         filter_cursor: filter_next,
         rx_cursor: rx_next,
@@ -50,7 +52,7 @@ fn store_known(
 
 // The first `n` samples of the stretch, with their filtered values.
 fn store_all(
-    p: usize,
+    p: PerSymbol,
     filter_win: &mut [i16; 162],
     rx_win: &mut [f32; 1920],
     places: Places,
@@ -61,38 +63,29 @@ fn store_all(
     requires { HasValues p filter_win.old rx_win.old places samples.now row.now n }
     ensures { StoresAll p filter_win.old rx_win.old places samples.now n filter_win.new rx_win.new result }
 {
-    let before = 7 * p;
+    let before = 7 * p.samples();
     let mut next = places;
-    let mut k: usize = 0;
-    while k < n {
-        let at = before + k;
-        let sample = samples[k];
-        next = store_known(p, filter_win, rx_win, next, sample, row[at]);
-        k += 1;
+    for (k, sample) in samples[..n].iter().enumerate() {
+        next = store_known(p, filter_win, rx_win, next, *sample, row[before + k]);
     }
     next
 }
 
-fn fewer(a: usize, b: usize) -> usize
-    ensures { result ≡ min a b }
-{
-    if a < b { a } else { b }
-}
-
 // How many of the samples to try: those before the one at which an awaited frame is due, but a stretch's most.
-fn count_quiet(left: usize, wait: Wait) -> usize
+#[tactic(auto, unfolding(quiet::specs::Walk::before_due))]
+fn count_quiet(left: usize, wait: Option<Waiting>) -> usize
     ensures { result ≡ before_due wait (min left 624) }
 {
-    let most = fewer(left, MOST);
+    let most = left.min(MOST);
     match wait {
-        Wait::Free => most,
-        Wait::Due(w) => fewer(numbers::saturating_sub(w.left as usize, 1), most),
+        None => most,
+        Some(w) => (w.left as usize).saturating_sub(1).min(most),
     }
 }
 
 // The filtered values in a row say how many of the samples are quiet; these are stored.
 fn walk_stretch(
-    p: usize,
+    p: PerSymbol,
     filter_win: &mut [i16; 162],
     rx_win: &mut [f32; 1920],
     places: Places,
@@ -113,7 +106,7 @@ fn walk_stretch(
         &mut straight,
         &mut values,
     );
-    let walked = quiet::walk(p, &values, samples.len(), control);
+    let walked = quiet::walk(p.samples(), &values, samples.len(), control);
     let fed = walked.fed;
     let control = walked.control;
     let places = store_all(p, filter_win, rx_win, places, samples, &values, fed);
@@ -126,7 +119,7 @@ fn walk_stretch(
 
 // As many of the samples as are quiet and cannot be refused, up to a stretch's most; none where they are few, or where stretches are not tried.
 pub(crate) fn advance_stretch(
-    p: usize,
+    p: PerSymbol,
     filter_win: &mut [i16; 162],
     rx_win: &mut [f32; 1920],
     places: Places,
@@ -150,8 +143,9 @@ pub(crate) fn advance_stretch(
     if n < FEW {
         return none;
     }
-    let count = 8 * p + 1;
-    let ring = 192 * p;
+    let per = p.samples();
+    let count = 8 * per + 1;
+    let ring = 192 * per;
     if count <= places.filter_cursor {
         return none;
     }

@@ -1,4 +1,5 @@
 -- A burst that ends at sample n + 1, for the first: the candidate is taken there, fails at the next, and its frame falls due. Over every such list of samples, at a rate. Assumes nothing.
+use Rattle.std.specs.Prelude.{Option, None}
 use mathlib.Core.Path.{◌≡◌, refl, sym, ap, ◌∙◌}
 use mathlib.Core.Bool.{Bool, false}
 use mathlib.Core.List.{List, [], ◌∷◌, ◌++◌, append_assoc}
@@ -12,8 +13,6 @@ use Rattle.shaping.specs.Rate.{Rate}
 use Rattle.shaping.proofs.RateFacts.{Facts}
 use Rattle.protocol.specs.declared.Kind.{Kind}
 use Rattle.search.specs.declared.Candidate.{Candidate}
-use Rattle.search.specs.declared.Wait.TheVariants.{Free}
-use Rattle.search.specs.declared.Timer.{Timer}
 use Rattle.search.specs.declared.Control.{Control}
 use Rattle.search.specs.TakenBurst.{TakenBurst, held_as, shown_of}
 use Rattle.search.specs.Search.{same_kind}
@@ -58,13 +57,13 @@ module _ (R : Rate) (F : Facts R) (n : ℕ) (front : List ℤ) (x y : ℤ) (more
 
   -- nothing matches before, and there one kind does
   module _ (silent : (m : ℕ) → m ≤ n → Hits (ear m) none) (k : Kind) (first : Hits (ear (n + 1)) (same_kind k)) where
-    pub after_first : (t : Timer) × (history_all R.taps R.p (fed up_to_first) ≡ standing up_to_first (held_as (taken_at_lem ear k (n + 1))) Free t (n + 1))
+    pub after_first : (t : Option ℕ) × (history_all R.taps R.p (fed up_to_first) ≡ standing up_to_first (held_as (taken_at_lem ear k (n + 1))) None t (n + 1))
     after_first = after_take R F n front x (y ∷ more) long small few silent k first
 
     -- at the next sample it fails: what the pass leaves then
     module _ (hit : Kind → Bool) (second : Hits (ear (n + 1 + 1)) hit) (held : Candidate) (age : ℕ) (mark : Bool) (left : ℕ)
-        (leaves : (t : Timer) → (u : Timer) × ((pass_by R.p hit (λ j. at ear j (n + 1 + 1)) (controlled (held_as (taken_at_lem ear k (n + 1))) Free t false (n + 1 + 1))).control ≡ controlled held (waiting age mark left) u false (n + 1 + 1))) where
-      pub after_second : (t : Timer) × (history_all R.taps R.p (fed up_to_second) ≡ standing up_to_second held (waiting age mark left) t (n + 1 + 1))
+        (leaves : (t : Option ℕ) → (u : Option ℕ) × ((pass_by R.p hit (λ j. at ear j (n + 1 + 1)) (controlled (held_as (taken_at_lem ear k (n + 1))) None t false (n + 1 + 1))).control ≡ controlled held (waiting age mark left) u false (n + 1 + 1))) where
+      pub after_second : (t : Option ℕ) × (history_all R.taps R.p (fed up_to_second) ≡ standing up_to_second held (waiting age mark left) t (n + 1 + 1))
       after_second =
           let (t, e) = after_first in
           let (u, f) = next_search R all up_to_first y more (n + 1) length_first part_first counts (held_as (taken_at_lem ear k (n + 1))) t hit second in
@@ -76,7 +75,7 @@ module _ (R : Rate) (F : Facts R) (n : ℕ) (front : List ℤ) (x y : ℤ) (more
         inside : n + 1 + 1 + left ≤ 2 ^ 63
         inside = omega (arith, length-append front (x ∷ y ∷ more), ap length goes, length-append zs (z ∷ rest))
 
-        pub before_due : (t : Timer) × (history_all R.taps R.p (fed (up_to_second ++ zs)) ≡ standing (up_to_second ++ zs) held (last_sample age mark) t (n + 1 + left))
+        pub before_due : (t : Option ℕ) × (history_all R.taps R.p (fed (up_to_second ++ zs)) ≡ standing (up_to_second ++ zs) held (last_sample age mark) t (n + 1 + left))
         before_due =
             let (t, e) = after_second in
             let (u, f) = wait_run R age mark zs up_to_second held t (n + 1 + 1) left (omega (arith, inside)) (omega arith) in
@@ -104,7 +103,7 @@ module _ (R : Rate) (F : Facts R) (n : ℕ) (front : List ℤ) (x y : ℤ) (zero
 
   module _ (silent : (m : ℕ) → m ≤ n → Hits (heard m) none) (k : Kind) (first : Hits (heard (n + 1)) (same_kind k)) (hit : Kind → Bool) (second : Hits (heard (n + 1 + 1)) hit)
       (now : TakenBurst) (age : ℕ) (mark : Bool) (left : ℕ) (some : 1 ≤ left) (short : left ≤ zeros)
-      (leaves : (t : Timer) → (u : Timer) × ((pass_by R.p hit (λ j. at heard j (n + 1 + 1)) (controlled (held_as (taken_at_lem heard k (n + 1))) Free t false (n + 1 + 1))).control ≡ controlled (held_as now) (waiting age mark left) u false (n + 1 + 1))) where
+      (leaves : (t : Option ℕ) → (u : Option ℕ) × ((pass_by R.p hit (λ j. at heard j (n + 1 + 1)) (controlled (held_as (taken_at_lem heard k (n + 1))) None t false (n + 1 + 1))).control ≡ controlled (held_as now) (waiting age mark left) u false (n + 1 + 1))) where
     pub falls_due_in : In (FellDue (n + 1 + 1 + left) (shown_of now age mark)) (log_all R.taps R.p (fed (front ++ (x ∷ y ∷ pause zeros))))
     falls_due_in =
         let goes : pause zeros ≡ pause (left - 1) ++ (pos 0 ∷ pause (zeros - left)) =

@@ -1,4 +1,5 @@
 -- Demand 3 on three lists of samples: the span, the rule, its corner, and a replacement. Assumes nothing.
+use Rattle.std.specs.Prelude.{Some}
 use mathlib.Core.Path.{◌≡◌, sym, ap, ◌∙◌, subst}
 use mathlib.Core.Bool.{true, false}
 use mathlib.Core.Logic.{◌⊎◌, inl, inr}
@@ -15,7 +16,6 @@ use Rattle.protocol.specs.declared.Kind.TheVariants.{Lsf, Stream}
 use Rattle.protocol.specs.declared.SyncBurst.TheVariants.{Frame}
 use Rattle.decode.specs.declared.Correlation.{Correlation}
 use Rattle.decode.specs.Correlator.{correlation}
-use Rattle.search.specs.declared.Timer.TheVariants.{Until}
 use Rattle.search.specs.declared.Shown.{Shown}
 use Rattle.search.specs.TakenBurst.{aged}
 use Rattle.demodulator_run.specs.Marks.{log_all, FellDue}
@@ -42,7 +42,7 @@ one_burst_span_sharp = spans_sharp one_burst
 pub one_burst_due : In (FellDue 1911 (shown_at (shaped one_burst) Stream 71 1 false)) (log_all taps 10 (calls one_burst))
 one_burst_due =
     due_mark one_burst (taken_at_lem (shaped one_burst) Stream 71) 1 false 1839 (lit≤ tt) (lit≤ tt)
-    (λ t. (Until (72 + 384 * 10), ap (λ (s : Step). s.control) (pass_lost 10 (λ i. at (shaped one_burst) i 72) t false 72 (taken_at_lem (shaped one_burst) Stream 71))))
+    (λ t. (Some (72 + 384 * 10), ap (λ (s : Step). s.control) (pass_lost 10 (λ i. at (shaped one_burst) i 72) t false 72 (taken_at_lem (shaped one_burst) Stream 71))))
 
 -- it is the only one of the span, and comes from that candidate
 pub one_burst_once : (d : ℕ) → DueAt (log_all taps 10 (calls one_burst)) d → 71 + 1839 ≤ d → d ≤ 71 + 1879 → d ≡ 1911
@@ -95,7 +95,7 @@ earlier_above =
 pub corner_due : In (FellDue 1910 (shown_at (shaped earlier_larger) Stream 71 2 false)) (log_all taps 10 (calls earlier_larger))
 corner_due =
     due_mark earlier_larger (aged (taken_at_lem (shaped earlier_larger) Stream 71)) 2 false 1838 (lit≤ tt) (lit≤ tt)
-    (λ t. (Until (72 + 384 * 10), ap (λ (s : Step). s.control) (pass_hit 10 (λ i. at (shaped earlier_larger) i 72) t false 72 (taken_at_lem (shaped earlier_larger) Stream 71) Lsf true earlier_above)))
+    (λ t. (Some (72 + 384 * 10), ap (λ (s : Step). s.control) (pass_hit 10 (λ i. at (shaped earlier_larger) i 72) t false 72 (taken_at_lem (shaped earlier_larger) Stream 71) Lsf true earlier_above)))
 
 pub corner_rule : (K : Known earlier_larger 1910 (shown_at (shaped earlier_larger) Stream 71 2 false)) × Corner (shaped earlier_larger) K.from.b K.from.kind K.from.s
 corner_rule =
@@ -120,7 +120,7 @@ later_not_above =
 pub replaced_due : In (FellDue 1911 (shown_at (shaped later_smaller) Stream 72 1 true)) (log_all taps 10 (calls later_smaller))
 replaced_due =
     due_mark later_smaller (taken_at_lem (shaped later_smaller) Stream 72) 1 true 1839 (lit≤ tt) (lit≤ tt)
-    (λ t. (Until (72 + 384 * 10), ap (λ (s : Step). s.control) (pass_hit 10 (λ i. at (shaped later_smaller) i 72) t false 72 (taken_at_lem (shaped later_smaller) Lsf 71) Stream false later_not_above)))
+    (λ t. (Some (72 + 384 * 10), ap (λ (s : Step). s.control) (pass_hit 10 (λ i. at (shaped later_smaller) i 72) t false 72 (taken_at_lem (shaped later_smaller) Lsf 71) Stream false later_not_above)))
 
 pub replaced_rule : (K : Known later_smaller 1911 (shown_at (shaped later_smaller) Stream 72 1 true)) × Replaces (shaped later_smaller) 71 Lsf 72 Stream
 replaced_rule =

@@ -1,8 +1,9 @@
 -- At 24 kHz a Stream burst, and on the next sample an LSF burst, an earlier-listed kind, with a larger diff: the frame is due 919 after the take. Assumes nothing.
+use Rattle.std.specs.Prelude.{Some}
 use mathlib.Core.Path.{◌≡◌, refl, ap, ◌∙◌}
 use mathlib.Core.Bool.{true, false}
 use mathlib.Core.List.{List, [], ◌∷◌, ◌++◌, map}
-use Prim.Native.Nat.{ℕ, ◌+◌, ◌*◌}
+use Prim.Native.Nat.{◌+◌, ◌*◌}
 use lib.Dec.{T, lit≤}
 use lib.IntN.{ℤ, pos, negsuc}
 use lib.Ieee.{Float, binary32, of_bits, of_int, add, sub, mul, div, neg, lt, eq}
@@ -18,13 +19,12 @@ use Rattle.protocol.specs.declared.SyncBurst.TheVariants.{Frame}
 use Rattle.decode.specs.declared.Correlation.{Correlation}
 use Rattle.decode.specs.Correlator.{zero_unsigned, highest, lowest, gain_of, shift_of, symbol_of, distance_of, summed, diff_of, correlation, matches}
 use Rattle.search.specs.Search.{same_kind}
-use Rattle.search.specs.declared.Timer.TheVariants.{Until}
 use Rattle.search.specs.TakenBurst.{aged}
 use Rattle.demodulator_run.specs.Filter.{sample_no_lem, filtered}
 use Rattle.demodulator_run.specs.Marks.{FellDue, log_all}
 use Rattle.demodulator_run.specs.Demands.{at, In, shown_at, taken_at_lem}
 use Rattle.demodulator_run.proofs.Pass.{Step, pass_hit}
-use Rattle.demodulator_examples.proofs.Table.{all_sixteen, listed, matched, silent}
+use Rattle.demodulator_examples.proofs.Table.{all_sixteen, listed, matched}
 use Rattle.demodulator_examples.proofs.Fits.{Fits, tested, fits}
 use Rattle.demodulator_examples.proofs.Sketch24.{Sketch24, calls24, ear24, correlates24, due24}
 
@@ -75,4 +75,4 @@ compared =
 pub corner_due_24 : In (FellDue 955 (shown_at (ear24 earlier_larger24) Stream 36 2 false)) (log_all even_taps 5 (calls24 earlier_larger24))
 corner_due_24 =
     due24 earlier_larger24 (aged (taken_at_lem (ear24 earlier_larger24) Stream 36)) 2 false 918 (lit≤ tt) (lit≤ tt)
-    (λ t. (Until (37 + 384 * 5), ap (λ (s : Step). s.control) (pass_hit 5 (λ i. at (ear24 earlier_larger24) i 37) t false 37 (taken_at_lem (ear24 earlier_larger24) Stream 36) Lsf true compared)))
+    (λ t. (Some (37 + 384 * 5), ap (λ (s : Step). s.control) (pass_hit 5 (λ i. at (ear24 earlier_larger24) i 37) t false 37 (taken_at_lem (ear24 earlier_larger24) Stream 36) Lsf true compared)))

@@ -1,4 +1,5 @@
 -- A switch of kind without a wait: the Packet candidate of sample 71 gives way at 72 to Stream, an earlier-listed kind. Assumes nothing.
+use Rattle.std.specs.Prelude.{Option, None}
 use mathlib.Core.Path.{◌≡◌, refl, sym, ap, ◌∙◌, subst, fun_ext}
 use mathlib.Core.Bool.{Bool, true, false, cond}
 use mathlib.Core.Logic.{inl, inr}
@@ -20,8 +21,6 @@ use Rattle.protocol.specs.declared.Kind.TheVariants.{Stream, Packet}
 use Rattle.protocol.specs.declared.SyncBurst.TheVariants.{Frame}
 use Rattle.decode.specs.declared.Correlation.{Correlation}
 use Rattle.decode.specs.Correlator.{correlation}
-use Rattle.search.specs.declared.Wait.TheVariants.{Free}
-use Rattle.search.specs.declared.Timer.{Timer}
 use Rattle.search.specs.declared.Control.{Control}
 use Rattle.search.specs.declared.Reply.TheVariants.{Accepted}
 use Rattle.search.specs.TakenBurst.{held_as}
@@ -92,10 +91,10 @@ below =
 abbrev pub before : List ℤ
 before = front ++ (x ∷ [])
 
-abbrev holding : Timer → History
-holding t = standing before (held_as (taken_at_lem ear Packet 71)) Free t 71
+abbrev holding : Option ℕ → History
+holding t = standing before (held_as (taken_at_lem ear Packet 71)) None t 71
 
-held : (t : Timer) × (history_all taps 10 (fed before) ≡ holding t)
+held : (t : Option ℕ) × (history_all taps 10 (fed before) ≡ holding t)
 held = after_first at48 facts48 70 front x y [] facts.long sixteen few quiet_before Packet at_71
 
 -- ---- and at 72
@@ -111,21 +110,21 @@ switched =
     )
 
 -- what the search leaves, and all that it marks
-abbrev step_72 : Timer → Step
-step_72 u = record { control = controlled (held_as (taken_at_lem ear Stream 72)) Free u false 72; marks = Anew 72 Packet Stream ∷ [] }
+abbrev step_72 : Option ℕ → Step
+step_72 u = record { control = controlled (held_as (taken_at_lem ear Stream 72)) None u false 72; marks = Anew 72 Packet Stream ∷ [] }
 
-search_72 : (t : Timer) → (u : Timer) × (search_step 10 (ear 72) (controlled (held_as (taken_at_lem ear Packet 71)) Free t false 72) ≡ step_72 u)
+search_72 : (t : Option ℕ) → (u : Option ℕ) × (search_step 10 (ear 72) (controlled (held_as (taken_at_lem ear Packet 71)) None t false 72) ≡ step_72 u)
 search_72 t =
-    let (u, e) = search_pass 10 (ear 72) (controlled (held_as (taken_at_lem ear Packet 71)) Free t false 72) in (
+    let (u, e) = search_pass 10 (ear 72) (controlled (held_as (taken_at_lem ear Packet 71)) None t false 72) in (
       u,
-      e ∙ ap (λ (hit : Kind → Bool). pass_by 10 hit (λ i. at ear i 72) (controlled (held_as (taken_at_lem ear Packet 71)) Free u false 72)) (fun_ext at_72)
+      e ∙ ap (λ (hit : Kind → Bool). pass_by 10 hit (λ i. at ear i 72) (controlled (held_as (taken_at_lem ear Packet 71)) None u false 72)) (fun_ext at_72)
           ∙ pass_hit 10 (λ i. at ear i 72) u false 72 (taken_at_lem ear Packet 71) Stream false below,
     )
 
 heard_72 : ear 72 ≡ eight_at at48 (before ++ (y ∷ []))
 heard_72 = hears at48 samples before y [] 71 (length_first at48 facts48 70 front x y [] facts.long sixteen few) part (lit< tt)
 
-called_72 : (t : Timer) → called_marks taps 10 (holding t) (sample y room) ≡ Anew 72 Packet Stream ∷ []
+called_72 : (t : Option ℕ) → called_marks taps 10 (holding t) (sample y room) ≡ Anew 72 Packet Stream ∷ []
 unfolding called_marks step_marks sampled_marks waited_marks
 called_72 t =
     ap (λ (b : Bool). cond b [] (step_marks taps 10 (holding t) (sample y room))) (is_admitted at48 facts48 (holding t) y refl (lit< tt))
@@ -157,7 +156,7 @@ early i since m =
     let u = kept_past (ear_all taps 10 (fed before)) 10 (log_all taps 10 (fed before)) (history_all taps 10 (fed before)).control (kept_all taps 10 (fed before) (size_at at48 facts48) a b) (Failed 72 i since) m in
     omega arith
 
-log_72 : (t : Timer) → log_from taps 10 (holding t) (sample y room ∷ reply Accepted ∷ []) ≡ Anew 72 Packet Stream ∷ []
+log_72 : (t : Option ℕ) → log_from taps 10 (holding t) (sample y room ∷ reply Accepted ∷ []) ≡ Anew 72 Packet Stream ∷ []
 unfolding log_from
 log_72 t =
     ap (λ (l : List Mark). l ++ (called_marks taps 10 (single taps 10 (holding t) (sample y room)).history (reply Accepted) ++ [])) (called_72 t)
@@ -182,10 +181,10 @@ pub went_earlier : rank Stream < rank Packet
 went_earlier = switch_earlier_48 calls sampled 72 Packet Stream switched no_wait
 
 -- ---- the same of the control: Packet is held before the call, Stream after it, and no wait
-pub held_before : (t : Timer) × ((history_all taps 10 (fed before)).control ≡ controlled (held_as (taken_at_lem ear Packet 71)) Free t false 71)
+pub held_before : (t : Option ℕ) × ((history_all taps 10 (fed before)).control ≡ controlled (held_as (taken_at_lem ear Packet 71)) None t false 71)
 held_before = (held.0, ap (λ (h : History). h.control) held.1)
 
-pub held_after : (u : Timer) × ((single taps 10 (history_all taps 10 (fed before)) (sample y room)).history.control ≡ controlled (held_as (taken_at_lem ear Stream 72)) Free u false 72)
+pub held_after : (u : Option ℕ) × ((single taps 10 (history_all taps 10 (fed before)) (sample y room)).history.control ≡ controlled (held_as (taken_at_lem ear Stream 72)) None u false 72)
 unfolding turned waited_turn
 held_after =
     let (t, e) = held in
@@ -202,7 +201,7 @@ pub held_earlier : rank Stream < rank Packet
 held_earlier =
     let (t, e) = held_before in
     let (u, f) = held_after in
-    subst (SwitchHeld (controlled (held_as (taken_at_lem ear Packet 71)) Free t false 71)) f
+    subst (SwitchHeld (controlled (held_as (taken_at_lem ear Packet 71)) None t false 71)) f
     (subst (λ (c : Control). SwitchHeld c (single taps 10 (history_all taps 10 (fed before)) (sample y room)).history.control) e
     (switch_held_48 calls sampled (fed before) (sample y room) (reply Accepted ∷ fed []) (ap fed part ∙ fed_split before y [])))
     refl refl switched.1

@@ -1,8 +1,9 @@
 -- At 24 kHz an LSF burst, and on the next sample a Stream burst, a later-listed kind, with a smaller diff: the frame is the new one's, and marked. Assumes nothing.
+use Rattle.std.specs.Prelude.{Some}
 use mathlib.Core.Path.{◌≡◌, refl, ap, ◌∙◌}
 use mathlib.Core.Bool.{true, false}
 use mathlib.Core.List.{List, [], ◌∷◌, ◌++◌, map}
-use Prim.Native.Nat.{ℕ, ◌+◌, ◌*◌}
+use Prim.Native.Nat.{◌+◌, ◌*◌}
 use lib.Dec.{T, lit≤}
 use lib.IntN.{ℤ, pos, negsuc}
 use lib.Ieee.{Float, binary32, of_bits, of_int, add, sub, mul, div, neg, lt, eq}
@@ -18,12 +19,11 @@ use Rattle.protocol.specs.declared.SyncBurst.TheVariants.{Frame}
 use Rattle.decode.specs.declared.Correlation.{Correlation}
 use Rattle.decode.specs.Correlator.{zero_unsigned, highest, lowest, gain_of, shift_of, symbol_of, distance_of, summed, diff_of, correlation, matches}
 use Rattle.search.specs.Search.{same_kind}
-use Rattle.search.specs.declared.Timer.TheVariants.{Until}
 use Rattle.demodulator_run.specs.Filter.{sample_no_lem, filtered}
 use Rattle.demodulator_run.specs.Marks.{FellDue, log_all}
 use Rattle.demodulator_run.specs.Demands.{at, In, shown_at, taken_at_lem}
 use Rattle.demodulator_run.proofs.Pass.{Step, pass_hit}
-use Rattle.demodulator_examples.proofs.Table.{all_sixteen, listed, matched, silent}
+use Rattle.demodulator_examples.proofs.Table.{all_sixteen, listed, matched}
 use Rattle.demodulator_examples.proofs.Fits.{Fits, tested, fits}
 use Rattle.demodulator_examples.proofs.Sketch24.{Sketch24, calls24, ear24, correlates24, due24}
 
@@ -74,4 +74,4 @@ compared =
 pub marked_due_24 : In (FellDue 956 (shown_at (ear24 later_smaller24) Stream 37 1 true)) (log_all even_taps 5 (calls24 later_smaller24))
 marked_due_24 =
     due24 later_smaller24 (taken_at_lem (ear24 later_smaller24) Stream 37) 1 true 919 (lit≤ tt) (lit≤ tt)
-    (λ t. (Until (37 + 384 * 5), ap (λ (s : Step). s.control) (pass_hit 5 (λ i. at (ear24 later_smaller24) i 37) t false 37 (taken_at_lem (ear24 later_smaller24) Lsf 36) Stream false compared)))
+    (λ t. (Some (37 + 384 * 5), ap (λ (s : Step). s.control) (pass_hit 5 (λ i. at (ear24 later_smaller24) i 37) t false 37 (taken_at_lem (ear24 later_smaller24) Lsf 36) Stream false compared)))

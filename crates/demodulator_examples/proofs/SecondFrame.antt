@@ -1,4 +1,5 @@
 -- The same burst once more, after the first frame was offered and accepted: a second frame is offered. Assumes nothing.
+use Rattle.std.specs.Prelude.{Option, Some, None}
 use mathlib.Core.Path.{◌≡◌, refl, sym, ap, ◌∙◌, subst}
 use mathlib.Core.Logic.{inl, inr}
 use mathlib.Core.Bool.{Bool, false}
@@ -19,9 +20,6 @@ use Rattle.shaping.specs.Rate.{at48}
 use Rattle.shaping.proofs.RateFacts.{facts48}
 use Rattle.protocol.specs.declared.Kind.{Kind}
 use Rattle.search.specs.declared.Candidate.TheVariants.{Nothing}
-use Rattle.search.specs.declared.Wait.TheVariants.{Free}
-use Rattle.search.specs.declared.Timer.{Timer}
-use Rattle.search.specs.declared.Timer.TheVariants.{Until}
 use Rattle.search.specs.declared.Shown.{Shown}
 use Rattle.search.specs.TakenBurst.{TakenBurst, held_as}
 use Rattle.search.specs.Search.{same_kind}
@@ -93,17 +91,17 @@ module _ (S : Sketch) (fades : Hits (listed 10 S.table 72) none) where
   abbrev up_to_due : List ℤ
   up_to_due = first72 ++ pause 1838
 
-  waits : (t : Timer) × (history_all taps 10 (fed up_to_due) ≡ standing up_to_due (held_as held71) (last_sample 1 false) t 1910)
+  waits : (t : Option ℕ) × (history_all taps 10 (fed up_to_due) ≡ standing up_to_due (held_as held71) (last_sample 1 false) t 1910)
   waits =
       before_due at48 facts48 70 S.front S.x S.y (pause 1900 ++ samples S) S.facts.long both_sixteen few none_before S.kind at_71 none at_72 (held_as held71) 1 false 1839
-      (λ t. (Until (72 + 384 * 10), ap (λ (s : Step). s.control) (pass_lost 10 (λ i. at hear i 72) t false 72 held71)))
+      (λ t. (Some (72 + 384 * 10), ap (λ (s : Step). s.control) (pass_lost 10 (λ i. at hear i 72) t false 72 held71)))
       (pause 1838) (pos 0) (pause 61 ++ samples S) goes (let n = pause_length 1838 in omega arith)
 
   -- ---- the frame is offered and accepted; nothing is held until the burst comes again
   abbrev offered1911 : List ℤ
   offered1911 = up_to_due ++ (pos 0 ∷ [])
 
-  after_offer : (t : Timer) × (history_all taps 10 (fed offered1911) ≡ standing offered1911 Nothing Free t 1911)
+  after_offer : (t : Option ℕ) × (history_all taps 10 (fed offered1911) ≡ standing offered1911 Nothing None t 1911)
   after_offer =
       let (t, e) = waits in
       (_, one_more at48 facts48 up_to_due (pos 0) ∙ ap (λ (h : History). next at48 h (pos 0)) e ∙ next_due at48 1 false up_to_due (pos 0) 1910 (lit< tt) held71 t)
@@ -138,13 +136,13 @@ module _ (S : Sketch) (fades : Hits (listed 10 S.table 72) none) where
   abbrev up_to2042 : List ℤ
   up_to2042 = offered1911 ++ between
 
-  rests : (t : Timer) × (history_all taps 10 (fed up_to2042) ≡ standing up_to2042 Nothing Free t 2042)
+  rests : (t : Option ℕ) × (history_all taps 10 (fed up_to2042) ≡ standing up_to2042 Nothing None t 2042)
   rests =
       let (t, e) = after_offer in
       let (u, f) = quiet_run at48 both between offered1911 (S.x ∷ S.y ∷ pause 1900) t 1911 length_offered rest_split (let n = length_between in omega arith) (λ n a b. silent_again n a (let l = length_between in omega arith)) in (
         u,
         ap (run (single_rules taps 10) start) (fed_append offered1911 between) ∙ run_joined (single_rules taps 10) (fed offered1911) (fed between) start ∙ ap (λ (h : History). run (single_rules taps 10) h (fed between)) e ∙ f
-            ∙ ap (λ (n : ℕ). standing up_to2042 Nothing Free u (1911 + n)) length_between,
+            ∙ ap (λ (n : ℕ). standing up_to2042 Nothing None u (1911 + n)) length_between,
       )
 
   -- ---- the second take, and its frame
@@ -158,8 +156,8 @@ module _ (S : Sketch) (fades : Hits (listed 10 S.table 72) none) where
   takes_again =
       let (t, e) = rests in
       marked_after at48 facts48 both both_sixteen few (First 2043 S.kind) up_to2042 S.x (S.y ∷ pause 1900) (rest_split ∙ sym (append_assoc offered1911 between (S.x ∷ S.y ∷ pause 1900)))
-      (standing up_to2042 Nothing Free t 2042) e refl (lit< tt)
-      (counted (controlled Nothing Free t false 2042), (refl, refl), (refl, refl, holds (at_2043 S.kind ∙ is_true (same_kind S.kind S.kind) (same_self S.kind))))
+      (standing up_to2042 Nothing None t 2042) e refl (lit< tt)
+      (counted (controlled Nothing None t false 2042), (refl, refl), (refl, refl, holds (at_2043 S.kind ∙ is_true (same_kind S.kind S.kind) (same_self S.kind))))
 
   both_fed : fed_all taps 10 (fed both) ≡ 3944
   both_fed = fed_all_lem at48 facts48 both both_sixteen few ∙ both_number
@@ -169,7 +167,7 @@ module _ (S : Sketch) (fades : Hits (listed 10 S.table 72) none) where
   first_frame =
       due_offered_48 (fed both) both_sampled 1911 (shown_at hear S.kind 71 1 false)
       (falls_due at48 facts48 70 S.front S.x S.y (pause 1900 ++ samples S) S.facts.long both_sixteen few none_before S.kind at_71 none at_72 (held_as held71) 1 false 1839
-      (λ t. (Until (72 + 384 * 10), ap (λ (s : Step). s.control) (pass_lost 10 (λ i. at hear i 72) t false 72 held71)))
+      (λ t. (Some (72 + 384 * 10), ap (λ (s : Step). s.control) (pass_lost 10 (λ i. at hear i 72) t false 72 held71)))
       (pause 1838) (pos 0) (pause 61 ++ samples S) goes (let n = pause_length 1838 in omega arith) held71 refl)
 
   module _ (d : ℕ) (w : Shown) (C : Cause hear 10 (log_all taps 10 (fed both)) d w) (late : 2043 ≤ C.b) (lasts : (j : ℕ) → 2043 ≤ j → j < C.s → (k : Kind) × Matches hear k j) where

@@ -1,4 +1,5 @@
 -- 72 samples at whose 71st a kind matches for the first time, given with a table of their filtered values, and then zeros: what the theorems of demand 3 say of them. Assumes nothing.
+use Rattle.std.specs.Prelude.{Option, None}
 use mathlib.Core.Path.{◌≡◌, refl, sym, ap, ◌∙◌, subst}
 use mathlib.Core.Bool.{Bool, false}
 use mathlib.Core.Logic.{inl, inr}
@@ -19,8 +20,6 @@ use Rattle.shaping.proofs.RateFacts.{facts48}
 use Rattle.protocol.specs.declared.Kind.{Kind}
 use Rattle.protocol.specs.declared.SyncBurst.TheVariants.{Frame}
 use Rattle.decode.specs.Correlator.{correlation}
-use Rattle.search.specs.declared.Wait.TheVariants.{Free}
-use Rattle.search.specs.declared.Timer.{Timer}
 use Rattle.search.specs.declared.Shown.{Shown}
 use Rattle.search.specs.TakenBurst.{TakenBurst, held_as, shown_of}
 use Rattle.search.specs.Search.{same_kind}
@@ -127,7 +126,7 @@ module _ (S : Sketch) where
 
   -- ---- the due frame
   module _ (now : TakenBurst) (age : ℕ) (mark : Bool) (left : ℕ) (some : 1 ≤ left) (short : left ≤ 1900)
-      (leaves : (t : Timer) → (u : Timer) × ((pass_by 10 S.hit (λ i. at shaped i 72) (controlled (held_as (taken_at_lem shaped S.kind 71)) Free t false 72)).control ≡ controlled (held_as now) (waiting age mark left) u false 72)) where
+      (leaves : (t : Option ℕ) → (u : Option ℕ) × ((pass_by 10 S.hit (λ i. at shaped i 72) (controlled (held_as (taken_at_lem shaped S.kind 71)) None t false 72)).control ≡ controlled (held_as now) (waiting age mark left) u false 72)) where
     pub due_mark : In (FellDue (72 + left) (shown_of now age mark)) (log_all taps 10 calls)
     due_mark =
         falls_due_in at48 facts48 70 S.front S.x S.y 1900 S.facts.long sixteen few none_before S.kind at_71 S.hit at_72 now age mark left some short leaves

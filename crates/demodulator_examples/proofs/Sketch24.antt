@@ -1,5 +1,6 @@
 -- 37 samples at 24 kHz at whose 36th a kind matches for the first time, given with a table of their filtered values, and then zeros: what is heard
 -- of them, and the frame that falls due. Assumes nothing.
+use Rattle.std.specs.Prelude.{Option, None}
 use mathlib.Core.Path.{◌≡◌, sym, subst, ◌∙◌}
 use mathlib.Core.Bool.{Bool, false}
 use mathlib.Core.List.{List, [], ◌∷◌, ◌++◌, append_assoc}
@@ -17,8 +18,6 @@ use Rattle.shaping.proofs.RateFacts.{facts24}
 use Rattle.protocol.specs.declared.Kind.{Kind}
 use Rattle.protocol.specs.declared.SyncBurst.TheVariants.{Frame}
 use Rattle.decode.specs.Correlator.{correlation}
-use Rattle.search.specs.declared.Wait.TheVariants.{Free}
-use Rattle.search.specs.declared.Timer.{Timer}
 use Rattle.search.specs.TakenBurst.{TakenBurst, held_as, shown_of}
 use Rattle.search.specs.Search.{same_kind}
 use Rattle.demodulator_run.specs.Filter.{filtered}
@@ -86,7 +85,7 @@ module _ (S : Sketch24) where
 
   -- ---- the due frame
   module _ (now : TakenBurst) (age : ℕ) (mark : Bool) (left : ℕ) (some : 1 ≤ left) (short : left ≤ 950)
-      (leaves : (t : Timer) → (u : Timer) × ((pass_by 5 S.hit (λ i. at ear24 i 37) (controlled (held_as (taken_at_lem ear24 S.kind 36)) Free t false 37)).control ≡ controlled (held_as now) (waiting age mark left) u false 37)) where
+      (leaves : (t : Option ℕ) → (u : Option ℕ) × ((pass_by 5 S.hit (λ i. at ear24 i 37) (controlled (held_as (taken_at_lem ear24 S.kind 36)) None t false 37)).control ≡ controlled (held_as now) (waiting age mark left) u false 37)) where
     pub due24 : In (FellDue (37 + left) (shown_of now age mark)) (log_all even_taps 5 calls24)
     due24 =
         falls_due_in at24 facts24 35 S.front S.x S.y 950 S.facts.long sixteen few none_before S.kind (hits 36 (lit≤ tt) (same_kind S.kind) S.facts.first) S.hit

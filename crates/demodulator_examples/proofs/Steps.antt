@@ -1,4 +1,6 @@
 -- What the rules make of a fed sample: where no kind matches nothing is held, one that matches is taken, a wait runs down. Assumes nothing.
+use Rattle.std.specs.Prelude.{Option, Some, None}
+use Rattle.search.specs.declared.Waiting.{Waiting}
 use mathlib.Core.Path.{◌≡◌, refl, sym, ap, ◌∙◌, fun_ext}
 use mathlib.Core.Bool.{Bool, false}
 use mathlib.Core.List.{List, [], ◌∷◌, ◌++◌, append-nil, append_assoc}
@@ -16,9 +18,6 @@ use Rattle.protocol.specs.declared.SyncBurst.TheVariants.{Frame}
 use Rattle.decode.specs.Correlator.{correlation, matches}
 use Rattle.search.specs.declared.Candidate.{Candidate}
 use Rattle.search.specs.declared.Candidate.TheVariants.{Nothing}
-use Rattle.search.specs.declared.Wait.{Wait}
-use Rattle.search.specs.declared.Wait.TheVariants.{Free, Due}
-use Rattle.search.specs.declared.Timer.{Timer}
 use Rattle.search.specs.declared.Control.{Control}
 use Rattle.search.specs.TakenBurst.{TakenBurst, held_as}
 use Rattle.search.specs.Search.{with_timer, same_kind, searched}
@@ -31,11 +30,11 @@ use Rattle.demodulator_run.proofs.Pass.{Step, controlled, pass_by, search_pass, 
 use Rattle.demodulator_examples.proofs.Fed.{fed, next, next_is, eight_at}
 
 -- n samples have come, and no reply is owed
-abbrev pub standing : List ℤ → Candidate → Wait → Timer → ℕ → History
+abbrev pub standing : List ℤ → Candidate → Option Waiting → Option ℕ → ℕ → History
 standing xs held wait t n = record { samples = xs; control = controlled held wait t false n }
 
-abbrev pub waiting : ℕ → Bool → ℕ → Wait
-waiting age mark left = Due (record { left = left; age = age; replaced = mark })
+abbrev pub waiting : ℕ → Bool → ℕ → Option Waiting
+waiting age mark left = Some (record { left = left; age = age; replaced = mark })
 
 -- the kinds that match are those of the test
 abbrev pub Hits : (ℕ → Float) → (Kind → Bool) → Type 0
@@ -46,7 +45,7 @@ none k = false
 
 module _ (R : Rate) where
   -- ---- one sample
-  searched_as : (v : ℕ → Float) (c : Control) (hit : Kind → Bool) → Hits v hit → (t : Timer) × (searched R.p v c ≡ (pass_by R.p hit (λ k. correlation (Frame k) v) (with_timer t c)).control)
+  searched_as : (v : ℕ → Float) (c : Control) (hit : Kind → Bool) → Hits v hit → (t : Option ℕ) × (searched R.p v c ≡ (pass_by R.p hit (λ k. correlation (Frame k) v) (with_timer t c)).control)
   searched_as v c hit e =
       let (t, f) = search_pass R.p v c in
       (t, ap (λ (s : Step). s.control) f ∙ ap (λ (g : Kind → Bool). (pass_by R.p g (λ k. correlation (Frame k) v) (with_timer t c)).control) (fun_ext e))
@@ -63,21 +62,21 @@ module _ (R : Rate) where
     hears = newest all (xs ++ (x ∷ [])) more (n + 1) one_more (part ∙ sym (append_assoc xs (x ∷ []) more))
 
     -- the search runs
-    pub next_search : (held : Candidate) (t : Timer) (hit : Kind → Bool) → Hits (ear_of R.taps R.p all (n + 1)) hit
-        → (u : Timer) × (next R (standing xs held Free t n) x ≡ record {
+    pub next_search : (held : Candidate) (t : Option ℕ) (hit : Kind → Bool) → Hits (ear_of R.taps R.p all (n + 1)) hit
+        → (u : Option ℕ) × (next R (standing xs held None t n) x ≡ record {
           samples = xs ++ (x ∷ []);
-          control = owing false (pass_by R.p hit (λ k. correlation (Frame k) (ear_of R.taps R.p all (n + 1))) (controlled held Free u false (n + 1))).control;
+          control = owing false (pass_by R.p hit (λ k. correlation (Frame k) (ear_of R.taps R.p all (n + 1))) (controlled held None u false (n + 1))).control;
         })
     unfolding sampled waited_turn
     next_search held t hit h =
-        let (u, e) = searched_as (ear_of R.taps R.p all (n + 1)) (counted (controlled held Free t false n)) hit h in (
+        let (u, e) = searched_as (ear_of R.taps R.p all (n + 1)) (counted (controlled held None t false n)) hit h in (
           u,
-          next_is R (standing xs held Free t n) x refl few
-              ∙ ap (λ (w : ℕ → Float). record { samples = xs ++ (x ∷ []); control = owing false (searched R.p w (counted (controlled held Free t false n))) }) (sym hears)
+          next_is R (standing xs held None t n) x refl few
+              ∙ ap (λ (w : ℕ → Float). record { samples = xs ++ (x ∷ []); control = owing false (searched R.p w (counted (controlled held None t false n))) }) (sym hears)
               ∙ ap (λ (c : Control). record { samples = xs ++ (x ∷ []); control = owing false c }) e,
         )
 
-    pub next_quiet : (t : Timer) → Hits (ear_of R.taps R.p all (n + 1)) none → (u : Timer) × (next R (standing xs Nothing Free t n) x ≡ standing (xs ++ (x ∷ [])) Nothing Free u (n + 1))
+    pub next_quiet : (t : Option ℕ) → Hits (ear_of R.taps R.p all (n + 1)) none → (u : Option ℕ) × (next R (standing xs Nothing None t n) x ≡ standing (xs ++ (x ∷ [])) Nothing None u (n + 1))
     next_quiet t h =
         let (u, e) = next_search Nothing t none h in (
           u,
@@ -85,8 +84,8 @@ module _ (R : Rate) where
               (pass_quiet R.p (λ k. correlation (Frame k) (ear_of R.taps R.p all (n + 1))) u false (n + 1)),
         )
 
-    pub next_first : (t : Timer) (j : Kind) → Hits (ear_of R.taps R.p all (n + 1)) (same_kind j)
-        → (u : Timer) × (next R (standing xs Nothing Free t n) x ≡ standing (xs ++ (x ∷ [])) (held_as (taken_at_lem (ear_of R.taps R.p all) j (n + 1))) Free u (n + 1))
+    pub next_first : (t : Option ℕ) (j : Kind) → Hits (ear_of R.taps R.p all (n + 1)) (same_kind j)
+        → (u : Option ℕ) × (next R (standing xs Nothing None t n) x ≡ standing (xs ++ (x ∷ [])) (held_as (taken_at_lem (ear_of R.taps R.p all) j (n + 1))) None u (n + 1))
     next_first t j h =
         let (u, e) = next_search Nothing t (same_kind j) h in (
           u,
@@ -96,37 +95,37 @@ module _ (R : Rate) where
 
   -- ---- a wait
   module _ (age : ℕ) (mark : Bool) (xs : List ℤ) (x : ℤ) (n : ℕ) (few : n < 2 ^ 63) where
-    next_waits : (held : Candidate) (t : Timer) (left : ℕ) → 1 < left
+    next_waits : (held : Candidate) (t : Option ℕ) (left : ℕ) → 1 < left
         → next R (standing xs held (waiting age mark left) t n) x ≡ standing (xs ++ (x ∷ [])) held (waiting age mark (left - 1)) (cleared (n + 1) t) (n + 1)
     unfolding sampled waited_turn
     next_waits held t left l = rw (is_true (ltb 1 left) (lt→ltb 1 left l)) at (next_is R (standing xs held (waiting age mark left) t n) x refl few)
 
     -- a frame is due, is offered, and is accepted
-    pub next_due : (held : TakenBurst) (t : Timer)
-        → next R (standing xs (held_as held) (last_sample age mark) t n) x ≡ standing (xs ++ (x ∷ [])) Nothing Free (cleared (n + 1) t) (n + 1)
+    pub next_due : (held : TakenBurst) (t : Option ℕ)
+        → next R (standing xs (held_as held) (last_sample age mark) t n) x ≡ standing (xs ++ (x ∷ [])) Nothing None (cleared (n + 1) t) (n + 1)
     unfolding sampled waited_turn due_turn
     next_due held t = next_is R (standing xs (held_as held) (last_sample age mark) t n) x refl few
 
   -- ---- many
-  pub quiet_run : (all zs xs more : List ℤ) (t : Timer) (n : ℕ) → length xs ≡ n → all ≡ xs ++ (zs ++ more) → n + length zs ≤ 2 ^ 63
+  pub quiet_run : (all zs xs more : List ℤ) (t : Option ℕ) (n : ℕ) → length xs ≡ n → all ≡ xs ++ (zs ++ more) → n + length zs ≤ 2 ^ 63
       → ((m : ℕ) → n < m → m ≤ n + length zs → Hits (ear_of R.taps R.p all m) none)
-      → (u : Timer) × (run (single_rules R.taps R.p) (standing xs Nothing Free t n) (fed zs) ≡ standing (xs ++ zs) Nothing Free u (n + length zs))
+      → (u : Option ℕ) × (run (single_rules R.taps R.p) (standing xs Nothing None t n) (fed zs) ≡ standing (xs ++ zs) Nothing None u (n + length zs))
   unfolding run fed
   quiet_run all [] xs more t n l p f s =
       let count : n ≡ n + 0 = omega arith in
-      (t, ap (λ (ys : List ℤ). standing ys Nothing Free t n) (sym (append-nil xs)) ∙ ap (standing (xs ++ []) Nothing Free t) count)
+      (t, ap (λ (ys : List ℤ). standing ys Nothing None t n) (sym (append-nil xs)) ∙ ap (standing (xs ++ []) Nothing None t) count)
   quiet_run all (x ∷ zs) xs more t n l p f s =
       let (u, e) = next_quiet all xs x (zs ++ more) n l p (omega arith) t (s (n + 1) (omega arith) (omega arith)) in
       let (w, g) = quiet_run all zs (xs ++ (x ∷ [])) more u (n + 1) (length-append xs (x ∷ []) ∙ omega arith) (p ∙ sym (append_assoc xs (x ∷ []) (zs ++ more))) (omega arith) (λ m a b. s m (omega arith) (omega arith)) in
       let count : (n + 1) + length zs ≡ n + length (x ∷ zs) = omega arith in (
         w,
         ap (λ (h : History). run (single_rules R.taps R.p) h (fed zs)) e ∙ g
-            ∙ ap (λ (ys : List ℤ). standing ys Nothing Free w ((n + 1) + length zs)) (append_assoc xs (x ∷ []) zs)
-            ∙ ap (standing (xs ++ (x ∷ zs)) Nothing Free w) count,
+            ∙ ap (λ (ys : List ℤ). standing ys Nothing None w ((n + 1) + length zs)) (append_assoc xs (x ∷ []) zs)
+            ∙ ap (standing (xs ++ (x ∷ zs)) Nothing None w) count,
       )
 
-  pub wait_run : (age : ℕ) (mark : Bool) (zs xs : List ℤ) (held : Candidate) (t : Timer) (n left : ℕ) → n + length zs ≤ 2 ^ 63 → length zs < left
-      → (u : Timer) × (run (single_rules R.taps R.p) (standing xs held (waiting age mark left) t n) (fed zs) ≡ standing (xs ++ zs) held (waiting age mark (left - length zs)) u (n + length zs))
+  pub wait_run : (age : ℕ) (mark : Bool) (zs xs : List ℤ) (held : Candidate) (t : Option ℕ) (n left : ℕ) → n + length zs ≤ 2 ^ 63 → length zs < left
+      → (u : Option ℕ) × (run (single_rules R.taps R.p) (standing xs held (waiting age mark left) t n) (fed zs) ≡ standing (xs ++ zs) held (waiting age mark (left - length zs)) u (n + length zs))
   unfolding run fed
   wait_run age mark [] xs held t n left f l =
       let count : n ≡ n + 0 = omega arith in

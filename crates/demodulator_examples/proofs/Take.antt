@@ -1,8 +1,9 @@
 -- The first sample at which a kind matches: the candidate is taken there. Over every such list of samples, at a rate. Assumes nothing.
+use Rattle.std.specs.Prelude.{Option, None}
 use mathlib.Core.Path.{◌≡◌, refl, sym, ap, ◌∙◌, subst}
 use mathlib.Core.Bool.{false}
 use mathlib.Core.List.{List, [], ◌∷◌, ◌++◌}
-use Prim.Native.Nat.{ℕ, ◌+◌, ◌-◌, ◌^◌, ◌≤◌, ◌<◌}
+use Prim.Native.Nat.{ℕ, ◌+◌, ◌^◌, ◌≤◌, ◌<◌}
 use native.Mathlib.Omega.{arith}
 use lib.IntN.{ℤ}
 use lib.ListN.{length, length-append}
@@ -14,14 +15,11 @@ use Rattle.shaping.specs.Rate.{Rate}
 use Rattle.shaping.proofs.RateFacts.{Facts}
 use Rattle.protocol.specs.declared.Kind.{Kind}
 use Rattle.search.specs.declared.Candidate.TheVariants.{Nothing}
-use Rattle.search.specs.declared.Wait.TheVariants.{Free}
-use Rattle.search.specs.declared.Timer.{Timer}
-use Rattle.search.specs.declared.Timer.TheVariants.{Off}
 use Rattle.search.specs.declared.Reply.TheVariants.{Accepted}
 use Rattle.search.specs.TakenBurst.{held_as}
 use Rattle.search.specs.Search.{same_kind}
 use Rattle.search.specs.Turn.{Outcome, quiet, offer, counted, sampled}
-use Rattle.demodulator_run.specs.Rules.{Single, sample, reply, History, After, start, settled, admitted, single, history_all, single_rules}
+use Rattle.demodulator_run.specs.Rules.{Single, sample, reply, History, After, start, settled, single, history_all, single_rules}
 use Rattle.demodulator_run.specs.Marks.{Mark, First, is_refusal, log_all}
 use Rattle.demodulator_run.specs.Demands.{Ear, ear_of, In, taken_at_lem}
 use Rattle.demodulator_run.specs.Exact.{ByRules}
@@ -82,13 +80,13 @@ module _ (R : Rate) (F : Facts R) where
     counts : n < 2 ^ 63
     counts = let e = length-append front (x ∷ more) in omega arith
 
-    before_take : (t : Timer) × (history_all R.taps R.p (fed front) ≡ standing front Nothing Free t n)
+    before_take : (t : Option ℕ) × (history_all R.taps R.p (fed front) ≡ standing front Nothing None t n)
     before_take =
-        let (t, e) = quiet_run R (front ++ (x ∷ more)) front [] (x ∷ more) Off 0 refl refl (omega (arith, counts)) (λ m a b. silent m (omega arith)) in
+        let (t, e) = quiet_run R (front ++ (x ∷ more)) front [] (x ∷ more) None 0 refl refl (omega (arith, counts)) (λ m a b. silent m (omega arith)) in
         let count : 0 + length front ≡ n = omega arith in
-        (t, e ∙ ap (standing front Nothing Free t) count)
+        (t, e ∙ ap (standing front Nothing None t) count)
 
-    pub after_take : (t : Timer) × (history_all R.taps R.p (fed (front ++ (x ∷ []))) ≡ standing (front ++ (x ∷ [])) (held_as (taken_at_lem (ear_of R.taps R.p (front ++ (x ∷ more))) k (n + 1))) Free t (n + 1))
+    pub after_take : (t : Option ℕ) × (history_all R.taps R.p (fed (front ++ (x ∷ []))) ≡ standing (front ++ (x ∷ [])) (held_as (taken_at_lem (ear_of R.taps R.p (front ++ (x ∷ more))) k (n + 1))) None t (n + 1))
     after_take =
         let (t, e) = before_take in
         let (u, f) = next_first R (front ++ (x ∷ more)) front x more n long refl counts t k first in
@@ -97,5 +95,5 @@ module _ (R : Rate) (F : Facts R) where
     pub takes : In (First (n + 1) k) (log_all R.taps R.p (fed (front ++ (x ∷ more))))
     takes =
         let (t, e) = before_take in
-        marked_after (front ++ (x ∷ more)) small few (First (n + 1) k) front x more refl (standing front Nothing Free t n) e refl counts
-        (counted (controlled Nothing Free t false n), (refl, refl), (refl, refl, holds (first k ∙ is_true (same_kind k k) (same_self k))))
+        marked_after (front ++ (x ∷ more)) small few (First (n + 1) k) front x more refl (standing front Nothing None t n) e refl counts
+        (counted (controlled Nothing None t false n), (refl, refl), (refl, refl, holds (first k ∙ is_true (same_kind k k) (same_self k))))

@@ -1,4 +1,5 @@
 -- Small instances of the laws of the calls, at a fresh record and at one that awaits a frame or owes a reply: what the laws ask can be met. Assumes nothing.
+use Rattle.std.specs.Prelude.{Some, None}
 use mathlib.Core.Path.{◌≡◌, refl, sym, ap}
 use mathlib.Core.Logic.{◌⊎◌}
 use mathlib.Core.Bool.{true, false}
@@ -14,8 +15,6 @@ use Rattle.protocol.specs.declared.Refusal.TheVariants.{RecordUnfit}
 use Rattle.protocol.specs.Refusals.{bare}
 use Rattle.decode.specs.Correlator.{in_range}
 use Rattle.search.specs.declared.Candidate.TheVariants.{Nothing}
-use Rattle.search.specs.declared.Wait.TheVariants.{Free, Due}
-use Rattle.search.specs.declared.Timer.TheVariants.{Off, Until}
 use Rattle.search.specs.declared.Control.{Control}
 use Rattle.search.specs.declared.Reply.TheVariants.{Accepted, Rejected}
 use Rattle.search.specs.Search.{searched}
@@ -39,7 +38,7 @@ use Rattle.demodulator_laws.proofs.SearchFits.{Outgrown, Unnumbered}
 
 -- ---- controls
 abbrev waiting : ℕ → Control
-waiting left = record { candidate = held_at Bert 254; wait = Due (wait_of left); dcd = Until 3840; owed = false; sample = 1840 }
+waiting left = record { candidate = held_at Bert 254; wait = Some (wait_of left); dcd = Some 3840; owed = false; sample = 1840 }
 
 abbrev pub owed : Control
 owed = owing true fresh_control
@@ -129,7 +128,7 @@ sample_cramped_meets : demodulated at48 (fresh 48000) (pos 1) [] ≡ refused 4 (
 sample_cramped_meets = sample_cramped at48 (fresh 48000) (pos 1) [] fresh_for_sample fresh_free (lit< tt)
 
 abbrev last : SoftDemodulator
-last = with_control (record { candidate = Nothing; wait = Free; dcd = Off; owed = false; sample = 2 ^ 63 }) (fresh 48000)
+last = with_control (record { candidate = Nothing; wait = None; dcd = None; owed = false; sample = 2 ^ 63 }) (fresh 48000)
 
 last_for_sample : fit_for_sample_lem 10 last ≡ true
 unfolding fresh fit_for_sample_lem record_fit_lem halves_agree_lem control_fit_lem candidate_fit_lem wait_fit_lem all_below in_range of_bits le lt

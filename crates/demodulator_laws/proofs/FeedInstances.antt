@@ -1,4 +1,5 @@
 -- Small instances of a refused stretch, and of one whose second sample would be refused: the count is at its end, or one before it. Assumes nothing.
+use Rattle.std.specs.Prelude.{Some, None}
 use mathlib.Core.Path.{◌≡◌, refl, sym, ap, ◌∙◌}
 use mathlib.Core.Bool.{true, false}
 use mathlib.Core.List.{List, [], ◌∷◌}
@@ -12,8 +13,6 @@ use Rattle.shaping.specs.Rate.{at48}
 use Rattle.protocol.specs.declared.Kind.TheVariants.{Lsf}
 use Rattle.protocol.specs.Refusals.{bare}
 use Rattle.decode.specs.Correlator.{in_range}
-use Rattle.search.specs.declared.Wait.TheVariants.{Due}
-use Rattle.search.specs.declared.Timer.TheVariants.{Off}
 use Rattle.search.specs.declared.Control.{Control}
 use Rattle.search.specs.Turn.{quiet, cleared, counted, waiting_on}
 use Rattle.search.specs.Fit.{candidate_fit_lem, wait_fit_lem, control_fit_lem}
@@ -33,7 +32,7 @@ use Rattle.demodulator_laws.proofs.RefusedFeed.{refused_feed, rest_refused}
 
 -- a candidate is held and its frame is not due yet, so that no search runs
 abbrev waiting : ℕ → ℕ → Control
-waiting left count = record { candidate = held_at Lsf 1; wait = Due (wait_of left); dcd = Off; owed = false; sample = count }
+waiting left count = record { candidate = held_at Lsf 1; wait = Some (wait_of left); dcd = None; owed = false; sample = count }
 
 abbrev two : List ℤ
 two = pos 1 ∷ pos 1 ∷ []

@@ -1,4 +1,5 @@
 -- Small instances of the laws of a call that leaves a fit record, at a fresh record and at one that owes a reply: what the laws ask can be met. Assumes nothing.
+use Rattle.std.specs.Prelude.{None}
 use mathlib.Core.Path.{◌≡◌, refl, sym, ap, ◌∙◌}
 use mathlib.Core.Logic.{◌⊎◌, inl, inr}
 use mathlib.Core.Bool.{false}
@@ -16,8 +17,6 @@ use Rattle.shaping.specs.Rate.{at48}
 use Rattle.shaping.proofs.RateFacts.{facts48}
 use Rattle.protocol.specs.declared.Kind.TheVariants.{Bert}
 use Rattle.decode.specs.Correlator.{in_range}
-use Rattle.search.specs.declared.Wait.TheVariants.{Free}
-use Rattle.search.specs.declared.Timer.TheVariants.{Off}
 use Rattle.search.specs.declared.Reply.TheVariants.{Rejected}
 use Rattle.search.specs.Fit.{candidate_fit_lem, wait_fit_lem, control_fit_lem}
 use Rattle.demodulator.specs.declared.SoftDemodulator.{SoftDemodulator}
@@ -110,7 +109,7 @@ feed_fit_again_meets = feed_fit_again at48 facts48 (pos 1 ∷ []) small (fresh 4
 
 -- one whose age is 255
 abbrev old : SoftDemodulator
-old = with_control (record { candidate = held_at Bert 255; wait = Free; dcd = Off; owed = false; sample = 1 }) (fresh 48000)
+old = with_control (record { candidate = held_at Bert 255; wait = None; dcd = None; owed = false; sample = 1 }) (fresh 48000)
 
 old_is : Old 10 old
 unfolding fresh fit_for_sample_lem fit_for_reply_lem record_fit_lem halves_agree_lem control_fit_lem candidate_fit_lem wait_fit_lem all_below in_range of_bits le lt

@@ -1,6 +1,6 @@
 -- A candidate that is fit but for the upper end of its age: what a match makes of one, and what a wait asks of one. Assumes nothing.
+use Rattle.std.specs.Prelude.{Option, Some, None}
 use mathlib.Core.Bool.{Bool, true, false, ◌&&◌}
-use mathlib.Core.Option.{none, some}
 use Prim.Native.Nat.{ℕ, ◌*◌, ◌≤◌, ◌<◌}
 use native.Mathlib.Omega.{arith}
 use lib.Dec.{T, leb, ltb, le→leb, lt→ltb}
@@ -13,8 +13,6 @@ use Rattle.decode.proofs.MatchFacts.{MatchFacts}
 use Rattle.search.specs.declared.Candidate.{Candidate}
 use Rattle.search.specs.declared.Candidate.TheVariants.{Nothing}
 use Rattle.search.specs.declared.Waiting.{Waiting}
-use Rattle.search.specs.declared.Wait.{Wait}
-use Rattle.search.specs.declared.Wait.TheVariants.{Free, Due}
 use Rattle.search.specs.TakenBurst.{TakenBurst, held_as, held_in, taken, at_age, aged}
 use Rattle.search.specs.Search.{age_of, marked}
 use Rattle.search.specs.Fit.{age_fit, diff_fit, gain_fit, shift_fit, candidate_fit_lem, held, wait_fit_lem, taken_fit_lem, kept_fit_lem}
@@ -23,7 +21,7 @@ use Rattle.search.proofs.Fitness.{held_facts}
 
 -- a candidate as it would be at another age
 abbrev pub with_age : ℕ → Candidate → Candidate
-with_age n candidate = elim (held_in candidate) [ none ↦ Nothing | some t ↦ held_as (at_age n t) ]
+with_age n candidate = elim (held_in candidate) [ None ↦ Nothing | Some t ↦ held_as (at_age n t) ]
 
 -- taken at another sample
 abbrev pub taken_as : ℕ → TakenBurst → TakenBurst
@@ -31,7 +29,7 @@ taken_as count t = record { kind = t.kind; age = t.age; diff = t.diff; gain = t.
 
 -- as it would be if it were taken at sample 1
 abbrev pub taken_first : Candidate → Candidate
-taken_first candidate = elim (held_in candidate) [ none ↦ Nothing | some t ↦ held_as (taken_as 1 t) ]
+taken_first candidate = elim (held_in candidate) [ None ↦ Nothing | Some t ↦ held_as (taken_as 1 t) ]
 
 -- ---- a candidate's clauses, its age first
 first_anew : (a a' b c d : Bool) → T a' → T (a && b && c && d) → T (a' && b && c && d)
@@ -53,16 +51,16 @@ taken_at_age n count not_held t = t
 taken_at_age n count (is_held u) t = t
 
 -- as another number leaves all else
-pub record TakenFirst (p : ℕ) (wait : Wait) (candidate : Candidate) : Type 0 where
+pub record TakenFirst (p : ℕ) (wait : Option Waiting) (candidate : Candidate) : Type 0 where
   pub values : T (candidate_fit_lem candidate) → T (candidate_fit_lem (taken_first candidate))
   pub taken : T (taken_fit_lem 1 (taken_first candidate))
   pub waits : T (wait_fit_lem p wait candidate false) → T (wait_fit_lem p wait (taken_first candidate) false)
 
-pub taken_first_lem : (p : ℕ) (wait : Wait) {candidate : Candidate} → HeldOrNot candidate → TakenFirst p wait candidate
+pub taken_first_lem : (p : ℕ) (wait : Option Waiting) {candidate : Candidate} → HeldOrNot candidate → TakenFirst p wait candidate
 unfolding candidate_fit_lem wait_fit_lem
 taken_first_lem p wait not_held = record { values = λ t. t; taken = tt; waits = λ t. t }
-taken_first_lem p Free (is_held u) = record { values = λ t. t; taken = tt; waits = λ t. tt }
-taken_first_lem p (Due w) (is_held u) = record { values = λ t. t; taken = tt; waits = λ t. t }
+taken_first_lem p None (is_held u) = record { values = λ t. t; taken = tt; waits = λ t. tt }
+taken_first_lem p (Some w) (is_held u) = record { values = λ t. t; taken = tt; waits = λ t. t }
 
 -- all but the upper end of the age
 pub record Grown (candidate : Candidate) : Type 0 where
@@ -97,7 +95,7 @@ pub aged_grown : (t : TakenBurst) → Grown (held_as t) → Grown (held_as (aged
 aged_grown t g = record { values = g.values; born = λ h. omega arith }
 
 -- ---- the wait
-pub due_fit : (p : ℕ) (w : Waiting) (candidate : Candidate) → 1 ≤ w.left → w.left < 184 * p → T (held candidate) → T (wait_fit_lem p (Due w) candidate false)
+pub due_fit : (p : ℕ) (w : Waiting) (candidate : Candidate) → 1 ≤ w.left → w.left < 184 * p → T (held candidate) → T (wait_fit_lem p (Some w) candidate false)
 unfolding wait_fit_lem
 due_fit p w candidate a b h =
     and_i (leb 1 w.left && ltb w.left (184 * p) && held candidate) true
@@ -105,26 +103,26 @@ due_fit p w candidate a b h =
     tt
 
 -- nor is its mark
-pub marked_fit : (p : ℕ) (wait : Wait) (candidate : Candidate) → T (wait_fit_lem p wait candidate false) → T (wait_fit_lem p (marked wait) candidate false)
+pub marked_fit : (p : ℕ) (wait : Option Waiting) (candidate : Candidate) → T (wait_fit_lem p wait candidate false) → T (wait_fit_lem p (marked wait) candidate false)
 unfolding wait_fit_lem marked
-marked_fit p Free candidate t = tt
-marked_fit p (Due w) candidate t = t
+marked_fit p None candidate t = tt
+marked_fit p (Some w) candidate t = t
 
-pub marked_kept : (wait : Wait) → T (kept_fit_lem wait) → T (kept_fit_lem (marked wait))
+pub marked_kept : (wait : Option Waiting) → T (kept_fit_lem wait) → T (kept_fit_lem (marked wait))
 unfolding marked
-marked_kept Free t = tt
-marked_kept (Due w) t = t
+marked_kept None t = tt
+marked_kept (Some w) t = t
 
 -- which candidate is held is of no account to it
-pub wait_stays : (p : ℕ) (wait : Wait) (candidate other : Candidate) → T (held other) → T (wait_fit_lem p wait candidate false) → T (wait_fit_lem p wait other false)
+pub wait_stays : (p : ℕ) (wait : Option Waiting) (candidate other : Candidate) → T (held other) → T (wait_fit_lem p wait candidate false) → T (wait_fit_lem p wait other false)
 unfolding wait_fit_lem
-wait_stays p Free candidate other h t = tt
-wait_stays p (Due w) candidate other h t =
+wait_stays p None candidate other h t = tt
+wait_stays p (Some w) candidate other h t =
     let three = and_l (leb 1 w.left && ltb w.left (184 * p) && held candidate) true t in
     and_i (leb 1 w.left && ltb w.left (184 * p) && held other) true
     (and_i (leb 1 w.left && ltb w.left (184 * p)) (held other) (and_l (leb 1 w.left && ltb w.left (184 * p)) (held candidate) three) h)
     tt
 
-pub wait_at_age : (p n : ℕ) (wait : Wait) {candidate : Candidate} → HeldOrNot candidate → T (wait_fit_lem p wait candidate false) → T (wait_fit_lem p wait (with_age n candidate) false)
+pub wait_at_age : (p n : ℕ) (wait : Option Waiting) {candidate : Candidate} → HeldOrNot candidate → T (wait_fit_lem p wait candidate false) → T (wait_fit_lem p wait (with_age n candidate) false)
 wait_at_age p n wait not_held t = t
 wait_at_age p n wait (is_held u) t = wait_stays p wait (held_as u) (held_as (at_age n u)) tt t

@@ -1,15 +1,16 @@
 -- The promises of the calls over a lent window and ring fix the answer, all parts of the record and the room: the promises on the record do.
 -- Assumes nothing.
+use Rattle.std.specs.Prelude.{Bool, Result}
+use Rattle.demodulator.specs.declared.After.{After}
+use Rattle.protocol.specs.declared.Refusal.{Refusal}
 use mathlib.Core.Path.{◌≡◌, ap}
-use mathlib.Core.List.{List, []}
+use mathlib.Core.List.{List}
 use Prim.Native.Nat.{ℕ}
 use lib.IntN.{ℤ}
 use lib.Ieee.{Float}
 use Rattle.search.specs.declared.Control.{Control}
 use Rattle.search.specs.declared.Reply.{Reply}
-use Rattle.demodulator.specs.declared.Carrier.{Carrier}
 use Rattle.demodulator.specs.declared.AfterStretch.{AfterStretch}
-use Rattle.demodulator.specs.declared.AfterReply.{AfterReply}
 use Rattle.demodulator.specs.declared.lent.FedLent.{FedLent}
 use Rattle.demodulator.specs.declared.lent.RepliedLent.{RepliedLent}
 use Rattle.demodulator.specs.Record.{assembled}
@@ -27,7 +28,7 @@ fed_parts t = record {
   control = t.demodulator.control;
 }
 
-abbrev replied_parts : AfterReply → RepliedLent
+abbrev replied_parts : After Unit → RepliedLent
 replied_parts t = record { answer = t.answer; control = t.demodulator.control }
 
 module _ (rate : ℕ) (window : List ℤ) (ring : List Float) (windowCursor ringCursor : ℕ) (c : Control) where
@@ -45,5 +46,5 @@ module _ (rate : ℕ) (window : List ℤ) (ring : List Float) (windowCursor ring
       let left = reply_of rate window ring windowCursor ringCursor in
       ap replied_parts (reply_only_answer (assembled rate window windowCursor ring ringCursor c) reply (left r) (left s) p q)
 
-  pub carrier_lent_only_answer : (r s : Carrier) → CarrierLentSays rate window windowCursor ringCursor c r → CarrierLentSays rate window windowCursor ringCursor c s → r ≡ s
+  pub carrier_lent_only_answer : (r s : Result Bool Refusal) → CarrierLentSays rate window windowCursor ringCursor c r → CarrierLentSays rate window windowCursor ringCursor c s → r ≡ s
   carrier_lent_only_answer r s p q = data_carrier_detect_only_answer (assembled rate window windowCursor ring ringCursor c) r s (p ring) (q ring)

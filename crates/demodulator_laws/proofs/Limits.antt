@@ -1,5 +1,7 @@
 -- Each limit of 'Unfit receiver' on the control, met and passed by one, worked out at 48 kHz: the clauses are those of `Fit`, and a call of a record that one of them
 -- shuts out is refused with 1 (`sample_unfit`, `reply_unfit`, `carrier_unfit`). Assumes nothing.
+use Rattle.std.specs.Prelude.{Option, Some, None}
+use Rattle.search.specs.declared.Waiting.{Waiting}
 use mathlib.Core.Path.{◌≡◌, refl}
 use mathlib.Core.Bool.{Bool, true, false}
 use Prim.Native.Nat.{ℕ, ◌+◌, ◌^◌}
@@ -8,9 +10,6 @@ use Rattle.protocol.specs.declared.Kind.TheVariants.{Packet}
 use Rattle.decode.specs.Correlator.{in_range}
 use Rattle.search.specs.declared.Candidate.{Candidate}
 use Rattle.search.specs.declared.Candidate.TheVariants.{Nothing}
-use Rattle.search.specs.declared.Wait.{Wait}
-use Rattle.search.specs.declared.Wait.TheVariants.{Free, Due}
-use Rattle.search.specs.declared.Timer.TheVariants.{Off, Until}
 use Rattle.search.specs.declared.Control.{Control}
 use Rattle.search.specs.TakenBurst.{held_as}
 use Rattle.search.specs.Fit.{candidate_fit_lem, wait_fit_lem, control_fit_lem}
@@ -21,8 +20,8 @@ use Rattle.demodulator_laws.proofs.ExampleBurst.{burst_at, wait_of}
 abbrev pub control : ℕ → ℕ → ℕ → Float → Float → Float → ℕ → Control
 control count end age diff gain shift left = record {
   candidate = held_as (burst_at Packet age (record { diff = diff; gain = gain; shift = shift }));
-  wait = Due (wait_of left);
-  dcd = Until end;
+  wait = Some (wait_of left);
+  dcd = Some end;
   owed = false;
   sample = count;
 }
@@ -112,26 +111,26 @@ wait_none : fits (control 1 0 1 (of_bits binary32 0) sixteen million 0) false
 unfolding control_fit_lem candidate_fit_lem wait_fit_lem in_range of_bits le lt
 wait_none = refl
 
-abbrev pub bare : Candidate → Wait → Bool → Control
-bare candidate wait owed = record { candidate = candidate; wait = wait; dcd = Off; owed = owed; sample = 1 }
+abbrev pub bare : Candidate → Option Waiting → Bool → Control
+bare candidate wait owed = record { candidate = candidate; wait = wait; dcd = None; owed = owed; sample = 1 }
 
 abbrev pub held : Candidate
 held = held_as (burst_at Packet 1 (record { diff = of_bits binary32 0; gain = sixteen; shift = million }))
 
-wait_alone : fits (bare Nothing (Due (wait_of 1)) false) false
+wait_alone : fits (bare Nothing (Some (wait_of 1)) false) false
 unfolding control_fit_lem candidate_fit_lem wait_fit_lem
 wait_alone = refl
 
-wait_owing : fits (bare held (Due (wait_of 1)) true) false
+wait_owing : fits (bare held (Some (wait_of 1)) true) false
 unfolding control_fit_lem candidate_fit_lem wait_fit_lem in_range of_bits le lt
 wait_owing = refl
 
 -- "a reply owed with a candidate held"
-owed_alone : fits (bare Nothing Free true) true
+owed_alone : fits (bare Nothing None true) true
 unfolding control_fit_lem candidate_fit_lem wait_fit_lem
 owed_alone = refl
 
-owed_held : fits (bare held Free true) false
+owed_held : fits (bare held None true) false
 unfolding control_fit_lem candidate_fit_lem wait_fit_lem in_range of_bits le lt
 owed_held = refl
 
@@ -139,8 +138,8 @@ owed_held = refl
 abbrev taken_on : ℕ → ℕ → Control
 taken_on number count = record {
   candidate = held_as (taken_as number (burst_at Packet 1 (record { diff = of_bits binary32 0; gain = sixteen; shift = million })));
-  wait = Free;
-  dcd = Off;
+  wait = None;
+  dcd = None;
   owed = false;
   sample = count;
 }
@@ -163,7 +162,7 @@ taken_none = refl
 
 -- document 02 j): "a wait's kept age of 0"; any other is fit, whatever the candidate's own
 abbrev pub kept_at : ℕ → Bool → Control
-kept_at age mark = bare held (Due (record { left = 1; age = age; replaced = mark })) false
+kept_at age mark = bare held (Some (record { left = 1; age = age; replaced = mark })) false
 
 kept_most : fits (kept_at 255 true) true
 unfolding control_fit_lem candidate_fit_lem wait_fit_lem in_range of_bits le lt

@@ -1,5 +1,6 @@
 -- Small instances of the laws of the record, at a fresh one and at one whose frame is due with the next sample: what the laws ask can be met. Assumes nothing.
-use mathlib.Core.Path.{◌≡◌, refl, sym}
+use Rattle.std.specs.Prelude.{Some}
+use mathlib.Core.Path.{◌≡◌, refl}
 use mathlib.Core.Bool.{true, false}
 use mathlib.Core.List.{[]}
 use Prim.Native.Nat.{◌<◌}
@@ -13,8 +14,6 @@ use Rattle.numbers.specs.Firsts.{firsts}
 use Rattle.shaping.specs.Rate.{at48}
 use Rattle.protocol.specs.declared.Kind.TheVariants.{Lsf}
 use Rattle.decode.specs.Correlator.{in_range}
-use Rattle.search.specs.declared.Wait.TheVariants.{Due}
-use Rattle.search.specs.declared.Timer.TheVariants.{Until}
 use Rattle.search.specs.Fit.{candidate_fit_lem, wait_fit_lem, control_fit_lem}
 use Rattle.demodulator.specs.declared.SoftDemodulator.{SoftDemodulator}
 use Rattle.demodulator.specs.Spans.{eight}
@@ -55,7 +54,7 @@ fresh_for_reply = refl
 abbrev due_next : SoftDemodulator
 due_next =
     with_control
-    (record { candidate = held_at Lsf 254; wait = Due (wait_of 1); dcd = Until 3840; owed = false; sample = 1840 })
+    (record { candidate = held_at Lsf 254; wait = Some (wait_of 1); dcd = Some 3840; owed = false; sample = 1840 })
     (fresh 48000)
 
 due_for_sample : fit_for_sample_lem 10 due_next ≡ true

@@ -1,4 +1,5 @@
 -- Each limit of 'Unfit receiver' on the window and the ring, met and passed by one, worked out at 48 kHz. Assumes nothing.
+use Rattle.std.specs.Prelude.{Some}
 use mathlib.Core.Path.{◌≡◌, refl}
 use mathlib.Core.Bool.{Bool, true, false}
 use Prim.Native.Nat.{ℕ}
@@ -6,7 +7,6 @@ use lib.Ieee.{Float, nan, binary32, of_bits, lt, le}
 use lib.ListN.{set}
 use Rattle.numbers.specs.Below.{all_below}
 use Rattle.decode.specs.Correlator.{in_range}
-use Rattle.search.specs.declared.Wait.TheVariants.{Due}
 use Rattle.search.specs.declared.Control.{Control}
 use Rattle.search.specs.Fit.{candidate_fit_lem, wait_fit_lem, control_fit_lem}
 use Rattle.demodulator.specs.declared.SoftDemodulator.{SoftDemodulator}
@@ -36,7 +36,7 @@ ring_past = refl
 
 -- ---- the filtered values, at a cursor of 0
 abbrev pub waiting : ℕ → Control
-waiting left = bare held (Due (wait_of left)) false
+waiting left = bare held (Some (wait_of left)) false
 
 abbrev pub value_at : ℕ → Control → ℕ → Float → SoftDemodulator
 value_at rate c place value = assembled rate (fresh rate).filter_win 0 (set (fresh rate).rx_win place value) 0 c

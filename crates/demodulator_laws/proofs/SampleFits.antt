@@ -1,9 +1,9 @@
 -- A fit control after a sample and after a reply: fit again, but that a search may raise an age of 254 to 255, and that a reply before the first sample, which no run
 -- gives, may take a candidate at sample 0. Over p, the samples in a symbol, from 2 up. Assumes nothing.
+use Rattle.std.specs.Prelude.{Some, None, Option}
 use mathlib.Core.Path.{◌≡◌, refl, ap}
 use mathlib.Core.Logic.{◌⊎◌, inl, inr}
 use mathlib.Core.Bool.{Bool, true, false}
-use mathlib.Core.Option.{Option, none, some}
 use Prim.Native.Nat.{ℕ, zero, suc, ◌^◌, ◌≤◌, ◌<◌}
 use native.Mathlib.Omega.{arith}
 use lib.Dec.{T, ltb}
@@ -12,8 +12,6 @@ use lib.Ieee.{Float}
 use Rattle.decode.specs.Correlator.{in_range}
 use Rattle.search.specs.declared.Candidate.TheVariants.{Nothing}
 use Rattle.search.specs.declared.Waiting.{Waiting}
-use Rattle.search.specs.declared.Wait.{Wait}
-use Rattle.search.specs.declared.Wait.TheVariants.{Free, Due}
 use Rattle.search.specs.declared.Control.{Control}
 use Rattle.search.specs.declared.Reply.{Reply}
 use Rattle.search.specs.declared.Reply.TheVariants.{Accepted, Rejected}
@@ -37,16 +35,16 @@ module _ (p : ℕ) (symbol : 2 ≤ p) (v : ℕ → Float) (range : (i : ℕ) →
 
   due_fits : (held : Option TakenBurst) (w : Waiting) (c : Control) → T (control_fit_lem p c) → c.owed ≡ false → 1 ≤ c.sample → T (control_fit_lem p (control_of (comes_to p v (due_turn held w (freed c)))))
   unfolding due_turn
-  due_fits none w c fit free one = unaged (freed c) refl (freed_fit p c fit c.owed) free one
-  due_fits (some t) w c fit free one = freed_fit p c fit true
+  due_fits None w c fit free one = unaged (freed c) refl (freed_fit p c fit c.owed) free one
+  due_fits (Some t) w c fit free one = freed_fit p c fit true
 
   module _ (c : Control) (fit : T (control_fit_lem p c)) where
     module _ (l : c.sample < 2 ^ 63) (free : c.owed ≡ false) where
-      by_wait : (wait : Wait) → c.wait ≡ wait → T (control_fit_lem p (control_of (sampled p v c))) ⊎ Outgrown p c (control_of (sampled p v c))
-      by_wait Free e =
+      by_wait : (wait : Option Waiting) → c.wait ≡ wait → T (control_fit_lem p (control_of (sampled p v c))) ⊎ Outgrown p c (control_of (sampled p v c))
+      by_wait None e =
           rw (sampled_free p v c e)
           (elim (search_fits p symbol v range (counted c) (counted_fit p c fit l) free (omega arith)) [ inl t ↦ inl t | inr o ↦ inr (record { was = o.was; is = o.is; else_fit = o.else_fit }) ])
-      by_wait (Due w) e =
+      by_wait (Some w) e =
           elim (either (ltb 1 w.left)) [
             | inl t ↦ let k = ltb-true 1 w.left t in inl (rw (sampled_rest p v c w e k) (waiting_fit p (counted c) (counted_fit p c fit l) w e k))
             | inr t ↦ inl (rw (sampled_due p v c w e (ltb-false 1 w.left t)) (due_fits (held_in c.candidate) w (counted c) (counted_fit p c fit l) free (omega arith)))

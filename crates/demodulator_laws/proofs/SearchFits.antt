@@ -1,4 +1,5 @@
 -- A search leaves a fit control fit, but that an age of 254 may come back as 255. Over p, the samples in a symbol, from 2 up: at 1 an age of 255 would leave no wait. Assumes nothing.
+use Rattle.std.specs.Prelude.{Some}
 use mathlib.Core.Path.{◌≡◌, refl, ap, subst}
 use mathlib.Core.Logic.{◌⊎◌, inl, inr}
 use mathlib.Core.Bool.{false}
@@ -15,7 +16,6 @@ use Rattle.protocol.specs.declared.SyncBurst.TheVariants.{Frame, Preamble, EndOf
 use Rattle.decode.specs.Correlator.{correlation, matches, in_range}
 use Rattle.decode.proofs.MatchFacts.{match_facts}
 use Rattle.search.specs.declared.Candidate.{Candidate}
-use Rattle.search.specs.declared.Timer.TheVariants.{Until}
 use Rattle.search.specs.declared.Control.{Control}
 use Rattle.search.specs.TakenBurst.{TakenBurst, held_as, held_in, taken, aged}
 use Rattle.search.specs.Search.{with_timer, with_candidate, rank, same_kind, age_of, end_after_lem, wait_after, marked, taking, carried, matched, missed, tried, passed, searched}
@@ -97,7 +97,7 @@ module _ (p : ℕ) (symbol : 2 ≤ p) (v : ℕ → Float) (range : (i : ℕ) →
   carried_sound : (burst : SyncBurst) (c : Control) → c.sample ≤ 2 ^ 63 → Sound p c → Sound p (carried p burst v c)
   unfolding carried
   carried_sound burst c l s =
-      by_test (Sound p) (matches burst v) (with_timer (Until (end_after_lem c.sample (24 * p))) c) c
+      by_test (Sound p) (matches burst v) (with_timer (Some (end_after_lem c.sample (24 * p))) c) c
       (λ e. record { timer = le→leb (end_after_lem c.sample (24 * p)) (2 ^ 63 + 384 * p) (omega arith); candidate = s.candidate; wait = s.wait; owed = s.owed; taken = s.taken; kept = s.kept })
       (λ e. s)
 
@@ -108,7 +108,7 @@ module _ (p : ℕ) (symbol : 2 ≤ p) (v : ℕ → Float) (range : (i : ℕ) →
       let same : age_of c.candidate ≡ u.age = ap age_of e in
       let holding : T (held c.candidate) = rw e tt in
       let born : 1 ≤ u.age = omega (arith, s.candidate.born holding) in
-      by_test (Sound p) (same_kind u.kind kind) (record { candidate = c.candidate; wait = wait_after p u.age; dcd = Until (end_after_lem c.sample (384 * p)); owed = c.owed; sample = c.sample }) c
+      by_test (Sound p) (same_kind u.kind kind) (record { candidate = c.candidate; wait = wait_after p u.age; dcd = Some (end_after_lem c.sample (384 * p)); owed = c.owed; sample = c.sample }) c
       (λ t. record {
         timer = le→leb (end_after_lem c.sample (384 * p)) (2 ^ 63 + 384 * p) (omega arith);
         candidate = s.candidate;

@@ -1,4 +1,5 @@
 -- Small instances of the laws of the search: P6's values, the LSF's signs times 20 plus 5, with a diff of 2.0, at a control whose age is 254 and whose count is the largest. Assumes nothing.
+use Rattle.std.specs.Prelude.{None}
 use mathlib.Core.Path.{◌≡◌, refl}
 use mathlib.Core.Logic.{◌⊎◌}
 use mathlib.Core.Bool.{true, false}
@@ -18,8 +19,6 @@ use Rattle.protocol.specs.Bursts.{signs_of, spelled, word_of, sign_of}
 use Rattle.decode.specs.declared.Spread.{Spread}
 use Rattle.decode.specs.Correlator.{least_gain, threshold, zero_unsigned, highest, lowest, gain_of, shift_of, symbol_of, distance_of, summed, diff_of, correlation, matches, in_range}
 use Rattle.decode.specs.Parts.{values_of, spread_of, answer_from}
-use Rattle.search.specs.declared.Wait.TheVariants.{Free}
-use Rattle.search.specs.declared.Timer.TheVariants.{Off}
 use Rattle.search.specs.declared.Control.{Control}
 use Rattle.search.specs.declared.Reply.TheVariants.{Rejected}
 use Rattle.search.specs.Search.{age_of, carried, marked, matched, missed, tried, passed, searched}
@@ -52,7 +51,7 @@ sixth_range : (i : ℕ) → i < 8 → T (in_range (values_of sixth i))
 sixth_range = all_below_lem 8 (λ i. in_range (values_of sixth i)) (unfold all_below in_range near high low le lt eq of_int of_bits in tt)
 
 abbrev oldest : Control
-oldest = record { candidate = held_at Lsf 254; wait = Free; dcd = Off; owed = false; sample = 2 ^ 63 }
+oldest = record { candidate = held_at Lsf 254; wait = None; dcd = None; owed = false; sample = 2 ^ 63 }
 
 oldest_fit : T (control_fit_lem 10 oldest)
 unfolding control_fit_lem candidate_fit_lem wait_fit_lem in_range of_bits le lt

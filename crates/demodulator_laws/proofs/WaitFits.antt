@@ -1,4 +1,5 @@
 -- A fit control stays fit while a wait goes on, and once a reply is given. Assumes nothing.
+use Rattle.std.specs.Prelude.{Option, Some, None}
 use mathlib.Core.Path.{◌≡◌, subst}
 use mathlib.Core.Bool.{Bool, true, false, not, ◌&&◌}
 use Prim.Native.Nat.{ℕ, ◌-◌, ◌*◌, ◌<◌}
@@ -7,15 +8,13 @@ use lib.Dec.{T, leb, ltb, ltb→lt, le→leb, lt→ltb}
 use lib.Ieee.Fits.{and_i, and_l, and_r}
 use Rattle.search.specs.declared.Candidate.{Candidate}
 use Rattle.search.specs.declared.Waiting.{Waiting}
-use Rattle.search.specs.declared.Wait.{Wait}
-use Rattle.search.specs.declared.Wait.TheVariants.{Free, Due}
 use Rattle.search.specs.declared.Control.{Control}
 use Rattle.search.specs.Turn.{nearer, waiting_on, owing}
 use Rattle.search.specs.Fit.{held, wait_fit_lem, kept_fit_lem, control_fit_lem}
 use Rattle.search.proofs.Clauses.{clauses, joined}
 
 -- ---- the wait
-sooner_fit : (p : ℕ) (w : Waiting) (candidate : Candidate) (owed : Bool) → 1 < w.left → T (wait_fit_lem p (Due w) candidate owed) → T (wait_fit_lem p (Due (nearer w)) candidate owed)
+sooner_fit : (p : ℕ) (w : Waiting) (candidate : Candidate) (owed : Bool) → 1 < w.left → T (wait_fit_lem p (Some w) candidate owed) → T (wait_fit_lem p (Some (nearer w)) candidate owed)
 unfolding wait_fit_lem
 sooner_fit p w candidate owed l t =
     let three = and_l (leb 1 w.left && ltb w.left (184 * p) && held candidate) (not owed) t in
@@ -28,16 +27,16 @@ sooner_fit p w candidate owed l t =
     (and_r (leb 1 w.left && ltb w.left (184 * p)) (held candidate) three))
     (and_r (leb 1 w.left && ltb w.left (184 * p) && held candidate) (not owed) t)
 
-unowed_fit : (p : ℕ) (wait : Wait) (candidate : Candidate) (owed : Bool) → T (wait_fit_lem p wait candidate owed) → T (wait_fit_lem p wait candidate false)
+unowed_fit : (p : ℕ) (wait : Option Waiting) (candidate : Candidate) (owed : Bool) → T (wait_fit_lem p wait candidate owed) → T (wait_fit_lem p wait candidate false)
 unfolding wait_fit_lem
-unowed_fit p Free candidate owed t = tt
-unowed_fit p (Due w) candidate owed t =
+unowed_fit p None candidate owed t = tt
+unowed_fit p (Some w) candidate owed t =
     let waits = leb 1 w.left && ltb w.left (184 * p) && held candidate in
     and_i waits true (and_l waits (not owed) t) tt
 
 -- ---- the control
 module _ (p : ℕ) (c : Control) (fit : T (control_fit_lem p c)) where
-  pub waiting_fit : (w : Waiting) → c.wait ≡ Due w → 1 < w.left → T (control_fit_lem p (waiting_on (nearer w) c))
+  pub waiting_fit : (w : Waiting) → c.wait ≡ Some w → 1 < w.left → T (control_fit_lem p (waiting_on (nearer w) c))
   waiting_fit w e l =
       let s = clauses p c fit in
       joined p (waiting_on (nearer w) c)
@@ -45,10 +44,10 @@ module _ (p : ℕ) (c : Control) (fit : T (control_fit_lem p c)) where
         count = s.count;
         timer = s.timer;
         candidate = s.candidate;
-        wait = sooner_fit p w c.candidate c.owed l (subst (λ (o : Wait). T (wait_fit_lem p o c.candidate c.owed)) e s.wait);
+        wait = sooner_fit p w c.candidate c.owed l (subst (λ (o : Option Waiting). T (wait_fit_lem p o c.candidate c.owed)) e s.wait);
         reply = s.reply;
         taken = s.taken;
-        kept = subst (λ (o : Wait). T (kept_fit_lem o)) e s.kept;
+        kept = subst (λ (o : Option Waiting). T (kept_fit_lem o)) e s.kept;
       })
 
   pub settled_fit : T (control_fit_lem p (owing false c))

@@ -1,4 +1,5 @@
 -- Demand 3 by what a caller sees, at a rate, over every list of calls from a fresh record: samples, stretches, replies and queries in any order. Assumes nothing.
+use Rattle.std.specs.Prelude.{Some}
 use mathlib.Core.Path.{◌≡◌, refl, sym, ap, subst, ◌∙◌}
 use mathlib.Core.Logic.{◌↔◌}
 use mathlib.Core.Bool.{true, false}
@@ -10,7 +11,6 @@ use Rattle.machine.proofs.Parts.{each_front}
 use Rattle.shaping.specs.Rate.{Rate, rate_of}
 use Rattle.shaping.proofs.RateFacts.{Facts}
 use Rattle.search.specs.declared.Waiting.{Waiting}
-use Rattle.search.specs.declared.Wait.TheVariants.{Due}
 use Rattle.search.specs.declared.Shown.{Shown}
 use Rattle.search.specs.declared.Control.{Control}
 use Rattle.search.specs.TakenBurst.{TakenBurst, shown_of}
@@ -54,7 +54,7 @@ module _ (R : Rate) (F : Facts R) where
       left_same = (own_agrees R F _ _ (singles_run R F t.before front).0 (singles_fit R F t.before front) t.call).control
 
       -- a wait has its candidate
-      waits : (w : Waiting) → (control_at R t).wait ≡ Due w → held (control_at R t).candidate ≡ true
+      waits : (w : Waiting) → (control_at R t).wait ≡ Some w → held (control_at R t).candidate ≡ true
       waits w e = ((record_facts R.p _ (singles_fit R F t.before front).for_query).control.wait w e).holding
 
     -- ---- what is taken
@@ -64,7 +64,7 @@ module _ (R : Rate) (F : Facts R) where
         let c = control_same t in
         subst (Started (log_all R.taps R.p ss)) (sym (ap (λ (d : Control). d.sample) (left_same t)) ∙ s.number)
         (taken_started R.taps R.p (size_at R F) ss (alone_at R F ss sampled) (again_at R F ss sampled) t.before t.after t.call t.split (admitted t s.admitted)
-        (subst (λ (d : Control). (w : Waiting) → d.wait ≡ Due w → held d.candidate ≡ true) c (waits t))
+        (subst (λ (d : Control). (w : Waiting) → d.wait ≡ Some w → held d.candidate ≡ true) c (waits t))
         (sym (ap (λ (d : Control). d.candidate) c) ∙ s.none)
         (sym (ap (λ (d : Control). held d.candidate) (left_same t)) ∙ s.holds))
 

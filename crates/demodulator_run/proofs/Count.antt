@@ -1,13 +1,11 @@
 -- Each admitted sample is counted, and nothing else is. Assumes nothing.
+use Rattle.std.specs.Prelude.{Some, None, Option}
 use mathlib.Core.Path.{◌≡◌, refl}
 use mathlib.Core.Bool.{Bool, true, false, cond}
-use mathlib.Core.Option.{Option, none, some}
 use Prim.Native.Nat.{ℕ, ◌+◌}
 use lib.Ieee.{Float}
 use lib.Dec.{ltb}
 use Rattle.search.specs.declared.Waiting.{Waiting}
-use Rattle.search.specs.declared.Wait.{Wait}
-use Rattle.search.specs.declared.Wait.TheVariants.{Free, Due}
 use Rattle.search.specs.declared.Control.{Control}
 use Rattle.search.specs.declared.Turn.{Turn}
 use Rattle.search.specs.declared.Turn.TheVariants.{Rest}
@@ -25,13 +23,13 @@ module _ {n : ℕ} where
 module _ (p : ℕ) (v : ℕ → Float) where
   due_count : (o : Option TakenBurst) (w : Waiting) (c : Control) → (control_of (comes_to p v (due_turn o w c))).sample ≡ c.sample
   unfolding due_turn
-  due_count none w c = searched_sample p v c
-  due_count (some held) w c = refl
+  due_count None w c = searched_sample p v c
+  due_count (Some held) w c = refl
 
-  waited_count : (wait : Wait) (c : Control) → (control_of (comes_to p v (waited_turn wait c))).sample ≡ c.sample
+  waited_count : (wait : Option Waiting) (c : Control) → (control_of (comes_to p v (waited_turn wait c))).sample ≡ c.sample
   unfolding waited_turn
-  waited_count Free c = searched_sample p v c
-  waited_count (Due w) c = turn_count p v (ltb 1 w.left) (Rest _) (due_turn (held_in c.candidate) w (freed c)) refl (due_count (held_in c.candidate) w (freed c))
+  waited_count None c = searched_sample p v c
+  waited_count (Some w) c = turn_count p v (ltb 1 w.left) (Rest _) (due_turn (held_in c.candidate) w (freed c)) refl (due_count (held_in c.candidate) w (freed c))
 
   pub sampled_count : (c : Control) → (control_of (sampled p v c)).sample ≡ c.sample + 1
   unfolding sampled

@@ -1,4 +1,6 @@
 -- The two layouts of the window side by side: records that hold the same are fit alike, and hold the same once a sample is stored. Assumes nothing.
+use Rattle.std.specs.Prelude.{Option}
+use Rattle.search.specs.declared.Waiting.{Waiting}
 use mathlib.Core.Path.{◌≡◌, refl, sym, ap, ◌∙◌}
 use mathlib.Core.Logic.{inl, inr}
 use mathlib.Core.Bool.{Bool, true, ◌&&◌}
@@ -18,7 +20,6 @@ use Rattle.shaping.proofs.RateFacts.{Facts}
 use Rattle.shaping.proofs.Dot.{dot_same}
 use Rattle.decode.specs.Correlator.{in_range}
 use Rattle.search.specs.declared.Control.{Control}
-use Rattle.search.specs.declared.Wait.{Wait}
 use Rattle.demodulator.specs.declared.SoftDemodulator.{SoftDemodulator}
 use Rattle.demodulator.specs.Record.{fresh_control, fresh, assembled, with_control, back, view, window_after, filtered_after, stored}
 use Rattle.demodulator.specs.Fit.{cursors_fit, record_fit_lem, places_read_lem, fit_for_sample_lem, fit_for_reply_lem}
@@ -41,7 +42,7 @@ module _ (p : ℕ) (m n : SoftDemodulator) (a : Alike p m n) where
   some : 0 < p
   some = let l = a.ring_cursor in omega arith
 
-  sample_places : (w : Wait) → all_below (places_read_lem w) (λ (j : ℕ). in_range (back p m (p * j + (p - 1)))) ≡ all_below (places_read_lem w) (λ (j : ℕ). in_range (back p n (p * j + (p - 1))))
+  sample_places : (w : Option Waiting) → all_below (places_read_lem w) (λ (j : ℕ). in_range (back p m (p * j + (p - 1)))) ≡ all_below (places_read_lem w) (λ (j : ℕ). in_range (back p n (p * j + (p - 1))))
   sample_places w =
       all_same (places_read_lem w) _ _ (λ j l. ap in_range (a.ring (p * j + (p - 1))
       (let u = (places_between w).1 in let v : p * suc j ≤ p * 191 = mul-le-mul_left p (omega arith) in omega (arith, some))))

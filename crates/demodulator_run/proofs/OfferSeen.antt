@@ -1,10 +1,11 @@
 -- A sample is answered with an offer exactly where one sample was left of the wait for a frame, from every record. Assumes nothing.
+use Rattle.std.specs.Prelude.{Option, Some, None}
 use mathlib.Core.Path.{◌≡◌, refl, sym, ap, ◌∙◌}
 use mathlib.Core.Logic.{◌⊎◌, inl, inr}
 use mathlib.Core.Bool.{Bool, true, false, not, cond, true≢false}
 use mathlib.Core.List.Memᴰ
 use mathlib.Core.List.{List, [], ◌∷◌, ◌++◌, Memᴰ}
-use Prim.Native.Nat.{ℕ, ◌+◌, ◌-◌, ◌^◌, ◌≤◌}
+use Prim.Native.Nat.{ℕ, ◌+◌, ◌^◌, ◌≤◌}
 use native.Mathlib.Omega.{arith}
 use borrow.Author.Tests.{ltb-false, not-false}
 use lib.Dec.{eqb, ltb}
@@ -16,8 +17,6 @@ use Rattle.shaping.specs.Rate.{Rate}
 use Rattle.protocol.specs.Refusals.{bare}
 use Rattle.search.specs.declared.Candidate.{Candidate}
 use Rattle.search.specs.declared.Waiting.{Waiting}
-use Rattle.search.specs.declared.Wait.{Wait}
-use Rattle.search.specs.declared.Wait.TheVariants.{Free, Due}
 use Rattle.search.specs.declared.Control.{Control}
 use Rattle.search.specs.declared.Turn.TheVariants.{Rest}
 use Rattle.search.specs.declared.Reply.{Reply}
@@ -55,14 +54,14 @@ module _ (R : Rate) where
     due_offer not_held w c e = no_offer shown _ d e
     due_offer (is_held held) w c e = ((held, refl, cc), cc)
 
-    waited_offer : (c : Control) (wait : Wait) → comes_to p v (waited_turn wait (counted c)) ≡ offer shown d
-        → (w : Waiting) × (wait ≡ Due w) × (w.left ≤ 1) × Offered w c.candidate × (d.sample ≡ c.sample + 1)
+    waited_offer : (c : Control) (wait : Option Waiting) → comes_to p v (waited_turn wait (counted c)) ≡ offer shown d
+        → (w : Waiting) × (wait ≡ Some w) × (w.left ≤ 1) × Offered w c.candidate × (d.sample ≡ c.sample + 1)
     unfolding waited_turn
-    waited_offer c Free e = no_offer shown _ d e
-    waited_offer c (Due u) e = go (ltb 1 u.left) refl e
+    waited_offer c None e = no_offer shown _ d e
+    waited_offer c (Some u) e = go (ltb 1 u.left) refl e
       where
         go : (b : Bool) → ltb 1 u.left ≡ b → comes_to p v (cond b (Rest (waiting_on (nearer u) (counted c))) (due_turn (held_in c.candidate) u (freed (counted c)))) ≡ offer shown d
-            → (w : Waiting) × (Due u ≡ Due w) × (w.left ≤ 1) × Offered w c.candidate × (d.sample ≡ c.sample + 1)
+            → (w : Waiting) × (Some u ≡ Some w) × (w.left ≤ 1) × Offered w c.candidate × (d.sample ≡ c.sample + 1)
         go true l e = no_offer shown _ d e
         go false l e =
             let f = due_offer (held_or_not c.candidate) u (freed (counted c)) e in
@@ -95,7 +94,7 @@ module _ (R : Rate) where
         let ages : f.0.age ≡ o.age = ap (λ (s : Shown). s.age) f.3.2 ∙ ap (λ (q : Offer). q.age) same in
         let marks : f.0.replaced ≡ o.replaced = ap (λ (s : Shown). s.replaced) f.3.2 ∙ ap (λ (q : Offer). q.replaced) same in
         record {
-          last = f.1 ∙ ap (λ (n : ℕ). Due (record { left = n; age = f.0.age; replaced = f.0.replaced })) one ∙ ap (λ (n : ℕ). last_sample n f.0.replaced) ages ∙ ap (last_sample o.age) marks;
+          last = f.1 ∙ ap (λ (n : ℕ). Some (record { left = n; age = f.0.age; replaced = f.0.replaced })) one ∙ ap (λ (n : ℕ). last_sample n f.0.replaced) ages ∙ ap (last_sample o.age) marks;
           awaited = (f.3.0, (f.3.1, kinds), numbers, gains);
           number = sym (ap (λ (q : Offer). q.sample) same) ∙ f.4;
         }

@@ -1,6 +1,8 @@
 -- The wait that an offer ends, as a caller sees it: from the rule of the due sample and the log, the call that set the wait, and what it set. Assumes nothing.
+use Rattle.std.specs.Prelude.{Option, Some, None}
+use Rattle.search.specs.declared.Waiting.{Waiting}
 use mathlib.Core.Path.{◌≡◌, refl, sym, ap, ◌∙◌, subst}
-use mathlib.Core.Logic.{◌⊎◌, inl, inr}
+use mathlib.Core.Logic.{inl, inr}
 use mathlib.Core.Bool.{Bool, true, false, not}
 use mathlib.Core.List.{List}
 use Prim.Native.Nat.{ℕ, ◌+◌, ◌-◌, ◌*◌, ◌≤◌, ◌<◌}
@@ -15,8 +17,6 @@ use Rattle.protocol.specs.declared.Kind.{Kind}
 use Rattle.protocol.specs.declared.SyncBurst.TheVariants.{Frame}
 use Rattle.decode.specs.Correlator.{correlation, matches}
 use Rattle.search.specs.declared.Candidate.{Candidate}
-use Rattle.search.specs.declared.Wait.{Wait}
-use Rattle.search.specs.declared.Wait.TheVariants.{Free, Due}
 use Rattle.search.specs.declared.Shown.{Shown}
 use Rattle.search.specs.declared.Control.{Control}
 use Rattle.search.specs.TakenBurst.{TakenBurst, held_as, held_in, older}
@@ -42,9 +42,9 @@ use Rattle.demodulator_run.proofs.SearchSets.{Sets, sets_wait}
 use Rattle.demodulator_run.proofs.SearchMoment.{as_controlled, ear, before, on_moment, heard_then_lem, SearchSeen, search_seen, marked_moment, seen_admitted}
 
 -- a candidate that is held while no wait is, from the invariant
-holding : (ear : Ear) (p : ℕ) (l : List Mark) (c : Control) (u : TakenBurst) → c.candidate ≡ held_as u → c.wait ≡ Free → Kept ear p l c → Holding ear p l c.sample u
+holding : (ear : Ear) (p : ℕ) (l : List Mark) (c : Control) (u : TakenBurst) → c.candidate ≡ held_as u → c.wait ≡ None → Kept ear p l c → Holding ear p l c.sample u
 holding ear p l c u e f k =
-    (subst (λ (w : Wait). Phase ear p l c.sample (held_in (held_as u)) w c.owed) f (subst (λ (h : Candidate). Phase ear p l c.sample (held_in h) c.wait c.owed) e k)).1
+    (subst (λ (w : Option Waiting). Phase ear p l c.sample (held_in (held_as u)) w c.owed) f (subst (λ (h : Candidate). Phase ear p l c.sample (held_in h) c.wait c.owed) e k)).1
 
 -- an earlier-listed kind matches with a larger diff, and a later-listed one without: of what is heard, and of the held candidate's kind and diff
 abbrev CornerWith : (ℕ → Float) → Kind → Float → Type 0
@@ -156,8 +156,8 @@ module _ (R : Rate) (F : Facts R) (ss : List Single) (sampled : Each Callable ss
     -- ---- the wait that the search set
     sets : Sets R.p (heard s) (alone s) c.dcd c.owed s u (searched R.p (heard s) c).wait
     sets =
-        as_controlled (λ (d : Control). Sets R.p (heard s) (alone s) c.dcd c.owed s u (searched R.p (heard s) d).wait) c (held_as u) Free was A.wait
-        (subst (λ (n : ℕ). Sets R.p (heard s) (alone s) c.dcd c.owed s u (searched R.p (heard s) (controlled (held_as u) Free c.dcd c.owed n)).wait) number
+        as_controlled (λ (d : Control). Sets R.p (heard s) (alone s) c.dcd c.owed s u (searched R.p (heard s) d).wait) c (held_as u) None was A.wait
+        (subst (λ (n : ℕ). Sets R.p (heard s) (alone s) c.dcd c.owed s u (searched R.p (heard s) (controlled (held_as u) None c.dcd c.owed n)).wait) number
         (sets_wait R.p (heard s) (alone s) c.dcd c.owed s u
         (subst (λ (i : Kind). T (not (matches (Frame i) (heard s)))) (sym kinds) marked.rules.2.1)
         (λ j r m. marked.rules.2.2.2 j (subst (λ (i : Kind). rank j < rank i) kinds r) m)))
@@ -172,12 +172,12 @@ module _ (R : Rate) (F : Facts R) (ss : List Single) (sampled : Each Callable ss
     not_both : Corner heard b k s → (j : Kind) → Replaces heard b k s j → ⊥
     not_both q j r = omega (arith, q.1, r.0, ap rank (alone s q.0 j q.2 r.1))
 
-    set_as : (searched R.p (heard s) c).wait ≡ Due (wait_from R.p x.age x.replaced)
+    set_as : (searched R.p (heard s) c).wait ≡ Some (wait_from R.p x.age x.replaced)
     set_as =
         let D = C.due in
         let size = size_at R F in
-        let so : (age : ℕ) (mark : Bool) → (x.age ≡ age) × (x.replaced ≡ mark) → Due (wait_from R.p age mark) ≡ Due (wait_from R.p x.age x.replaced) =
-        λ age mark q. ap (λ (n : ℕ). Due (wait_from R.p n mark)) (sym q.0) ∙ ap (λ (m : Bool). Due (wait_from R.p x.age m)) (sym q.1) in
+        let so : (age : ℕ) (mark : Bool) → (x.age ≡ age) × (x.replaced ≡ mark) → Some (wait_from R.p age mark) ≡ Some (wait_from R.p x.age x.replaced) =
+        λ age mark q. ap (λ (n : ℕ). Some (wait_from R.p n mark)) (sym q.0) ∙ ap (λ (m : Bool). Some (wait_from R.p x.age m)) (sym q.1) in
         elim sets [
           | inl q ↦
               let K = corner (q.1.0, q.1.1, q.1.2, holds q.1.3) in
@@ -220,7 +220,7 @@ module _ (R : Rate) (F : Facts R) (ss : List Single) (sampled : Each Callable ss
       s = s;
       number = counts;
       free = A.free;
-      set = ap (λ (d : Control). d.wait) A.left ∙ ap (λ (n : ℕ). (searched R.p (heard n) c).wait) (sym number) ∙ set_as ∙ ap (λ (q : Offer). Due (wait_from R.p q.age q.replaced)) same;
+      set = ap (λ (d : Control). d.wait) A.left ∙ ap (λ (n : ℕ). (searched R.p (heard n) c).wait) (sym number) ∙ set_as ∙ ap (λ (q : Offer). Some (wait_from R.p q.age q.replaced)) same;
       ends = ends;
       failed = u;
       held = A.candidate ∙ was;

@@ -1,4 +1,5 @@
 -- The pass over the four kinds in closed form, control and marks at once, where at most one of them matches. Assumes nothing.
+use Rattle.std.specs.Prelude.{Option, Some, None}
 use mathlib.Core.Path.{◌≡◌, refl, ap, ◌∙◌}
 use mathlib.Core.Bool.{Bool, true, false, cond}
 use mathlib.Core.List.{List, [], ◌∷◌, ◌++◌}
@@ -13,10 +14,6 @@ use Rattle.decode.specs.Correlator.{correlation, matches}
 use Rattle.search.specs.declared.Candidate.{Candidate}
 use Rattle.search.specs.declared.Candidate.TheVariants.{Nothing}
 use Rattle.search.specs.declared.Waiting.{Waiting}
-use Rattle.search.specs.declared.Wait.{Wait}
-use Rattle.search.specs.declared.Wait.TheVariants.{Free, Due}
-use Rattle.search.specs.declared.Timer.{Timer}
-use Rattle.search.specs.declared.Timer.TheVariants.{Until}
 use Rattle.search.specs.declared.Control.{Control}
 use Rattle.search.specs.TakenBurst.{TakenBurst, held_as, held_in, taken, older, at_age}
 use Rattle.search.specs.Search.{with_timer, carried, same_kind, end_after_lem, marked, matched, wait_after, missed, tried, passed, searched}
@@ -28,7 +25,7 @@ pub record Step : Type 0 where
   pub control : Control
   pub marks : List Mark
 
-abbrev pub controlled : Candidate → Wait → Timer → Bool → ℕ → Control
+abbrev pub controlled : Candidate → Option Waiting → Option ℕ → Bool → ℕ → Control
 controlled held wait timer owed n = record { candidate = held; wait = wait; dcd = timer; owed = owed; sample = n }
 
 abbrev pub search_step : ℕ → (ℕ → Float) → Control → Step
@@ -59,16 +56,16 @@ pass_by_lem p v c = refl
 
 -- ---- the first part touches the timer only
 module _ (p : ℕ) (v : ℕ → Float) where
-  carried_timer : (burst : SyncBurst) (c : Control) → (t : Timer) × (carried p burst v c ≡ with_timer t c)
+  carried_timer : (burst : SyncBurst) (c : Control) → (t : Option ℕ) × (carried p burst v c ≡ with_timer t c)
   unfolding carried
   carried_timer burst c = go (matches burst v)
     where
-      go : (b : Bool) → (t : Timer) × (cond b (with_timer (Until (end_after_lem c.sample (24 * p))) c) c ≡ with_timer t c)
-      go true = (Until (end_after_lem c.sample (24 * p)), refl)
+      go : (b : Bool) → (t : Option ℕ) × (cond b (with_timer (Some (end_after_lem c.sample (24 * p))) c) c ≡ with_timer t c)
+      go true = (Some (end_after_lem c.sample (24 * p)), refl)
       go false = (c.dcd, refl)
 
   -- the search is the pass, under some timer
-  pub search_pass : (c : Control) → (t : Timer) × (search_step p v c ≡ pass_by p (λ k. matches (Frame k) v) (λ k. correlation (Frame k) v) (with_timer t c))
+  pub search_pass : (c : Control) → (t : Option ℕ) × (search_step p v c ≡ pass_by p (λ k. matches (Frame k) v) (λ k. correlation (Frame k) v) (with_timer t c))
   unfolding searched searched_marks
   search_pass c =
       let (t, e) = carried_timer Preamble c in
@@ -81,16 +78,16 @@ abbrev pub wait_from : ℕ → ℕ → Bool → Waiting
 wait_from p age mark = record { left = 184 * p - age; age = age; replaced = mark }
 
 -- ---- the closed form
-module _ (p : ℕ) (m : Kind → Correlation) (t : Timer) (o : Bool) (n : ℕ) where
+module _ (p : ℕ) (m : Kind → Correlation) (t : Option ℕ) (o : Bool) (n : ℕ) where
   -- what kind j would take
   abbrev new : Kind → TakenBurst
   new j = taken j (m j) n
 
-  pub pass_quiet : pass_by p (λ k. false) m (controlled Nothing Free t o n) ≡ record { control = controlled Nothing Free t o n; marks = [] }
+  pub pass_quiet : pass_by p (λ k. false) m (controlled Nothing None t o n) ≡ record { control = controlled Nothing None t o n; marks = [] }
   unfolding pass_by turn turn_marks missed missed_marks
   pass_quiet = refl
 
-  pub pass_first : (j : Kind) → pass_by p (same_kind j) m (controlled Nothing Free t o n) ≡ record { control = controlled (held_as (new j)) Free t o n; marks = First n j ∷ [] }
+  pub pass_first : (j : Kind) → pass_by p (same_kind j) m (controlled Nothing None t o n) ≡ record { control = controlled (held_as (new j)) None t o n; marks = First n j ∷ [] }
   unfolding pass_by turn turn_marks missed missed_marks marked matched taken_marks
   pass_first Lsf = refl
   pass_first Bert = refl
@@ -99,13 +96,13 @@ module _ (p : ℕ) (m : Kind → Correlation) (t : Timer) (o : Bool) (n : ℕ) w
 
   module _ (held : TakenBurst) where
     -- the held kind fails
-    pub pass_lost : pass_by p (λ k. false) m (controlled (held_as held) Free t o n)
-        ≡ record { control = controlled (held_as held) (wait_after p held.age) (Until (end_after_lem n (384 * p))) o n; marks = Failed n held.kind held.taken_at ∷ [] }
+    pub pass_lost : pass_by p (λ k. false) m (controlled (held_as held) None t o n)
+        ≡ record { control = controlled (held_as held) (wait_after p held.age) (Some (end_after_lem n (384 * p))) o n; marks = Failed n held.kind held.taken_at ∷ [] }
     unfolding pass_by turn turn_marks missed missed_marks
     pass_lost = lost held.kind refl
       where
-        lost : (k : Kind) → held.kind ≡ k → pass_by p (λ k. false) m (controlled (held_as held) Free t o n)
-            ≡ record { control = controlled (held_as held) (wait_after p held.age) (Until (end_after_lem n (384 * p))) o n; marks = Failed n held.kind held.taken_at ∷ [] }
+        lost : (k : Kind) → held.kind ≡ k → pass_by p (λ k. false) m (controlled (held_as held) None t o n)
+            ≡ record { control = controlled (held_as held) (wait_after p held.age) (Some (end_after_lem n (384 * p))) o n; marks = Failed n held.kind held.taken_at ∷ [] }
         lost Lsf f = rw f
         lost Bert f = rw f
         lost Stream f = rw f
@@ -113,20 +110,20 @@ module _ (p : ℕ) (m : Kind → Correlation) (t : Timer) (o : Bool) (n : ℕ) w
 
     -- kind j alone matches while one is held; `above`: its diff is above. The held one's age becomes `grown`
     abbrev pub struck : ℕ → Place → Bool → Kind → Step
-    struck grown Before true j = record { control = controlled (held_as (at_age grown held)) (wait_after p grown) (Until (end_after_lem n (384 * p))) o n; marks = Failed n held.kind held.taken_at ∷ [] }
-    struck grown Before false j = record { control = controlled (held_as (new j)) Free t o n; marks = Anew n held.kind j ∷ [] }
-    struck grown Level true j = record { control = controlled (held_as (at_age grown held)) Free t o n; marks = [] }
-    struck grown Level false j = record { control = controlled (held_as (new j)) Free t o n; marks = Anew n held.kind j ∷ [] }
-    struck grown After true j = record { control = controlled (held_as (at_age grown held)) (wait_after p held.age) (Until (end_after_lem n (384 * p))) o n; marks = Failed n held.kind held.taken_at ∷ [] }
-    struck grown After false j = record { control = controlled (held_as (new j)) (Due (wait_from p held.age true)) (Until (end_after_lem n (384 * p))) o n; marks = Failed n held.kind held.taken_at ∷ Anew n held.kind j ∷ [] }
+    struck grown Before true j = record { control = controlled (held_as (at_age grown held)) (wait_after p grown) (Some (end_after_lem n (384 * p))) o n; marks = Failed n held.kind held.taken_at ∷ [] }
+    struck grown Before false j = record { control = controlled (held_as (new j)) None t o n; marks = Anew n held.kind j ∷ [] }
+    struck grown Level true j = record { control = controlled (held_as (at_age grown held)) None t o n; marks = [] }
+    struck grown Level false j = record { control = controlled (held_as (new j)) None t o n; marks = Anew n held.kind j ∷ [] }
+    struck grown After true j = record { control = controlled (held_as (at_age grown held)) (wait_after p held.age) (Some (end_after_lem n (384 * p))) o n; marks = Failed n held.kind held.taken_at ∷ [] }
+    struck grown After false j = record { control = controlled (held_as (new j)) (Some (wait_from p held.age true)) (Some (end_after_lem n (384 * p))) o n; marks = Failed n held.kind held.taken_at ∷ Anew n held.kind j ∷ [] }
 
     pub pass_hit : (j : Kind) (above : Bool) → lt held.diff (m j).diff ≡ above
-        → pass_by p (same_kind j) m (controlled (held_as held) Free t o n) ≡ struck (older held.age) (place j held.kind) above j
+        → pass_by p (same_kind j) m (controlled (held_as held) None t o n) ≡ struck (older held.age) (place j held.kind) above j
     unfolding pass_by turn turn_marks missed missed_marks marked matched taken_marks
     pass_hit j = hit j held.kind refl
       where
         hit : (j k : Kind) → held.kind ≡ k → (above : Bool) → lt held.diff (m j).diff ≡ above
-            → pass_by p (same_kind j) m (controlled (held_as held) Free t o n) ≡ struck (older held.age) (place j held.kind) above j
+            → pass_by p (same_kind j) m (controlled (held_as held) None t o n) ≡ struck (older held.age) (place j held.kind) above j
         hit Lsf Lsf f true e = rw (f, e)
         hit Lsf Lsf f false e = rw (f, e)
         hit Lsf Bert f true e = rw (f, e)

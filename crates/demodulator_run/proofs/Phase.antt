@@ -1,16 +1,14 @@
 -- The one invariant: what the log tells, and how far the present candidate has come, for each form that the control takes. Assumes nothing.
+use Rattle.std.specs.Prelude.{Some, None, Option}
 use mathlib.Core.Path.{◌≡◌, sym, subst}
 use mathlib.Core.Logic.{◌⊎◌, inl, inr}
 use mathlib.Core.Bool.{Bool, false}
 use mathlib.Core.List.{List}
-use mathlib.Core.Option.{Option, none, some}
 use Prim.Native.Nat.{ℕ, ◌+◌, ◌*◌, ◌≤◌, ◌<◌}
 use native.Mathlib.Nat.{lt_of_not-le, eq-or-lt_of_le}
 use native.Mathlib.Omega.{arith}
 use Rattle.protocol.specs.declared.Kind.{Kind}
 use Rattle.search.specs.declared.Waiting.{Waiting}
-use Rattle.search.specs.declared.Wait.{Wait}
-use Rattle.search.specs.declared.Wait.TheVariants.{Free, Due}
 use Rattle.search.specs.declared.Shown.{Shown}
 use Rattle.search.specs.declared.Control.{Control}
 use Rattle.search.specs.TakenBurst.{TakenBurst, held_in, at_age, shown_of}
@@ -71,11 +69,11 @@ module _ (ear : Ear) (p : ℕ) where
     pub heard : Matches ear held.kind source
     pub values : TakenFrom held source
 
-  abbrev pub Phase : List Mark → ℕ → Option TakenBurst → Wait → Bool → Type 0
-  Phase l n none Free owed = Idle l n
-  Phase l n none (Due w) owed = ⊥
-  Phase l n (some held) Free owed = (owed ≡ false) × Holding l n held
-  Phase l n (some held) (Due w) owed = (owed ≡ false) × Awaiting l n w held
+  abbrev pub Phase : List Mark → ℕ → Option TakenBurst → Option Waiting → Bool → Type 0
+  Phase l n None None owed = Idle l n
+  Phase l n None (Some w) owed = ⊥
+  Phase l n (Some held) None owed = (owed ≡ false) × Holding l n held
+  Phase l n (Some held) (Some w) owed = (owed ≡ false) × Awaiting l n w held
 
   -- of a control, and of the log so far
   abbrev pub Kept : List Mark → Control → Type 0
@@ -83,24 +81,24 @@ module _ (ear : Ear) (p : ℕ) where
 
   -- ---- what holds in every phase
   module _ (l : List Mark) where
-    phase_spaced : (n : ℕ) (o : Option TakenBurst) (wait : Wait) (owed : Bool) → Phase l n o wait owed → (d e : ℕ) → DueAt l d → DueAt l e → d < e → d + 184 * p ≤ e + 1
-    phase_spaced n none Free owed I = I.spaced
-    phase_spaced n none (Due w) owed I = absurd I
-    phase_spaced n (some held) Free owed I = I.1.busy.account.spaced
-    phase_spaced n (some held) (Due w) owed I = I.1.busy.account.spaced
+    phase_spaced : (n : ℕ) (o : Option TakenBurst) (wait : Option Waiting) (owed : Bool) → Phase l n o wait owed → (d e : ℕ) → DueAt l d → DueAt l e → d < e → d + 184 * p ≤ e + 1
+    phase_spaced n None None owed I = I.spaced
+    phase_spaced n None (Some w) owed I = absurd I
+    phase_spaced n (Some held) None owed I = I.1.busy.account.spaced
+    phase_spaced n (Some held) (Some w) owed I = I.1.busy.account.spaced
 
-    phase_past : (n : ℕ) (o : Option TakenBurst) (wait : Wait) (owed : Bool) → Phase l n o wait owed → (y : Mark) → In y l → sample_of y ≤ n
-    phase_past n none Free owed I = I.past
-    phase_past n none (Due w) owed I = absurd I
-    phase_past n (some held) Free owed I = I.1.busy.account.past
-    phase_past n (some held) (Due w) owed I = I.1.busy.account.past
+    phase_past : (n : ℕ) (o : Option TakenBurst) (wait : Option Waiting) (owed : Bool) → Phase l n o wait owed → (y : Mark) → In y l → sample_of y ≤ n
+    phase_past n None None owed I = I.past
+    phase_past n None (Some w) owed I = absurd I
+    phase_past n (Some held) None owed I = I.1.busy.account.past
+    phase_past n (Some held) (Some w) owed I = I.1.busy.account.past
 
-    phase_told : (n : ℕ) (o : Option TakenBurst) (wait : Wait) (owed : Bool) → Phase l n o wait owed → (d : ℕ) (x : Shown) → In (FellDue d x) l
+    phase_told : (n : ℕ) (o : Option TakenBurst) (wait : Option Waiting) (owed : Bool) → Phase l n o wait owed → (d : ℕ) (x : Shown) → In (FellDue d x) l
         → (m : ℕ) × (b : ℕ) × (k : Kind) × (s : ℕ) × Episode ear p l m b k s d x
-    phase_told n none Free owed I = I.told
-    phase_told n none (Due w) owed I = absurd I
-    phase_told n (some held) Free owed I = I.1.busy.account.told
-    phase_told n (some held) (Due w) owed I = I.1.busy.account.told
+    phase_told n None None owed I = I.told
+    phase_told n None (Some w) owed I = absurd I
+    phase_told n (Some held) None owed I = I.1.busy.account.told
+    phase_told n (Some held) (Some w) owed I = I.1.busy.account.told
 
     module _ (c : Control) (I : Kept l c) where
       pub kept_spaced : (d e : ℕ) → DueAt l d → DueAt l e → d < e → d + 184 * p ≤ e + 1

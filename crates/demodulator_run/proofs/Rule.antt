@@ -1,9 +1,10 @@
 -- The rule of the due sample, both ways, from the invariant. Assumes nothing.
+use Rattle.std.specs.Prelude.{Some, None, Option}
+use Rattle.search.specs.declared.Waiting.{Waiting}
 use mathlib.Core.Path.{◌≡◌, refl, sym, ap, ◌∙◌, subst}
 use mathlib.Core.Logic.{◌⊎◌, inl, inr}
 use mathlib.Core.Bool.{Bool, true, false}
 use mathlib.Core.List.{List}
-use mathlib.Core.Option.{Option, none, some}
 use Prim.Native.Nat.{ℕ, ◌+◌, ◌-◌, ◌*◌, ◌≤◌, ◌<◌}
 use native.Mathlib.Nat.{lt_of_not-le}
 use native.Mathlib.Omega.{arith}
@@ -13,8 +14,6 @@ use Rattle.numbers.proofs.Tests.{holds}
 use Rattle.protocol.specs.declared.Kind.{Kind}
 use Rattle.protocol.specs.declared.SyncBurst.TheVariants.{Frame}
 use Rattle.decode.specs.Correlator.{matches}
-use Rattle.search.specs.declared.Wait.{Wait}
-use Rattle.search.specs.declared.Wait.TheVariants.{Free, Due}
 use Rattle.search.specs.declared.Shown.{Shown}
 use Rattle.search.specs.declared.Control.{Control}
 use Rattle.search.specs.TakenBurst.{TakenBurst, held_in, shown_of}
@@ -53,18 +52,18 @@ module _ (ear : Ear) (p : ℕ) (alone : Alone ear) where
 
     -- .. and there is always one
     module _ (big : SymbolSize p) where
-      abbrev Some : Type 0
-      Some = (d : ℕ) × (x : Shown) × DueBy ear p b k s d x
+      abbrev OneDue : Type 0
+      OneDue = (d : ℕ) × (x : Shown) × DueBy ear p b k s d x
 
       -- the age at which a wait was set on s that ends on d
       abbrev aged : ℕ → ℕ
       aged d = (s + 184 * p) - d
 
-      no_corner : (Corner ear b k s → ⊥) → ((j : Kind) × Replaces ear b k s j) ⊎ ((j : Kind) → Replaces ear b k s j → ⊥) → Some
+      no_corner : (Corner ear b k s → ⊥) → ((j : Kind) × Replaces ear b k s j) ⊎ ((j : Kind) → Replaces ear b k s j → ⊥) → OneDue
       no_corner c (inl r) = (b + 184 * p, shown_at ear r.0 s (aged (b + 184 * p)) true, record { sample = inr (c, refl); waited = refl; shown = inl (r.0, r.1, refl) })
       no_corner c (inr r) = (b + 184 * p, shown_at ear k b (aged (b + 184 * p)) false, record { sample = inr (c, refl); waited = refl; shown = inr (r, refl) })
 
-      by_hit : (j : Kind) → Matches ear j s → ((i : Kind) → Matches ear i s → i ≡ j) → (o : Place) → Placed o j k → (a : Bool) → lt (at ear k b).diff (at ear j s).diff ≡ a → Some
+      by_hit : (j : Kind) → Matches ear j s → ((i : Kind) → Matches ear i s → i ≡ j) → (o : Place) → Placed o j k → (a : Bool) → lt (at ear k b).diff (at ear j s).diff ≡ a → OneDue
       by_hit j hit only Before r true e = (
         b + (184 * p - 1),
         shown_at ear k b (aged (b + (184 * p - 1))) false,
@@ -77,7 +76,7 @@ module _ (ear : Ear) (p : ℕ) (alone : Alone ear) where
           no_corner (λ c. omega (arith, c.1, ap rank (only c.0 c.2))) (inr (λ i q. q.2 (subst (λ (h : Kind). Above ear h s k b) (sym (only i q.1)) (holds e))))
       by_hit j hit only After r false e = no_corner (λ c. omega (arith, c.1, ap rank (only c.0 c.2))) (inl (j, (r, hit, no→⊥ e)))
 
-      pub settled : Some
+      pub settled : OneDue
       settled = elim (heard (ear s) (λ i j. alone i j s)) [
         | inl q ↦ no_corner (λ c. no→⊥ (q c.0) c.2) (inr (λ j r. no→⊥ (q j) r.1))
         | inr q ↦ by_hit q.0 (subst T (sym (q.1 q.0)) (same_self q.0)) (λ i m. sym (same→≡ q.0 i (subst T (q.1 i) m))) (place q.0 k) (placed q.0 k) _ refl
@@ -135,17 +134,17 @@ module _ (ear : Ear) (p : ℕ) (alone : Alone ear) where
       ]
     ]
 
-    ended : (n : ℕ) (o : Option TakenBurst) (wait : Wait) (owed : Bool) → Phase ear p l n o wait owed → (b : ℕ) (k : Kind) (s d : ℕ) (x : Shown) → Ended n b k s d x
-    ended n none Free owed I = ended_by I (λ b k s d x q F D o. q)
-    ended n none (Due w) owed I = absurd I
-    ended n (some held) Free owed I = ended_by I.1.busy.account λ b k s d x q F D o.
+    ended : (n : ℕ) (o : Option TakenBurst) (wait : Option Waiting) (owed : Bool) → Phase ear p l n o wait owed → (b : ℕ) (k : Kind) (s d : ℕ) (x : Shown) → Ended n b k s d x
+    ended n None None owed I = ended_by I (λ b k s d x q F D o. q)
+    ended n None (Some w) owed I = absurd I
+    ended n (Some held) None owed I = ended_by I.1.busy.account λ b k s d x q F D o.
         let H = I.1 in
         let u = fails_soon F D in
         let v = F.later in
         let w = H.within in
         let e = q.0 in
         clash k s (subst (λ (i : Kind). Matches ear i s) (sym q.1) (H.matched s (omega arith) (omega arith))) F.lost
-    ended n (some held) (Due w) owed I = ended_by I.1.busy.account λ b k s d x q F D o.
+    ended n (Some held) (Some w) owed I = ended_by I.1.busy.account λ b k s d x q F D o.
         let W = I.1 in
         let G : Fails ear l W.b W.kind s = subst (λ (i : Kind). Fails ear l W.b i s) q.1 (subst (λ (c : ℕ). Fails ear l c k s) q.0 F) in
         let D' : DueBy ear p W.b W.kind s d x = subst (λ (i : Kind). DueBy ear p W.b i s d x) q.1 (subst (λ (c : ℕ). DueBy ear p c k s d x) q.0 D) in

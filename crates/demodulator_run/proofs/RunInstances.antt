@@ -1,4 +1,5 @@
 -- Small instances: what the laws of a run ask can be met, and what they then say. Assumes nothing.
+use Rattle.std.specs.Prelude.{None}
 use mathlib.Core.Path.{◌≡◌, refl, ap, ◌∙◌}
 use mathlib.Core.Bool.{false}
 use mathlib.Core.List.Memᴰ
@@ -20,8 +21,6 @@ use Rattle.shaping.specs.Taps.{taps}
 use Rattle.protocol.specs.declared.Kind.TheVariants.{Lsf}
 use Rattle.protocol.specs.Refusals.{bare}
 use Rattle.decode.specs.Correlator.{in_range}
-use Rattle.search.specs.declared.Wait.TheVariants.{Free}
-use Rattle.search.specs.declared.Timer.TheVariants.{Off}
 use Rattle.search.specs.declared.Control.{Control}
 use Rattle.search.specs.declared.Reply.TheVariants.{Accepted}
 use Rattle.search.specs.Fit.{candidate_fit_lem, control_fit_lem}
@@ -154,7 +153,7 @@ stretch_unheard = (refused_nothing taps 10 start (stretch (pos 32767 ∷ []) [])
 
 -- ---- the layout before: records that no run reaches, at other cursors, and unfit by an age of 0
 abbrev ageless : Control
-ageless = record { candidate = held_at Lsf 0; wait = Free; dcd = Off; owed = false; sample = 7 }
+ageless = record { candidate = held_at Lsf 0; wait = None; dcd = None; owed = false; sample = 7 }
 
 abbrev straight : SoftDemodulator
 straight = assembled 48000 (replicate 162 (pos 7)) 80 (replicate 1920 nought) 1919 ageless

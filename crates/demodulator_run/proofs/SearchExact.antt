@@ -1,4 +1,5 @@
 -- A search marks exactly what the rules say. Assumes nothing.
+use Rattle.std.specs.Prelude.{Option, None}
 use mathlib.Core.Path.{◌≡◌, refl, sym, ap, ◌∙◌, subst, fun_ext}
 use mathlib.Core.Logic.{inl, inr}
 use mathlib.Core.Bool.{Bool, true, false, true≢false}
@@ -9,14 +10,11 @@ use native.Mathlib.Omega.{arith}
 use lib.Dec.{T, not_T}
 use lib.Ieee.{Float, lt}
 use Rattle.numbers.proofs.Tests.{fails}
-use Rattle.machine.specs.Runs.{run}
 use Rattle.protocol.specs.declared.Kind.{Kind}
 use Rattle.protocol.specs.declared.SyncBurst.TheVariants.{Frame}
 use Rattle.decode.specs.Correlator.{matches}
 use Rattle.search.specs.declared.Candidate.{Candidate}
 use Rattle.search.specs.declared.Candidate.TheVariants.{Nothing}
-use Rattle.search.specs.declared.Wait.TheVariants.{Free}
-use Rattle.search.specs.declared.Timer.{Timer}
 use Rattle.search.specs.TakenBurst.{TakenBurst, held_as, older}
 use Rattle.search.specs.Search.{rank}
 use Rattle.search.proofs.HeldOrNot.{HeldOrNot, not_held, is_held, same_held}
@@ -35,9 +33,9 @@ module _ (ear : Ear) (p : ℕ) (alone : Alone ear) (n : ℕ) where
   clash k = T-clash (matches (Frame k) (ear n))
 
   -- ---- none is held
-  module _ (t : Timer) (o : Bool) where
+  module _ (t : Option ℕ) (o : Bool) where
     abbrev Says : Mark → Type 0
-    Says = BySearch ear (controlled Nothing Free t o n)
+    Says = BySearch ear (controlled Nothing None t o n)
 
     none_exact : ((k : Kind) → Matches ear k n → ⊥) → Exactly Says []
     none_exact none y = (λ i. absurd (Memᴰ.not-nil i), back y)
@@ -62,12 +60,12 @@ module _ (ear : Ear) (p : ℕ) (alone : Alone ear) (n : ℕ) where
         back (FellDue m x) s = absurd s
 
   -- ---- one is held
-  module _ (t : Timer) (o : Bool) (held : TakenBurst) where
+  module _ (t : Option ℕ) (o : Bool) (held : TakenBurst) where
     abbrev k : Kind
     k = held.kind
 
     abbrev Tells : Mark → Type 0
-    Tells = BySearch ear (controlled (held_as held) Free t o n)
+    Tells = BySearch ear (controlled (held_as held) None t o n)
 
     -- no earlier-listed kind replaces it
     abbrev Stays : Type 0
@@ -124,7 +122,7 @@ module _ (ear : Ear) (p : ℕ) (alone : Alone ear) (n : ℕ) where
       taken_in : (m : List Mark) → In (Anew n k j) m → (i : Kind) → Matches ear i n → lt held.diff (at ear i n).diff ≡ false → In (Anew n k i) m
       taken_in m h i q b = subst (λ (x : Kind). In (Anew n k x) m) (sym (only i q)) h
 
-      struck_exact : (u : Timer) (o' : Place) → Placed o' j k → (b : Bool) → lt held.diff (at ear j n).diff ≡ b → Exactly Tells (struck p (λ i. at ear i n) u o n held (older held.age) o' b j).marks
+      struck_exact : (u : Option ℕ) (o' : Place) → Placed o' j k → (b : Bool) → lt held.diff (at ear j n).diff ≡ b → Exactly Tells (struck p (λ i. at ear i n) u o n held (older held.age) o' b j).marks
       struck_exact u Before r true e =
           exactly (Failed n k since ∷ []) (λ y i. tells_failed (missed (λ q. omega (arith, r, ap rank q))) (λ i r' q. moved true e i q) y (Memᴰ.eq_of_singleton i))
           (λ i q f. absurd (above_below e i q f)) (λ l s. Memᴰ.head refl)
@@ -153,17 +151,17 @@ module _ (ear : Ear) (p : ℕ) (alone : Alone ear) (n : ℕ) where
   one_missed : (j : Kind) → OneHeard (ear n) (λ i j. alone i j n) j → (k : Kind) → (j ≡ k → ⊥) → Unmatched ear k n
   one_missed j one k other = not_T (matches (Frame k) (ear n)) (λ m. other (sym (one_only j one k m)))
 
-  pub search_exact : {candidate : Candidate} → HeldOrNot candidate → (t : Timer) (o : Bool) → Exactly (BySearch ear (controlled candidate Free t o n)) (searched_marks p (ear n) (controlled candidate Free t o n))
+  pub search_exact : {candidate : Candidate} → HeldOrNot candidate → (t : Option ℕ) (o : Bool) → Exactly (BySearch ear (controlled candidate None t o n)) (searched_marks p (ear n) (controlled candidate None t o n))
   search_exact not_held t o =
-      let (u, e) = search_pass p (ear n) (controlled Nothing Free t o n) in
-      let run : (Kind → Bool) → Step = λ m. pass_by p m (λ k. at ear k n) (controlled Nothing Free u o n) in
+      let (u, e) = search_pass p (ear n) (controlled Nothing None t o n) in
+      let run : (Kind → Bool) → Step = λ m. pass_by p m (λ k. at ear k n) (controlled Nothing None u o n) in
       subst (λ (s : Step). Exactly (Says t o) s.marks) (sym e) (elim (heard (ear n) (λ i j. alone i j n)) [
         | inl q ↦ subst (λ (s : Step). Exactly (Says t o) s.marks) (sym (ap run (fun_ext q) ∙ pass_quiet p (λ k. at ear k n) u o n)) (none_exact t o (λ k. no→⊥ (q k)))
         | inr q ↦ subst (λ (s : Step). Exactly (Says t o) s.marks) (sym (ap run (fun_ext q.1) ∙ pass_first p (λ k. at ear k n) u o n q.0)) (first_exact t o q.0 (one_hit q.0 q.1))
       ])
   search_exact (is_held held) t o =
-      let (u, e) = search_pass p (ear n) (controlled (held_as held) Free t o n) in
-      let run : (Kind → Bool) → Step = λ m. pass_by p m (λ i. at ear i n) (controlled (held_as held) Free u o n) in
+      let (u, e) = search_pass p (ear n) (controlled (held_as held) None t o n) in
+      let run : (Kind → Bool) → Step = λ m. pass_by p m (λ i. at ear i n) (controlled (held_as held) None u o n) in
       subst (λ (s : Step). Exactly (Tells t o held) s.marks) (sym e) (elim (heard (ear n) (λ i j. alone i j n)) [
         | inl q ↦ subst (λ (s : Step). Exactly (Tells t o held) s.marks) (sym (ap run (fun_ext q) ∙ pass_lost p (λ i. at ear i n) u o n held))
             (lost_exact t o held (λ j. no→⊥ (q j)) (fails (q held.kind)))

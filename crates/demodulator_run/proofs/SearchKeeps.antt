@@ -1,20 +1,18 @@
 -- A search keeps the invariant. Assumes nothing.
+use Rattle.std.specs.Prelude.{Option, None}
 use mathlib.Core.Path.{◌≡◌, refl, sym, ap, ◌∙◌, subst, fun_ext}
 use mathlib.Core.Logic.{◌⊎◌, inl, inr}
 use mathlib.Core.Bool.{Bool, true, false, not}
 use mathlib.Core.List.{List, [], ◌∷◌, ◌++◌, append-nil, append_assoc}
-use Prim.Native.Nat.{ℕ, ◌+◌, ◌-◌, ◌*◌}
+use Prim.Native.Nat.{ℕ, ◌+◌}
 use native.Mathlib.Omega.{arith}
 use lib.Dec.{T, not_T}
 use lib.Ieee.{lt}
 use Rattle.numbers.proofs.Tests.{holds, fails}
-use Rattle.machine.specs.Runs.{run}
 use Rattle.protocol.specs.declared.Kind.{Kind}
 use Rattle.protocol.specs.declared.SyncBurst.TheVariants.{Frame}
 use Rattle.decode.specs.Correlator.{matches}
 use Rattle.search.specs.declared.Candidate.TheVariants.{Nothing}
-use Rattle.search.specs.declared.Wait.TheVariants.{Free}
-use Rattle.search.specs.declared.Timer.{Timer}
 use Rattle.search.specs.TakenBurst.{TakenBurst, held_as, older, at_age}
 use Rattle.search.specs.Search.{rank}
 use Rattle.demodulator_run.specs.Marks.{Mark, Anew, Failed}
@@ -36,10 +34,10 @@ module _ (ear : Ear) (p : ℕ) (alone : Alone ear) (l : List Mark) where
   heard_now n = heard (ear n) (λ j k. alone j k n)
 
   -- ---- while none is held
-  pub search_idle : (n : ℕ) (t : Timer) → Idle ear p l n → KeptBy ear p l (search_step p (ear n) (controlled Nothing Free t false n))
+  pub search_idle : (n : ℕ) (t : Option ℕ) → Idle ear p l n → KeptBy ear p l (search_step p (ear n) (controlled Nothing None t false n))
   search_idle n t I =
-      let (u, e) = search_pass p (ear n) (controlled Nothing Free t false n) in
-      let run : (Kind → Bool) → Step = λ m. pass_by p m (λ k. at ear k n) (controlled Nothing Free u false n) in
+      let (u, e) = search_pass p (ear n) (controlled Nothing None t false n) in
+      let run : (Kind → Bool) → Step = λ m. pass_by p m (λ k. at ear k n) (controlled Nothing None u false n) in
       subst (KeptBy ear p l) (sym e) (elim (heard_now n) [
         | inl q ↦ subst (KeptBy ear p l) (sym (ap run (fun_ext q) ∙ pass_quiet p (λ k. at ear k n) u false n)) (subst (λ (m : List Mark). Idle ear p m n) (sym (append-nil l)) I)
         | inr q ↦ subst (KeptBy ear p l) (sym (ap run (fun_ext q.1) ∙ pass_first p (λ k. at ear k n) u false n q.0))
@@ -51,7 +49,7 @@ module _ (ear : Ear) (p : ℕ) (alone : Alone ear) (l : List Mark) where
     abbrev k : Kind
     k = held.kind
 
-    module _ (t : Timer) (j : Kind) (one : OneHeard (ear (n + 1)) (λ j k. alone j k (n + 1)) j) where
+    module _ (t : Option ℕ) (j : Kind) (one : OneHeard (ear (n + 1)) (λ j k. alone j k (n + 1)) j) where
       hit : Matches ear j (n + 1)
       hit = subst T (sym (one j)) (same_self j)
 
@@ -90,10 +88,10 @@ module _ (ear : Ear) (p : ℕ) (alone : Alone ear) (l : List Mark) where
     grows : older held.age ≡ held.age + 1
     grows = let few = young ear p again l n held H in omega arith
 
-    pub search_held : (t : Timer) → KeptBy ear p l (search_step p (ear (n + 1)) (controlled (held_as held) Free t false (n + 1)))
+    pub search_held : (t : Option ℕ) → KeptBy ear p l (search_step p (ear (n + 1)) (controlled (held_as held) None t false (n + 1)))
     search_held t =
-        let (u, e) = search_pass p (ear (n + 1)) (controlled (held_as held) Free t false (n + 1)) in
-        let run : (Kind → Bool) → Step = λ m. pass_by p m (λ i. at ear i (n + 1)) (controlled (held_as held) Free u false (n + 1)) in
+        let (u, e) = search_pass p (ear (n + 1)) (controlled (held_as held) None t false (n + 1)) in
+        let run : (Kind → Bool) → Step = λ m. pass_by p m (λ i. at ear i (n + 1)) (controlled (held_as held) None u false (n + 1)) in
         subst (KeptBy ear p l) (sym e) (elim (heard_now (n + 1)) [
           | inl q ↦ subst (KeptBy ear p l) (sym (ap run (fun_ext q) ∙ pass_lost p (λ i. at ear i (n + 1)) u false (n + 1) held))
               (refl, fails_alone ear p big again l n held H (fails (q k)) (λ i m. no→⊥ (q i) m))

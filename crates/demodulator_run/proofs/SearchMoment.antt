@@ -1,13 +1,14 @@
 -- A search of a run, as a caller sees it: what is heard then, what it starts from and what it leaves; and that a mark of a take is a take that a caller sees. Assumes nothing.
+use Rattle.std.specs.Prelude.{Option, Some, None}
+use Rattle.search.specs.declared.Waiting.{Waiting}
 use mathlib.Core.Path.{◌≡◌, refl, sym, ap, ◌∙◌, subst}
 use mathlib.Core.Logic.{inl, inr}
-use mathlib.Core.Bool.{Bool, true, false, true≢false}
+use mathlib.Core.Bool.{true, false, true≢false}
 use mathlib.Core.List.{List, ◌∷◌, ◌++◌}
-use Prim.Native.Nat.{ℕ, ◌+◌, ◌≤◌, ◌<◌}
+use Prim.Native.Nat.{ℕ, ◌+◌}
 use native.Mathlib.Omega.{arith}
 use lib.Dec.{T}
-use lib.IntN.{ℤ}
-use lib.Ieee.{Float, lt}
+use lib.Ieee.{Float}
 use Rattle.machine.specs.Runs.{Each}
 use Rattle.shaping.specs.Rate.{Rate}
 use Rattle.shaping.proofs.RateFacts.{Facts}
@@ -17,13 +18,11 @@ use Rattle.protocol.specs.declared.SyncBurst.TheVariants.{Frame}
 use Rattle.decode.specs.Correlator.{correlation, matches}
 use Rattle.search.specs.declared.Candidate.{Candidate}
 use Rattle.search.specs.declared.Candidate.TheVariants.{Nothing}
-use Rattle.search.specs.declared.Wait.{Wait}
-use Rattle.search.specs.declared.Wait.TheVariants.{Free, Due}
 use Rattle.search.specs.declared.Control.{Control}
 use Rattle.search.specs.declared.Reply.TheVariants.{Accepted, Rejected}
 use Rattle.search.specs.TakenBurst.{TakenBurst, held_as, taken}
 use Rattle.search.specs.Search.{searched}
-use Rattle.search.specs.Turn.{Outcome, control_of, counted, owing, replied}
+use Rattle.search.specs.Turn.{control_of, counted, owing, replied}
 use Rattle.search.proofs.Fitness.{ControlFacts}
 use Rattle.search.proofs.AgeInPass.{searched_sample}
 use Rattle.demodulator.proofs.Fitness.{record_facts}
@@ -47,10 +46,10 @@ use Rattle.demodulator_run.proofs.SearchSets.{takes_first, takes_anew}
 use Rattle.demodulator_run.proofs.CallerSees.{front, control_same, said_same, admitted, left_same}
 
 -- a control whose candidate and wait are known
-pub as_controlled : (P : Control → Type 0) (c : Control) (candidate : Candidate) (wait : Wait) → c.candidate ≡ candidate → c.wait ≡ wait → P (controlled candidate wait c.dcd c.owed c.sample) → P c
+pub as_controlled : (P : Control → Type 0) (c : Control) (candidate : Candidate) (wait : Option Waiting) → c.candidate ≡ candidate → c.wait ≡ wait → P (controlled candidate wait c.dcd c.owed c.sample) → P c
 as_controlled P c candidate wait e f q =
     subst (λ (h : Candidate). P (controlled h c.wait c.dcd c.owed c.sample)) (sym e)
-    (subst (λ (w : Wait). P (controlled candidate w c.dcd c.owed c.sample)) (sym f) q)
+    (subst (λ (w : Option Waiting). P (controlled candidate w c.dcd c.owed c.sample)) (sym f) q)
 
 module _ (R : Rate) (F : Facts R) (ss : List Single) (sampled : Each Callable ss) where
   abbrev pub ear : Ear
@@ -77,8 +76,8 @@ module _ (R : Rate) (F : Facts R) (ss : List Single) (sampled : Each Callable ss
 
   -- ---- the search runs in the call, from the control c
   pub record SearchSeen (t : Moment ss) (c : Control) : Type 0 where
-    pub wait : c.wait ≡ Free
-    pub free : (control_at R t).wait ≡ Free
+    pub wait : c.wait ≡ None
+    pub free : (control_at R t).wait ≡ None
     pub candidate : (control_at R t).candidate ≡ c.candidate
     pub left : (left_then R t).demodulator.control ≡ searched R.p (ear c.sample) c
     -- only a sample finds a candidate held
@@ -87,9 +86,9 @@ module _ (R : Rate) (F : Facts R) (ss : List Single) (sampled : Each Callable ss
   facts : (t : Moment ss) → ControlFacts R.p (control_at R t)
   facts t = (record_facts R.p _ (singles_fit R F t.before (front R F ss sampled t)).for_query).control
 
-  unowed_wait : (c : Control) → ControlFacts R.p c → c.owed ≡ true → (wait : Wait) → c.wait ≡ wait → wait ≡ Free
-  unowed_wait c f o Free e = refl
-  unowed_wait c f o (Due w) e = absurd (true≢false (sym o ∙ (f.wait w e).no_reply))
+  unowed_wait : (c : Control) → ControlFacts R.p c → c.owed ≡ true → (wait : Option Waiting) → c.wait ≡ wait → wait ≡ None
+  unowed_wait c f o None e = refl
+  unowed_wait c f o (Some w) e = absurd (true≢false (sym o ∙ (f.wait w e).no_reply))
 
   pub search_seen : (t : Moment ss) → Admitted R t → (c : Control) → Searches (before t) t.call c → SearchSeen t c
   unfolding single replied
@@ -178,14 +177,14 @@ module _ (R : Rate) (F : Facts R) (ss : List Single) (sampled : Each Callable ss
         let (c, S, (number, none, hit)) = M.rules in
         let A = search_seen (marked_moment M) (seen_admitted M) c S in
         take_by (marked_moment M) (seen_admitted M) c A number hit
-        (as_controlled (λ (d : Control). (searched R.p (ear n) d).candidate ≡ held_as (taken k (correlation (Frame k) (ear n)) n)) c Nothing Free none A.wait
-        (subst (λ (i : ℕ). (searched R.p (ear n) (controlled Nothing Free c.dcd c.owed i)).candidate ≡ held_as (taken k (correlation (Frame k) (ear n)) n)) number
+        (as_controlled (λ (d : Control). (searched R.p (ear n) d).candidate ≡ held_as (taken k (correlation (Frame k) (ear n)) n)) c Nothing None none A.wait
+        (subst (λ (i : ℕ). (searched R.p (ear n) (controlled Nothing None c.dcd c.owed i)).candidate ≡ held_as (taken k (correlation (Frame k) (ear n)) n)) number
         (takes_first R.p (ear n) alone_then c.dcd c.owed n k hit)))
     take_seen (inr (j, i)) =
         let M = (log_exact_at R F ss sampled (Anew n j k)).0 i in
         let (c, S, (number, hit, (u, held, below))) = M.rules in
         let A = search_seen (marked_moment M) (seen_admitted M) c S in
         take_by (marked_moment M) (seen_admitted M) c A number hit
-        (as_controlled (λ (d : Control). (searched R.p (ear n) d).candidate ≡ held_as (taken k (correlation (Frame k) (ear n)) n)) c (held_as u) Free held.0 A.wait
-        (subst (λ (i : ℕ). (searched R.p (ear n) (controlled (held_as u) Free c.dcd c.owed i)).candidate ≡ held_as (taken k (correlation (Frame k) (ear n)) n)) number
+        (as_controlled (λ (d : Control). (searched R.p (ear n) d).candidate ≡ held_as (taken k (correlation (Frame k) (ear n)) n)) c (held_as u) None held.0 A.wait
+        (subst (λ (i : ℕ). (searched R.p (ear n) (controlled (held_as u) None c.dcd c.owed i)).candidate ≡ held_as (taken k (correlation (Frame k) (ear n)) n)) number
         (takes_anew R.p (ear n) alone_then c.dcd c.owed n u k hit below)))

@@ -1,4 +1,6 @@
 -- What a search does where a candidate fails, and where one is taken: the wait that it sets and how it is marked, and the candidate that is then held. Assumes nothing.
+use Rattle.std.specs.Prelude.{Option, Some, None}
+use Rattle.search.specs.declared.Waiting.{Waiting}
 use mathlib.Core.Path.{◌≡◌, refl, sym, ap, ◌∙◌, subst, fun_ext}
 use mathlib.Core.Logic.{◌⊎◌, inl, inr}
 use mathlib.Core.Bool.{Bool, true, false, not, true≢false}
@@ -9,15 +11,11 @@ use lib.Ieee.{Float, lt}
 use Rattle.protocol.specs.declared.Kind.{Kind}
 use Rattle.protocol.specs.declared.SyncBurst.TheVariants.{Frame}
 use Rattle.decode.specs.Correlator.{correlation, matches}
-use Rattle.search.specs.declared.Candidate.{Candidate}
 use Rattle.search.specs.declared.Candidate.TheVariants.{Nothing}
-use Rattle.search.specs.declared.Wait.{Wait}
-use Rattle.search.specs.declared.Wait.TheVariants.{Free, Due}
-use Rattle.search.specs.declared.Timer.{Timer}
 use Rattle.search.specs.TakenBurst.{TakenBurst, held_as, taken, older}
 use Rattle.search.specs.Search.{rank, searched}
 use Rattle.demodulator_run.proofs.KindOrder.{Place, Before, Level, After, place, Placed, placed, same_self, same→≡, no→⊥, T-clash, heard, OneHeard}
-use Rattle.demodulator_run.proofs.Pass.{Step, controlled, search_step, wait_from, pass_by, search_pass, pass_first, pass_lost, pass_hit, struck}
+use Rattle.demodulator_run.proofs.Pass.{Step, controlled, wait_from, pass_by, search_pass, pass_first, pass_lost, pass_hit, struck}
 
 module _ (p : ℕ) (v : ℕ → Float) (alone : (j k : Kind) → T (matches (Frame j) v) → T (matches (Frame k) v) → j ≡ k) where
   one_hit : (j : Kind) → OneHeard v alone j → T (matches (Frame j) v)
@@ -26,15 +24,15 @@ module _ (p : ℕ) (v : ℕ → Float) (alone : (j k : Kind) → T (matches (Fra
   one_only : (j : Kind) → OneHeard v alone j → (i : Kind) → T (matches (Frame i) v) → i ≡ j
   one_only j one i m = sym (same→≡ j i (subst T (one i) m))
 
-  module _ (t : Timer) (o : Bool) (n : ℕ) where
+  module _ (t : Option ℕ) (o : Bool) (n : ℕ) where
     -- ---- a candidate is taken: what is then held
     abbrev Holds : Kind → Step → Type 0
     Holds k s = s.control.candidate ≡ held_as (taken k (correlation (Frame k) v) n)
 
-    pub takes_first : (k : Kind) → T (matches (Frame k) v) → (searched p v (controlled Nothing Free t o n)).candidate ≡ held_as (taken k (correlation (Frame k) v) n)
+    pub takes_first : (k : Kind) → T (matches (Frame k) v) → (searched p v (controlled Nothing None t o n)).candidate ≡ held_as (taken k (correlation (Frame k) v) n)
     takes_first k m =
-        let (u, e) = search_pass p v (controlled Nothing Free t o n) in
-        let run : (Kind → Bool) → Step = λ m. pass_by p m (λ i. correlation (Frame i) v) (controlled Nothing Free u o n) in
+        let (u, e) = search_pass p v (controlled Nothing None t o n) in
+        let run : (Kind → Bool) → Step = λ m. pass_by p m (λ i. correlation (Frame i) v) (controlled Nothing None u o n) in
         subst (Holds k) (sym e) (elim (heard v alone) [
           | inl q ↦ absurd (no→⊥ (q k) m)
           | inr q ↦ subst (Holds k) (sym (ap run (fun_ext q.1) ∙ pass_first p (λ i. correlation (Frame i) v) u o n q.0))
@@ -42,16 +40,16 @@ module _ (p : ℕ) (v : ℕ → Float) (alone : (j k : Kind) → T (matches (Fra
         ])
 
     module _ (held : TakenBurst) where
-      struck_takes : (u : Timer) (j k : Kind) → k ≡ j → (x : Place) → Holds k (struck p (λ i. correlation (Frame i) v) u o n held (older held.age) x false j)
+      struck_takes : (u : Option ℕ) (j k : Kind) → k ≡ j → (x : Place) → Holds k (struck p (λ i. correlation (Frame i) v) u o n held (older held.age) x false j)
       struck_takes u j k e Before = ap (λ (i : Kind). held_as (taken i (correlation (Frame i) v) n)) (sym e)
       struck_takes u j k e Level = ap (λ (i : Kind). held_as (taken i (correlation (Frame i) v) n)) (sym e)
       struck_takes u j k e After = ap (λ (i : Kind). held_as (taken i (correlation (Frame i) v) n)) (sym e)
 
       pub takes_anew : (k : Kind) → T (matches (Frame k) v) → lt held.diff (correlation (Frame k) v).diff ≡ false
-          → (searched p v (controlled (held_as held) Free t o n)).candidate ≡ held_as (taken k (correlation (Frame k) v) n)
+          → (searched p v (controlled (held_as held) None t o n)).candidate ≡ held_as (taken k (correlation (Frame k) v) n)
       takes_anew k m below =
-          let (u, e) = search_pass p v (controlled (held_as held) Free t o n) in
-          let run : (Kind → Bool) → Step = λ m. pass_by p m (λ i. correlation (Frame i) v) (controlled (held_as held) Free u o n) in
+          let (u, e) = search_pass p v (controlled (held_as held) None t o n) in
+          let run : (Kind → Bool) → Step = λ m. pass_by p m (λ i. correlation (Frame i) v) (controlled (held_as held) None u o n) in
           subst (Holds k) (sym e) (elim (heard v alone) [
             | inl q ↦ absurd (no→⊥ (q k) m)
             | inr q ↦
@@ -62,25 +60,25 @@ module _ (p : ℕ) (v : ℕ → Float) (alone : (j k : Kind) → T (matches (Fra
 
       -- ---- a candidate fails: the wait that is set, and why
       -- an earlier-listed kind's match added to its age first
-      abbrev pub ByCorner : Wait → Type 0
-      ByCorner w = (w ≡ Due (wait_from p (older held.age) false))
+      abbrev pub ByCorner : Option Waiting → Type 0
+      ByCorner w = (w ≡ Some (wait_from p (older held.age) false))
           × ((j : Kind) × (rank j < rank held.kind) × T (matches (Frame j) v) × (lt held.diff (correlation (Frame j) v).diff ≡ true))
 
       -- a later-listed kind replaced it
-      abbrev pub ByReplacement : Wait → Type 0
-      ByReplacement w = (w ≡ Due (wait_from p held.age true))
+      abbrev pub ByReplacement : Option Waiting → Type 0
+      ByReplacement w = (w ≡ Some (wait_from p held.age true))
           × ((j : Kind) × (rank held.kind < rank j) × T (matches (Frame j) v) × (lt held.diff (correlation (Frame j) v).diff ≡ false))
 
       -- neither
-      abbrev pub ByFailure : Wait → Type 0
-      ByFailure w = (w ≡ Due (wait_from p held.age false)) × ((j : Kind) → rank j < rank held.kind → T (matches (Frame j) v) → ⊥)
+      abbrev pub ByFailure : Option Waiting → Type 0
+      ByFailure w = (w ≡ Some (wait_from p held.age false)) × ((j : Kind) → rank j < rank held.kind → T (matches (Frame j) v) → ⊥)
           × ((j : Kind) → rank held.kind < rank j → T (matches (Frame j) v) → lt held.diff (correlation (Frame j) v).diff ≡ true)
 
-      abbrev pub Sets : Wait → Type 0
+      abbrev pub Sets : Option Waiting → Type 0
       Sets w = ByCorner w ⊎ (ByReplacement w ⊎ ByFailure w)
 
       module _ (lost : T (not (matches (Frame held.kind) v))) (stays : (j : Kind) → rank j < rank held.kind → T (matches (Frame j) v) → lt held.diff (correlation (Frame j) v).diff ≡ true) where
-        struck_sets : (u : Timer) (j : Kind) → T (matches (Frame j) v) → ((i : Kind) → T (matches (Frame i) v) → i ≡ j) → (x : Place) → Placed x j held.kind
+        struck_sets : (u : Option ℕ) (j : Kind) → T (matches (Frame j) v) → ((i : Kind) → T (matches (Frame i) v) → i ≡ j) → (x : Place) → Placed x j held.kind
             → (b : Bool) → lt held.diff (correlation (Frame j) v).diff ≡ b → Sets (struck p (λ i. correlation (Frame i) v) u o n held (older held.age) x b j).control.wait
         struck_sets u j m only Before r true e = inl (refl, (j, r, m, e))
         struck_sets u j m only Before r false e = absurd (true≢false (sym (stays j r m) ∙ e))
@@ -92,10 +90,10 @@ module _ (p : ℕ) (v : ℕ → Float) (alone : (j k : Kind) → T (matches (Fra
         ))
         struck_sets u j m only After r false e = inr (inl (refl, (j, r, m, e)))
 
-        pub sets_wait : Sets (searched p v (controlled (held_as held) Free t o n)).wait
+        pub sets_wait : Sets (searched p v (controlled (held_as held) None t o n)).wait
         sets_wait =
-            let (u, e) = search_pass p v (controlled (held_as held) Free t o n) in
-            let run : (Kind → Bool) → Step = λ m. pass_by p m (λ i. correlation (Frame i) v) (controlled (held_as held) Free u o n) in
+            let (u, e) = search_pass p v (controlled (held_as held) None t o n) in
+            let run : (Kind → Bool) → Step = λ m. pass_by p m (λ i. correlation (Frame i) v) (controlled (held_as held) None u o n) in
             let Good : Step → Type 0 = λ s. Sets s.control.wait in
             subst Good (sym e) (elim (heard v alone) [
               | inl q ↦ subst Good (sym (ap run (fun_ext q) ∙ pass_lost p (λ i. correlation (Frame i) v) u o n held))

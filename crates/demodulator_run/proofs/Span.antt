@@ -1,17 +1,15 @@
 -- The span, the one frame in it, and the limit of the age, from the invariant. Assumes nothing.
+use Rattle.std.specs.Prelude.{Some, None, Option}
 use mathlib.Core.Path.{subst}
 use mathlib.Core.Logic.{inl, inr}
 use mathlib.Core.Bool.{Bool}
 use mathlib.Core.List.{List}
-use mathlib.Core.Option.{Option, none, some}
 use Prim.Native.Nat.{ℕ, ◌+◌, ◌-◌, ◌*◌, ◌≤◌, ◌<◌}
 use native.Mathlib.Nat.{lt_of_not-le, eq-or-lt_of_le}
 use native.Mathlib.Omega.{arith}
 use Rattle.protocol.specs.declared.Kind.{Kind}
 use Rattle.search.specs.declared.Candidate.{Candidate}
 use Rattle.search.specs.declared.Waiting.{Waiting}
-use Rattle.search.specs.declared.Wait.{Wait}
-use Rattle.search.specs.declared.Wait.TheVariants.{Free, Due}
 use Rattle.search.specs.declared.Shown.{Shown}
 use Rattle.search.specs.declared.Control.{Control}
 use Rattle.search.specs.TakenBurst.{TakenBurst, held_in}
@@ -34,14 +32,14 @@ module _ (ear : Ear) (p : ℕ) (big : SymbolSize p) (l : List Mark) where
   -- ---- the span, where episodes end early enough and no candidate is held too long
   module _ (up : ℕ) (early : (n b : ℕ) (k : Kind) (s d : ℕ) (x : Shown) → Episode ear p l n b k s d x → d + 1 ≤ n + up)
       (brief : (n : ℕ) (held : TakenBurst) → (H : Holding ear p l n held) → n + 1 < H.first + up) where
-    phase_closed : (n : ℕ) (o : Option TakenBurst) (wait : Wait) (owed : Bool) → Phase ear p l n o wait owed → (m : ℕ) → Started l m → m + (up - 1) ≤ n → (b : ℕ) × (k : Kind) × Closed ear p l m b k
-    phase_closed n none Free owed I m i q = elim (I.firsts m i) [ inl c ↦ c | inr e ↦ absurd e ]
-    phase_closed n none (Due w) owed I m i q = absurd I
-    phase_closed n (some held) Free owed I m i q = elim (I.1.busy.account.firsts m i) [
+    phase_closed : (n : ℕ) (o : Option TakenBurst) (wait : Option Waiting) (owed : Bool) → Phase ear p l n o wait owed → (m : ℕ) → Started l m → m + (up - 1) ≤ n → (b : ℕ) × (k : Kind) × Closed ear p l m b k
+    phase_closed n None None owed I m i q = elim (I.firsts m i) [ inl c ↦ c | inr e ↦ absurd e ]
+    phase_closed n None (Some w) owed I m i q = absurd I
+    phase_closed n (Some held) None owed I m i q = elim (I.1.busy.account.firsts m i) [
       | inl c ↦ c
       | inr e ↦ absurd (let u = brief n held I.1 in omega arith)
     ]
-    phase_closed n (some held) (Due w) owed I m i q = elim (I.1.busy.account.firsts m i) [
+    phase_closed n (Some held) (Some w) owed I m i q = elim (I.1.busy.account.firsts m i) [
       | inl c ↦ c
       | inr e ↦ absurd (let W = I.1 in let s = W.some in let u = early W.first W.b W.kind W.s (n + w.left) _ W.episode in omega arith)
     ]
@@ -72,10 +70,10 @@ module _ (ear : Ear) (p : ℕ) (big : SymbolSize p) (l : List Mark) where
   -- ---- the age, where a candidate's matches are few enough
   module _ (limit : ℕ) (holding : (n : ℕ) (held : TakenBurst) → Holding ear p l n held → held.age ≤ limit)
       (awaiting : (n : ℕ) (w : Waiting) (held : TakenBurst) → Awaiting ear p l n w held → held.age ≤ limit) where
-    phase_age : (n : ℕ) {candidate : Candidate} → HeldOrNot candidate → (wait : Wait) (owed : Bool) → Phase ear p l n (held_in candidate) wait owed → AgeAtMost limit candidate
+    phase_age : (n : ℕ) {candidate : Candidate} → HeldOrNot candidate → (wait : Option Waiting) (owed : Bool) → Phase ear p l n (held_in candidate) wait owed → AgeAtMost limit candidate
     phase_age n not_held wait owed I = omega arith
-    phase_age n (is_held held) Free owed I = holding n held I.1
-    phase_age n (is_held held) (Due w) owed I = awaiting n w held I.1
+    phase_age n (is_held held) None owed I = holding n held I.1
+    phase_age n (is_held held) (Some w) owed I = awaiting n w held I.1
 
     pub age_of : (c : Control) → Kept ear p l c → AgeAtMost limit c.candidate
     age_of c I = phase_age c.sample (held_or_not c.candidate) c.wait c.owed I

@@ -1,10 +1,10 @@
 -- A sample and a reply mark exactly what the rules say. Assumes nothing.
+use Rattle.std.specs.Prelude.{Option, Some, None}
 use mathlib.Core.Path.{◌≡◌, refl, sym, ap, ◌∙◌, subst}
 use mathlib.Core.Logic.{◌⊎◌, inl, inr}
 use mathlib.Core.Bool.{Bool, true, false, cond, true≢false}
 use mathlib.Core.List.Memᴰ
 use mathlib.Core.List.{List, [], ◌∷◌}
-use mathlib.Core.Option.{some}
 use Prim.Native.Nat.{ℕ, ◌+◌, ◌<◌}
 use native.Mathlib.Omega.{arith}
 use lib.Dec.{ltb}
@@ -14,9 +14,6 @@ use lib.Ieee.{Float}
 use Rattle.search.specs.declared.Candidate.{Candidate}
 use Rattle.search.specs.declared.Candidate.TheVariants.{Nothing}
 use Rattle.search.specs.declared.Waiting.{Waiting}
-use Rattle.search.specs.declared.Wait.{Wait}
-use Rattle.search.specs.declared.Wait.TheVariants.{Free, Due}
-use Rattle.search.specs.declared.Timer.{Timer}
 use Rattle.search.specs.declared.Control.{Control}
 use Rattle.search.specs.declared.Shown.{Shown}
 use Rattle.search.specs.declared.Reply.{Reply}
@@ -75,39 +72,39 @@ module _ (ear : Ear) (h : History) (call : Single) where
   no_wait none (Failed n k b) d = d
   no_wait none (FellDue n x) d = none x.age x.replaced d.4
 
-pub free_due : {w : Waiting} → Free ≡ Due w → ⊥
+pub free_due : {w : Waiting} → None ≡ Some w → ⊥
 free_due e = let z : ◌≡◌ {A = ℕ} 0 1 = cc in omega arith
 
 -- a wait's own parts
-waiting : Wait → Waiting → Waiting
-waiting Free w = w
-waiting (Due w) v = w
+waiting : Option Waiting → Waiting → Waiting
+waiting None w = w
+waiting (Some w) v = w
 
-pub same_wait : (w v : Waiting) → Due w ≡ Due v → w ≡ v
+pub same_wait : (w v : Waiting) → Some w ≡ Some v → w ≡ v
 unfolding waiting
-same_wait w v e = ap (λ (u : Wait). waiting u w) e
+same_wait w v e = ap (λ (u : Option Waiting). waiting u w) e
 
-module _ (ear : Ear) (p : ℕ) (alone : Alone ear) (xs : List ℤ) (t : Timer) (o : Bool) (n : ℕ) where
-  abbrev heard_with : Candidate → Wait → History
+module _ (ear : Ear) (p : ℕ) (alone : Alone ear) (xs : List ℤ) (t : Option ℕ) (o : Bool) (n : ℕ) where
+  abbrev heard_with : Candidate → Option Waiting → History
   heard_with held wait = record { samples = xs; control = controlled held wait t o n }
 
-  abbrev later : Timer
+  abbrev later : Option ℕ
   later = cleared (n + 1) t
 
   -- ---- a sample
   module _ (x : ℤ) (room : List Float) where
     free_exact : {candidate : Candidate} → HeldOrNot candidate
-        → Exactly (λ (y : Mark). ByRules ear y (heard_with candidate Free) (sample x room)) (searched_marks p (ear (n + 1)) (controlled candidate Free later o (n + 1)))
+        → Exactly (λ (y : Mark). ByRules ear y (heard_with candidate None) (sample x room)) (searched_marks p (ear (n + 1)) (controlled candidate None later o (n + 1)))
     free_exact {candidate} held =
-        only_search ear (heard_with candidate Free) (sample x room) (controlled candidate Free later o (n + 1)) (refl, refl)
-        (λ d s. s.1) (no_wait ear (heard_with candidate Free) (sample x room) (λ age mark. free_due)) _ (search_exact ear p alone (n + 1) held later o)
+        only_search ear (heard_with candidate None) (sample x room) (controlled candidate None later o (n + 1)) (refl, refl)
+        (λ d s. s.1) (no_wait ear (heard_with candidate None) (sample x room) (λ age mark. free_due)) _ (search_exact ear p alone (n + 1) held later o)
 
     module _ (held : TakenBurst) where
-      longer_exact : (w : Waiting) → 1 < w.left → Exactly (λ (y : Mark). ByRules ear y (heard_with (held_as held) (Due w)) (sample x room)) []
+      longer_exact : (w : Waiting) → 1 < w.left → Exactly (λ (y : Mark). ByRules ear y (heard_with (held_as held) (Some w)) (sample x room)) []
       longer_exact w more =
-          nothing_exact ear (heard_with (held_as held) (Due w)) (sample x room)
+          nothing_exact ear (heard_with (held_as held) (Some w)) (sample x room)
           (λ c s. free_due (sym s.0))
-          (no_wait ear (heard_with (held_as held) (Due w)) (sample x room) (λ age mark e. omega (arith, ap (λ (u : Waiting). u.left) (same_wait w _ e))))
+          (no_wait ear (heard_with (held_as held) (Some w)) (sample x room) (λ age mark e. omega (arith, ap (λ (u : Waiting). u.left) (same_wait w _ e))))
 
       module _ (age : ℕ) (mark : Bool) where
         abbrev h : History
@@ -136,36 +133,36 @@ module _ (ear : Ear) (p : ℕ) (alone : Alone ear) (xs : List ℤ) (t : Timer) (
             back y s = elim (source ear h (sample x room) y s) [ inl q ↦ absurd (free_due (sym q.1.0)) | inr d ↦ Memᴰ.head (here y d) ]
 
       wait_exact : (w : Waiting) → 0 < w.left → (b : Bool) → ltb 1 w.left ≡ b
-          → Exactly (λ (y : Mark). ByRules ear y (heard_with (held_as held) (Due w)) (sample x room))
-          (cond b [] (due_marks p (ear (n + 1)) (some held) w (controlled Nothing Free later o (n + 1))))
+          → Exactly (λ (y : Mark). ByRules ear y (heard_with (held_as held) (Some w)) (sample x room))
+          (cond b [] (due_marks p (ear (n + 1)) (Some held) w (controlled Nothing None later o (n + 1))))
       wait_exact w more true e = longer_exact w (ltb-true 1 w.left e)
       wait_exact w more false e =
-          let marks : List Mark = due_marks p (ear (n + 1)) (some held) w (controlled Nothing Free later o (n + 1)) in
-          subst (λ (m : ℕ). Exactly (λ (y : Mark). ByRules ear y (heard_with (held_as held) (Due (record { left = m; age = w.age; replaced = w.replaced }))) (sample x room)) marks) {x = 1} {y = w.left}
+          let marks : List Mark = due_marks p (ear (n + 1)) (Some held) w (controlled Nothing None later o (n + 1)) in
+          subst (λ (m : ℕ). Exactly (λ (y : Mark). ByRules ear y (heard_with (held_as held) (Some (record { left = m; age = w.age; replaced = w.replaced }))) (sample x room)) marks) {x = 1} {y = w.left}
           (let u = ltb-false 1 w.left e in omega arith) (unfold due_marks in due_exact w.age w.replaced)
 
-    pub sample_exact : (l : List Mark) {candidate : Candidate} → HeldOrNot candidate → (wait : Wait) → Phase ear p l n (held_in candidate) wait o
+    pub sample_exact : (l : List Mark) {candidate : Candidate} → HeldOrNot candidate → (wait : Option Waiting) → Phase ear p l n (held_in candidate) wait o
         → Exactly (λ (y : Mark). ByRules ear y (heard_with candidate wait) (sample x room)) (sampled_marks p (ear (n + 1)) (controlled candidate wait t o n))
     unfolding sampled_marks waited_marks
-    sample_exact l not_held Free I = free_exact not_held
-    sample_exact l not_held (Due w) I = absurd I
-    sample_exact l (is_held held) Free I = free_exact (is_held held)
-    sample_exact l (is_held held) (Due w) I = wait_exact held w I.1.some (ltb 1 w.left) refl
+    sample_exact l not_held None I = free_exact not_held
+    sample_exact l not_held (Some w) I = absurd I
+    sample_exact l (is_held held) None I = free_exact (is_held held)
+    sample_exact l (is_held held) (Some w) I = wait_exact held w I.1.some (ltb 1 w.left) refl
 
   -- ---- a reply, while one is owed
   reply_sample : (r : Reply) (x : ℤ) (room : List Float) → reply r ≡ sample x room → ⊥
   reply_sample r x room e = let z : ◌≡◌ {A = ℕ} 0 1 = cc in omega arith
 
-  idle_exact : (r : Reply) → Exactly (λ (y : Mark). ByRules ear y (heard_with Nothing Free) (reply r)) (replied_marks p (ear n) r (controlled Nothing Free t o n))
+  idle_exact : (r : Reply) → Exactly (λ (y : Mark). ByRules ear y (heard_with Nothing None) (reply r)) (replied_marks p (ear n) r (controlled Nothing None t o n))
   unfolding replied_marks
-  idle_exact Accepted = nothing_exact ear (heard_with Nothing Free) (reply Accepted) (λ c s. s) (no_sample ear (heard_with Nothing Free) (reply Accepted) (reply_sample Accepted))
+  idle_exact Accepted = nothing_exact ear (heard_with Nothing None) (reply Accepted) (λ c s. s) (no_sample ear (heard_with Nothing None) (reply Accepted) (reply_sample Accepted))
   idle_exact Rejected =
-      only_search ear (heard_with Nothing Free) (reply Rejected) (controlled Nothing Free t false n) refl (λ d s. s) (no_sample ear (heard_with Nothing Free) (reply Rejected) (reply_sample Rejected)) _
+      only_search ear (heard_with Nothing None) (reply Rejected) (controlled Nothing None t false n) refl (λ d s. s) (no_sample ear (heard_with Nothing None) (reply Rejected) (reply_sample Rejected)) _
       (search_exact ear p alone n not_held t false)
 
-  pub reply_exact : (l : List Mark) (r : Reply) {candidate : Candidate} → HeldOrNot candidate → (wait : Wait) → o ≡ true → Phase ear p l n (held_in candidate) wait o
+  pub reply_exact : (l : List Mark) (r : Reply) {candidate : Candidate} → HeldOrNot candidate → (wait : Option Waiting) → o ≡ true → Phase ear p l n (held_in candidate) wait o
       → Exactly (λ (y : Mark). ByRules ear y (heard_with candidate wait) (reply r)) (replied_marks p (ear n) r (controlled candidate wait t o n))
-  reply_exact l r not_held Free e I = idle_exact r
-  reply_exact l r not_held (Due w) e I = absurd I
-  reply_exact l r (is_held held) Free e I = absurd (true≢false (sym e ∙ I.0))
-  reply_exact l r (is_held held) (Due w) e I = absurd (true≢false (sym e ∙ I.0))
+  reply_exact l r not_held None e I = idle_exact r
+  reply_exact l r not_held (Some w) e I = absurd I
+  reply_exact l r (is_held held) None e I = absurd (true≢false (sym e ∙ I.0))
+  reply_exact l r (is_held held) (Some w) e I = absurd (true≢false (sym e ∙ I.0))

@@ -1,22 +1,19 @@
 -- A switch of kind without a wait goes to an earlier-listed kind: in the log, and in the control before a call and after it. Assumes nothing.
+use Rattle.std.specs.Prelude.{None, Option, Some}
 use mathlib.Core.Path.{◌≡◌, refl, sym, ap, ◌∙◌, subst, fun_ext}
 use mathlib.Core.Logic.{inl, inr}
 use mathlib.Core.Bool.{Bool, true, false, not, cond}
 use mathlib.Core.List.{List, [], ◌∷◌, ◌++◌}
-use mathlib.Core.Option.{Option, none, some}
 use Prim.Native.Nat.{ℕ, ◌^◌, ◌<◌}
 use native.Mathlib.Omega.{arith}
 use lib.Dec.{T, not_T, eqb, ltb}
 use lib.IntN.{ℤ}
 use lib.ListN.{length}
 use lib.Ieee.{Float}
-use Rattle.machine.specs.Runs.{run}
 use Rattle.protocol.specs.declared.Kind.{Kind}
 use Rattle.protocol.specs.declared.SyncBurst.TheVariants.{Frame}
 use Rattle.decode.specs.Correlator.{correlation, matches}
 use Rattle.search.specs.declared.Candidate.{Candidate}
-use Rattle.search.specs.declared.Wait.TheVariants.{Free}
-use Rattle.search.specs.declared.Timer.{Timer}
 use Rattle.search.specs.declared.Control.{Control}
 use Rattle.search.specs.declared.Reply.{Reply}
 use Rattle.search.specs.declared.Reply.TheVariants.{Accepted, Rejected}
@@ -26,7 +23,7 @@ use Rattle.search.specs.Turn.{Outcome, quiet, offer, control_of, counted, waited
 use Rattle.search.proofs.HeldOrNot.{HeldOrNot, not_held, is_held, held_or_not}
 use Rattle.demodulator.specs.Spans.{eight}
 use Rattle.demodulator_run.specs.Filter.{ago}
-use Rattle.demodulator_run.specs.Rules.{Single, sample, reply, query, History, After as Came, start, refused, settled, admitted, given, answered, single, history_all}
+use Rattle.demodulator_run.specs.Rules.{Single, sample, reply, query, History, After as Came, start, refused, settled, given, answered, single, history_all}
 use Rattle.demodulator_run.specs.Marks.{Anew, Failed, log_all}
 use Rattle.demodulator_run.specs.Demands.{SymbolSize, Ear, ear_of, Unmatched, Alone, NotAgain, In, SwitchEarlier, EarlierThan, SwitchHeld}
 use Rattle.demodulator_run.specs.Exact.{MarkedAt}
@@ -38,36 +35,36 @@ use Rattle.demodulator_run.proofs.LogExact.{log_exact}
 
 -- ---- a search
 same_kind : (o : Option TakenBurst) → EarlierThan o o
-same_kind none = tt
-same_kind (some held) = λ other. absurd (other refl)
+same_kind None = tt
+same_kind (Some held) = λ other. absurd (other refl)
 
 abbrev OneAtMost : (ℕ → Float) → Type 0
 OneAtMost v = (j k : Kind) → T (matches (Frame j) v) → T (matches (Frame k) v) → j ≡ k
 
 module _ (p : ℕ) (v : ℕ → Float) (alone : OneAtMost v) where
-  module _ (held : TakenBurst) (t : Timer) (o : Bool) (n : ℕ) where
+  module _ (held : TakenBurst) (t : Option ℕ) (o : Bool) (n : ℕ) where
     abbrev Turns : Step → Type 0
-    Turns s = s.control.wait ≡ Free → EarlierThan (some held) (held_in s.control.candidate)
+    Turns s = s.control.wait ≡ None → EarlierThan (Some held) (held_in s.control.candidate)
 
-    struck_turns : (u : Timer) (j : Kind) (x : Place) → Placed x j held.kind → (b : Bool) → Turns (struck p (λ i. correlation (Frame i) v) u o n held (older held.age) x b j)
+    struck_turns : (u : Option ℕ) (j : Kind) (x : Place) → Placed x j held.kind → (b : Bool) → Turns (struck p (λ i. correlation (Frame i) v) u o n held (older held.age) x b j)
     struck_turns u j Before r true e = absurd (free_due (sym e))
     struck_turns u j Before r false e = λ other. r
-    struck_turns u j Level r true e = same_kind (some held)
+    struck_turns u j Level r true e = same_kind (Some held)
     struck_turns u j Level r false e = λ other. absurd (other (sym r))
     struck_turns u j After r true e = absurd (free_due (sym e))
     struck_turns u j After r false e = absurd (free_due (sym e))
 
-    held_turns : Turns (search_step p v (controlled (held_as held) Free t o n))
+    held_turns : Turns (search_step p v (controlled (held_as held) None t o n))
     held_turns =
-        let (u, e) = search_pass p v (controlled (held_as held) Free t o n) in
-        let run : (Kind → Bool) → Step = λ m. pass_by p m (λ i. correlation (Frame i) v) (controlled (held_as held) Free u o n) in
+        let (u, e) = search_pass p v (controlled (held_as held) None t o n) in
+        let run : (Kind → Bool) → Step = λ m. pass_by p m (λ i. correlation (Frame i) v) (controlled (held_as held) None u o n) in
         subst Turns (sym e) (elim (heard v alone) [
           | inl q ↦ subst Turns (sym (ap run (fun_ext q) ∙ pass_lost p (λ i. correlation (Frame i) v) u o n held)) (λ f. absurd (free_due (sym f)))
           | inr q ↦ subst Turns (sym (ap run (fun_ext q.1) ∙ pass_hit p (λ i. correlation (Frame i) v) u o n held q.0 _ refl)) (struck_turns u q.0 (place q.0 held.kind) (placed q.0 held.kind) _)
         ])
 
-  search_turns : {candidate : Candidate} → HeldOrNot candidate → (t : Timer) (o : Bool) (n : ℕ)
-      → (searched p v (controlled candidate Free t o n)).wait ≡ Free → EarlierThan (held_in candidate) (held_in (searched p v (controlled candidate Free t o n)).candidate)
+  search_turns : {candidate : Candidate} → HeldOrNot candidate → (t : Option ℕ) (o : Bool) (n : ℕ)
+      → (searched p v (controlled candidate None t o n)).wait ≡ None → EarlierThan (held_in candidate) (held_in (searched p v (controlled candidate None t o n)).candidate)
   search_turns not_held t o n f = tt
   search_turns (is_held held) t o n f = held_turns held t o n f
 

@@ -1,4 +1,5 @@
 -- A candidate that is held after a call and was not before it is marked as taken, by the rules. Assumes nothing.
+use Rattle.std.specs.Prelude.{Option, Some, None}
 use mathlib.Core.Path.{◌≡◌, refl, sym, ap, subst, ◌∙◌}
 use mathlib.Core.Logic.{◌⊎◌, inl, inr}
 use mathlib.Core.Bool.{true, false, not, false≢true}
@@ -17,8 +18,6 @@ use Rattle.decode.specs.Correlator.{matches}
 use Rattle.search.specs.declared.Candidate.{Candidate}
 use Rattle.search.specs.declared.Candidate.TheVariants.{Nothing}
 use Rattle.search.specs.declared.Waiting.{Waiting}
-use Rattle.search.specs.declared.Wait.{Wait}
-use Rattle.search.specs.declared.Wait.TheVariants.{Free, Due}
 use Rattle.search.specs.declared.Control.{Control}
 use Rattle.search.specs.declared.Reply.{Reply}
 use Rattle.search.specs.declared.Reply.TheVariants.{Accepted, Rejected}
@@ -73,11 +72,11 @@ module _ (p : ℕ) (v : ℕ → Float) (alone : (j k : Kind) → T (matches (Fra
   search_holds c Packet m = is_true _ (tried_holds Packet _ (inl m))
 
 -- ---- a sample: with no candidate held no wait is, and the search runs
-free_of : (c : Control) → ((w : Waiting) → c.wait ≡ Due w → held c.candidate ≡ true) → c.candidate ≡ Nothing → (wait : Wait) → c.wait ≡ wait → c.wait ≡ Free
-free_of c waits none Free e = e
-free_of c waits none (Due w) e = absurd (false≢true (sym (ap held none) ∙ waits w e))
+free_of : (c : Control) → ((w : Waiting) → c.wait ≡ Some w → held c.candidate ≡ true) → c.candidate ≡ Nothing → (wait : Option Waiting) → c.wait ≡ wait → c.wait ≡ None
+free_of c waits none None e = e
+free_of c waits none (Some w) e = absurd (false≢true (sym (ap held none) ∙ waits w e))
 
-module _ (p : ℕ) (v : ℕ → Float) (c : Control) (free : c.wait ≡ Free) where
+module _ (p : ℕ) (v : ℕ → Float) (c : Control) (free : c.wait ≡ None) where
   sample_holds : held (control_of (sampled p v c)).candidate ≡ held (searched p v (counted c)).candidate
   sample_holds = ap (λ (o : Outcome). held (control_of o).candidate) (sampled_free p v c free)
 
@@ -143,7 +142,7 @@ module _ (table : List Float) (p : ℕ) (big : SymbolSize p) (ss : List Single) 
         let (k, m) = search_takes p v (heard_alone n v f) c free holds in
         (k, subst (λ (u : ℕ → Float). T (matches (Frame k) u)) (sym f) m)
 
-    pub taken_started : (call : Single) → ss ≡ before ++ (call ∷ after) → is_refusal (single table p h call).said.answer ≡ false → ((w : Waiting) → h.control.wait ≡ Due w → held h.control.candidate ≡ true)
+    pub taken_started : (call : Single) → ss ≡ before ++ (call ∷ after) → is_refusal (single table p h call).said.answer ≡ false → ((w : Waiting) → h.control.wait ≡ Some w → held h.control.candidate ≡ true)
         → h.control.candidate ≡ Nothing → held (single table p h call).history.control.candidate ≡ true → Started (log_all table p ss) (single table p h call).history.control.sample
     unfolding single replied
     taken_started (sample x room) e admitted waits none holds =

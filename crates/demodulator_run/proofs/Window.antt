@@ -1,4 +1,6 @@
 -- A due frame's window: it is what the caller is given, and its symbols lie where the burst began. Assumes nothing.
+use Rattle.std.specs.Prelude.{Option, None}
+use Rattle.search.specs.declared.Waiting.{Waiting}
 use mathlib.Core.Path.{◌≡◌, refl, sym, ap, ◌∙◌, subst}
 use mathlib.Core.Logic.{◌⊎◌, inl, inr}
 use mathlib.Core.Bool.{Bool, true, false}
@@ -16,9 +18,6 @@ use Rattle.protocol.specs.declared.Kind.{Kind}
 use Rattle.decode.specs.Correlator.{symbol_of}
 use Rattle.search.specs.declared.Candidate.{Candidate}
 use Rattle.search.specs.declared.Candidate.TheVariants.{Nothing}
-use Rattle.search.specs.declared.Wait.{Wait}
-use Rattle.search.specs.declared.Wait.TheVariants.{Free}
-use Rattle.search.specs.declared.Timer.{Timer}
 use Rattle.search.specs.declared.Shown.{Shown}
 use Rattle.search.specs.TakenBurst.{TakenBurst, held_as, shown_of}
 use Rattle.search.specs.Turn.{Outcome, offer, cleared, due_turn, waited_turn, sampled}
@@ -57,16 +56,16 @@ module _ (table : List Float) (ear : Ear) (p b : ℕ) (k : Kind) (s d : ℕ) (x 
   ]
 
 -- ---- the window is given to the caller
-module _ (p : ℕ) (v : ℕ → Float) (held : TakenBurst) (age : ℕ) (mark : Bool) (t : Timer) (o : Bool) (n : ℕ) where
-  now_due : sampled p v (controlled (held_as held) (last_sample age mark) t o n) ≡ offer (shown_of held age mark) (controlled Nothing Free (cleared (n + 1) t) true (n + 1))
+module _ (p : ℕ) (v : ℕ → Float) (held : TakenBurst) (age : ℕ) (mark : Bool) (t : Option ℕ) (o : Bool) (n : ℕ) where
+  now_due : sampled p v (controlled (held_as held) (last_sample age mark) t o n) ≡ offer (shown_of held age mark) (controlled Nothing None (cleared (n + 1) t) true (n + 1))
   unfolding sampled waited_turn due_turn
   now_due = refl
 
-  outcome : (candidate : Candidate) (wait : Wait) → candidate ≡ held_as held → wait ≡ last_sample age mark
-      → sampled p v (controlled candidate wait t o n) ≡ offer (shown_of held age mark) (controlled Nothing Free (cleared (n + 1) t) true (n + 1))
+  outcome : (candidate : Candidate) (wait : Option Waiting) → candidate ≡ held_as held → wait ≡ last_sample age mark
+      → sampled p v (controlled candidate wait t o n) ≡ offer (shown_of held age mark) (controlled Nothing None (cleared (n + 1) t) true (n + 1))
   outcome candidate wait e f =
-      subst (λ (h : Candidate). sampled p v (controlled h wait t o n) ≡ offer (shown_of held age mark) (controlled Nothing Free (cleared (n + 1) t) true (n + 1))) (sym e)
-      (subst (λ (w : Wait). sampled p v (controlled (held_as held) w t o n) ≡ offer (shown_of held age mark) (controlled Nothing Free (cleared (n + 1) t) true (n + 1))) (sym f) now_due)
+      subst (λ (h : Candidate). sampled p v (controlled h wait t o n) ≡ offer (shown_of held age mark) (controlled Nothing None (cleared (n + 1) t) true (n + 1))) (sym e)
+      (subst (λ (w : Option Waiting). sampled p v (controlled (held_as held) w t o n) ≡ offer (shown_of held age mark) (controlled Nothing None (cleared (n + 1) t) true (n + 1))) (sym f) now_due)
 
 module _ (table : List Float) (p : ℕ) (h : History) (value : ℤ) (room : List Float) (held : TakenBurst) (age : ℕ) (mark : Bool) where
   abbrev Gives : After → Type 0

@@ -1,8 +1,9 @@
 -- Worked examples of the rules, computed: P1, the first sample, each refusal, the carrier and its timer, a wait that is set, a tie and an age. Assumes nothing.
+use Rattle.std.specs.Prelude.{Option, Some, None}
+use Rattle.search.specs.declared.Waiting.{Waiting}
 use mathlib.Core.Path.{◌≡◌, refl, sym, ◌∙◌}
 use mathlib.Core.Bool.{Bool, true, false, cond}
 use mathlib.Core.List.{List, [], ◌∷◌}
-use mathlib.Core.Option.{some}
 use Prim.Native.Nat.{ℕ, ◌%◌, ◌^◌}
 use lib.Dec.{eqb}
 use lib.IntN.{ℤ, pos}
@@ -22,9 +23,6 @@ use Rattle.protocol.specs.Refusals.{bare}
 use Rattle.decode.specs.declared.Correlation.{Correlation}
 use Rattle.decode.specs.Correlator.{zero_unsigned, highest, lowest, gain_of, shift_of, symbol_of, distance_of, summed, diff_of, correlation, matches}
 use Rattle.search.specs.declared.Candidate.TheVariants.{Nothing}
-use Rattle.search.specs.declared.Wait.{Wait}
-use Rattle.search.specs.declared.Wait.TheVariants.{Free, Due}
-use Rattle.search.specs.declared.Timer.TheVariants.{Off, Until}
 use Rattle.search.specs.declared.Control.{Control}
 use Rattle.search.specs.declared.Reply.TheVariants.{Accepted}
 use Rattle.search.specs.TakenBurst.{TakenBurst, held_as, taken}
@@ -59,7 +57,7 @@ refuses_4 = refl
 
 -- "sample given while a reply is owed": the smallest number of two that apply
 owed : History
-owed = record { samples = []; control = record { candidate = Nothing; wait = Free; dcd = Until 5; owed = true; sample = 0 } }
+owed = record { samples = []; control = record { candidate = Nothing; wait = None; dcd = Some 5; owed = true; sample = 0 } }
 
 refuses_2 : (single taps 10 owed (sample (pos 1) [])).said.answer ≡ refusal (bare 2)
 unfolding single given owed
@@ -67,7 +65,7 @@ refuses_2 = refl
 
 -- "sample given at count 2^63"
 last : History
-last = record { samples = []; control = record { candidate = Nothing; wait = Free; dcd = Off; owed = false; sample = 2 ^ 63 } }
+last = record { samples = []; control = record { candidate = Nothing; wait = None; dcd = None; owed = false; sample = 2 ^ 63 } }
 
 refuses_5 : (single taps 10 last (sample (pos 1) (replicate 192 nought))).said.answer ≡ refusal (bare 5)
 unfolding single given last
@@ -93,7 +91,7 @@ room = replicate 192 nought
 abbrev pub unheard : After
 unheard = record {
   said = record { answer = nothing; room = room };
-  history = record { samples = pos 32767 ∷ []; control = record { candidate = Nothing; wait = Free; dcd = Off; owed = false; sample = 1 } };
+  history = record { samples = pos 32767 ∷ []; control = record { candidate = Nothing; wait = None; dcd = None; owed = false; sample = 1 } };
 }
 
 pub first : single taps 10 start (sample (pos 32767) room) ≡ unheard
@@ -105,11 +103,11 @@ unfolding single given settled sampled waited_turn cleared searched passed tried
 first24 = refl
 
 -- ---- "clear the carrier timer if the count is above its end"
-at_its_end : cleared 240 (Until 240) ≡ Until 240
+at_its_end : cleared 240 (Some 240) ≡ Some 240
 unfolding cleared
 at_its_end = refl
 
-past_its_end : cleared 241 (Until 240) ≡ Off
+past_its_end : cleared 241 (Some 240) ≡ None
 unfolding cleared
 past_its_end = refl
 
@@ -120,19 +118,19 @@ zeros = record { diff = nought; gain = nought; shift = nought }
 abbrev third : TakenBurst
 third = burst_at Stream 3 zeros
 
-abbrev holding : TakenBurst → Wait → Control
-holding t wait = record { candidate = held_as t; wait = wait; dcd = Off; owed = false; sample = 100 }
+abbrev holding : TakenBurst → Option Waiting → Control
+holding t wait = record { candidate = held_as t; wait = wait; dcd = None; owed = false; sample = 100 }
 
 -- ---- "the wait becomes 1,840 - age and the timer's end count + 3,840": the age is kept
-abbrev set : Bool → Wait
-set mark = Due (record { left = 1837; age = 3; replaced = mark })
+abbrev set : Bool → Option Waiting
+set mark = Some (record { left = 1837; age = 3; replaced = mark })
 
-fails : missed 10 Stream (some third) (holding third Free) ≡ record { candidate = held_as third; wait = set false; dcd = Until 3940; owed = false; sample = 100 }
+fails : missed 10 Stream (Some third) (holding third None) ≡ record { candidate = held_as third; wait = set false; dcd = Some 3940; owed = false; sample = 100 }
 unfolding missed
 fails = refl
 
 -- document 02 k): "the wait is 920 - age, the timer spans are 120 and 1,920"
-fails24 : missed 5 Stream (some third) (holding third Free) ≡ record { candidate = held_as third; wait = Due (record { left = 917; age = 3; replaced = false }); dcd = Until 2020; owed = false; sample = 100 }
+fails24 : missed 5 Stream (Some third) (holding third None) ≡ record { candidate = held_as third; wait = Some (record { left = 917; age = 3; replaced = false }); dcd = Some 2020; owed = false; sample = 100 }
 unfolding missed
 fails24 = refl
 
@@ -140,11 +138,11 @@ fails24 = refl
 abbrev alternating : ℕ → Float
 alternating i = cond (eqb (i % 2) 0) (of_bits binary32 0x4200_0000) (of_bits binary32 0xc200_0000)
 
-carried48 : (carried 10 Preamble alternating (holding third Free)).dcd ≡ Until 340
+carried48 : (carried 10 Preamble alternating (holding third None)).dcd ≡ Some 340
 unfolding carried matches correlation diff_of summed sum_to distance_of symbol_of shift_of gain_of highest lowest zero_unsigned larger smaller size_of add sub mul div lt eq neg of_int of_bits signs_of any_below
 carried48 = refl
 
-carried24 : (carried 5 Preamble alternating (holding third Free)).dcd ≡ Until 220
+carried24 : (carried 5 Preamble alternating (holding third None)).dcd ≡ Some 220
 unfolding carried matches correlation diff_of summed sum_to distance_of symbol_of shift_of gain_of highest lowest zero_unsigned larger smaller size_of add sub mul div lt eq neg of_int of_bits signs_of any_below
 carried24 = refl
 
@@ -152,16 +150,16 @@ carried24 = refl
 abbrev anew : TakenBurst
 anew = taken Lsf zeros 100
 
-tie_taken : matched (some third) anew (holding third Free) ≡ holding anew Free
+tie_taken : matched (Some third) anew (holding third None) ≡ holding anew None
 unfolding matched marked lt of_bits
 tie_taken = refl
 
 -- document 02 j): a wait that is held is marked by it
-tie_marked : matched (some third) anew (holding third (set false)) ≡ holding anew (set true)
+tie_marked : matched (Some third) anew (holding third (set false)) ≡ holding anew (set true)
 unfolding matched marked lt of_bits
 tie_marked = refl
 
 -- ---- "A match whose diff is above the held candidate's adds one to its age, whatever its kind.": where it was taken and the wait stay
-aged : matched (some third) (taken Lsf (record { diff = of_bits binary32 0x3f80_0000; gain = nought; shift = nought }) 100) (holding third (set false)) ≡ holding (burst_at Stream 4 zeros) (set false)
+aged : matched (Some third) (taken Lsf (record { diff = of_bits binary32 0x3f80_0000; gain = nought; shift = nought }) 100) (holding third (set false)) ≡ holding (burst_at Stream 4 zeros) (set false)
 unfolding matched lt of_bits
 aged = refl

@@ -1,15 +1,13 @@
 -- Demand 3: what is asked of the frames that fall due. Over what is heard at each sample, `ear k i` for the value i of the eight at sample k, and over a log of marks.
 -- Assumes nothing.
-use Rattle.std.specs.Prelude.{◌≡◌, ◌⊎◌, ◌↔◌, Bool, true, false, not, ℕ, ◌+◌, ◌-◌, ◌*◌, ◌≤◌, ◌<◌, T, ℤ, length, take, Float}
+use Rattle.std.specs.Prelude.{◌≡◌, ◌⊎◌, ◌↔◌, Bool, true, false, not, ℕ, ◌+◌, ◌-◌, ◌*◌, ◌≤◌, ◌<◌, T, ℤ, length, take, Float, None, Option, Some}
 use mathlib.Core.List.{List, Memᴰ}
-use Rattle.std.proofs.Math.Option.{Option, none, some}
 use Rattle.std.specs.Float.Ieee.{lt}
 use Rattle.protocol.specs.declared.Kind.{Kind}
 use Rattle.protocol.specs.declared.SyncBurst.TheVariants.{Frame}
 use Rattle.decode.specs.declared.Correlation.{Correlation}
 use Rattle.decode.specs.Correlator.{symbol_of, correlation, matches}
 use Rattle.search.specs.declared.Candidate.{Candidate}
-use Rattle.search.specs.declared.Wait.TheVariants.{Free}
 use Rattle.search.specs.declared.Control.{Control}
 use Rattle.search.specs.declared.Shown.{Shown}
 use Rattle.search.specs.TakenBurst.{TakenBurst, held_by, taken, shown_of}
@@ -96,13 +94,13 @@ SwitchEarlier l = (n : ℕ) (j k : Kind) → Switched l n j k → (WaitSet l n �
 
 -- two candidates: where they differ in kind, the second's is listed earlier
 abbrev pub EarlierThan : Option TakenBurst → Option TakenBurst → Type 0
-EarlierThan none held = Unit {0}
-EarlierThan (some t) none = Unit {0}
-EarlierThan (some t) (some u) = (t.kind ≡ u.kind → ⊥) → rank u.kind < rank t.kind
+EarlierThan None held = Unit {0}
+EarlierThan (Some t) None = Unit {0}
+EarlierThan (Some t) (Some u) = (t.kind ≡ u.kind → ⊥) → rank u.kind < rank t.kind
 
 -- the same of the candidates held before a call and after it, where no wait is held before it nor after it
 abbrev pub SwitchHeld : Control → Control → Type 0
-SwitchHeld c d = c.wait ≡ Free → d.wait ≡ Free → EarlierThan (held_by c) (held_by d)
+SwitchHeld c d = c.wait ≡ None → d.wait ≡ None → EarlierThan (held_by c) (held_by d)
 
 -- ---- the span and the age
 -- "a candidate taken at n while none was held": once n + hi samples are fed, a frame falls due at some d from n + lo to n + hi

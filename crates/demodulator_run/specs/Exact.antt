@@ -1,13 +1,12 @@
 -- When a mark is in the log, by the rules: at which call, and with which control before the search. Assumes nothing.
-use Rattle.std.specs.Prelude.{◌≡◌, Bool, true, false, List, [], ◌∷◌, ◌++◌, ℕ, ◌+◌, ◌<◌, ℤ, length, Float}
+use Rattle.search.specs.declared.Waiting.{Waiting}
+use Rattle.std.specs.Prelude.{◌≡◌, Bool, true, false, List, [], ◌∷◌, ◌++◌, ℕ, ◌+◌, ◌<◌, ℤ, length, Float, Option, Some, None}
 use Rattle.std.specs.Float.Ieee.{lt}
 use Rattle.numbers.specs.Firsts.{written}
 use Rattle.machine.specs.Runs.{run}
 use Rattle.protocol.specs.declared.Kind.{Kind}
 use Rattle.search.specs.declared.Candidate.{Candidate}
 use Rattle.search.specs.declared.Candidate.TheVariants.{Nothing}
-use Rattle.search.specs.declared.Wait.{Wait}
-use Rattle.search.specs.declared.Wait.TheVariants.{Free, Due}
 use Rattle.search.specs.declared.Control.{Control}
 use Rattle.search.specs.declared.Shown.{Shown}
 use Rattle.search.specs.declared.Reply.TheVariants.{Accepted, Rejected}
@@ -26,13 +25,13 @@ abbrev pub HeldOf : Kind → TakenBurst → Candidate → Type 0
 HeldOf kind t c = (c ≡ held_as t) × (t.kind ≡ kind)
 
 -- one sample is left of the wait, which was set at the age, and marked or not
-abbrev pub last_sample : ℕ → Bool → Wait
-last_sample age replaced = Due (record { left = 1; age = age; replaced = replaced })
+abbrev pub last_sample : ℕ → Bool → Option Waiting
+last_sample age replaced = Some (record { left = 1; age = age; replaced = replaced })
 
 -- ---- the search runs in the call, and the control before it is c
 -- A sample: no wait is held. A reply: "Rejected: the search runs for that same sample."
 abbrev pub Searches : History → Single → Control → Type 0
-Searches h (sample x room) c = (h.control.wait ≡ Free) × (c ≡ counted h.control)
+Searches h (sample x room) c = (h.control.wait ≡ None) × (c ≡ counted h.control)
 Searches h (reply Accepted) c = ⊥
 Searches h (reply Rejected) c = c ≡ owing false h.control
 Searches h query c = ⊥

@@ -1,14 +1,11 @@
 -- What happens in a run, as a log of marks, oldest first. A mark is read off a step from the control before it and from what is heard: no rule reads one. Assumes nothing.
-use Rattle.std.specs.Prelude.{false, cond, List, [], ◌∷◌, ◌++◌, ℕ, ltb, Float}
-use Rattle.std.proofs.Math.Option.{Option, none, some}
+use Rattle.std.specs.Prelude.{false, cond, List, [], ◌∷◌, ◌++◌, ℕ, ltb, Float, Some, None, Option}
 use Rattle.std.specs.Float.Ieee.{lt}
 use Rattle.protocol.specs.declared.Kind.{Kind}
 use Rattle.protocol.specs.declared.Kind.TheVariants.{Lsf, Bert, Stream, Packet}
 use Rattle.protocol.specs.declared.SyncBurst.TheVariants.{Frame, Preamble, EndOfTransmission}
 use Rattle.decode.specs.Correlator.{correlation, matches}
 use Rattle.search.specs.declared.Waiting.{Waiting}
-use Rattle.search.specs.declared.Wait.{Wait}
-use Rattle.search.specs.declared.Wait.TheVariants.{Free, Due}
 use Rattle.search.specs.declared.Control.{Control}
 use Rattle.search.specs.declared.Shown.{Shown}
 use Rattle.search.specs.declared.Reply.{Reply}
@@ -35,13 +32,13 @@ pub data Mark : Type 0 where
 -- ---- the search
 -- "A match whose diff is above the held candidate's adds one to its age .. Any other match, ties included, takes a new candidate"
 unfoldable pub taken_marks : ℕ → Option TakenBurst → TakenBurst → List Mark
-taken_marks n none new = First n new.kind ∷ []
-taken_marks n (some t) new = cond (lt t.diff new.diff) [] (Anew n t.kind new.kind ∷ [])
+taken_marks n None new = First n new.kind ∷ []
+taken_marks n (Some t) new = cond (lt t.diff new.diff) [] (Anew n t.kind new.kind ∷ [])
 
 -- "If a kind does not match and the held candidate is of that kind, the wait becomes .."
 unfoldable pub missed_marks : ℕ → Kind → Option TakenBurst → List Mark
-missed_marks n kind none = []
-missed_marks n kind (some t) = cond (same_kind t.kind kind) (Failed n kind t.taken_at ∷ []) []
+missed_marks n kind None = []
+missed_marks n kind (Some t) = cond (same_kind t.kind kind) (Failed n kind t.taken_at ∷ []) []
 
 -- one kind's turn in the pass
 unfoldable pub tried_marks : (ℕ → Float) → Kind → Control → List Mark
@@ -62,13 +59,13 @@ searched_marks p v c = passed_marks p v (carried p EndOfTransmission v (carried 
 -- ---- a sample
 -- "At 0 the wait and the candidate are removed and a frame is due." The control is the one after the removal.
 unfoldable pub due_marks : ℕ → (ℕ → Float) → Option TakenBurst → Waiting → Control → List Mark
-due_marks p v none w c = searched_marks p v c
-due_marks p v (some t) w c = FellDue c.sample (shown_of t w.age w.replaced) ∷ []
+due_marks p v None w c = searched_marks p v c
+due_marks p v (Some t) w c = FellDue c.sample (shown_of t w.age w.replaced) ∷ []
 
 -- "while more than 0 is left the sample is finished, with no search"
-unfoldable pub waited_marks : ℕ → (ℕ → Float) → Wait → Control → List Mark
-waited_marks p v Free c = searched_marks p v c
-waited_marks p v (Due w) c = cond (ltb 1 w.left) [] (due_marks p v (held_by c) w (freed c))
+unfoldable pub waited_marks : ℕ → (ℕ → Float) → Option Waiting → Control → List Mark
+waited_marks p v None c = searched_marks p v c
+waited_marks p v (Some w) c = cond (ltb 1 w.left) [] (due_marks p v (held_by c) w (freed c))
 
 unfoldable pub sampled_marks : ℕ → (ℕ → Float) → Control → List Mark
 sampled_marks p v c = waited_marks p v c.wait (counted c)

@@ -1,5 +1,5 @@
 -- What an offer reports, document 02 j), by what a caller sees: the record before and after each single call, by the contracts' own definitions, and the answers. Assumes nothing.
-use Rattle.std.specs.Prelude.{◌≡◌, ◌⊎◌, true, false, List, ℕ, ◌+◌, ◌-◌, ◌*◌, ◌≤◌, ◌<◌, T, ℤ, Float}
+use Rattle.std.specs.Prelude.{◌≡◌, ◌⊎◌, true, false, List, ℕ, ◌+◌, ◌-◌, ◌*◌, ◌≤◌, ◌<◌, T, ℤ, Float, Some, None}
 use Rattle.std.specs.Float.Ieee.{lt}
 use Rattle.numbers.specs.Firsts.{written}
 use Rattle.shaping.specs.Rate.{Rate}
@@ -7,7 +7,6 @@ use Rattle.protocol.specs.declared.Kind.{Kind}
 use Rattle.protocol.specs.declared.SyncBurst.TheVariants.{Frame}
 use Rattle.decode.specs.declared.Correlation.{Correlation}
 use Rattle.decode.specs.Correlator.{symbol_of, correlation, matches}
-use Rattle.search.specs.declared.Wait.TheVariants.{Free, Due}
 use Rattle.search.specs.TakenBurst.{TakenBurst, held_as, taken}
 use Rattle.search.specs.Search.{rank}
 use Rattle.demodulator.specs.declared.Offer.{Offer}
@@ -46,8 +45,8 @@ pub record WaitSeen (R : Rate) (ss : List Single) (o : Offer) : Type 0 where
   pub admitted : Admitted R moment
   pub s : ℕ
   pub number : (left_then R moment).demodulator.control.sample ≡ s
-  pub free : (control_at R moment).wait ≡ Free
-  pub set : (left_then R moment).demodulator.control.wait ≡ Due (record { left = 184 * R.p - o.age; age = o.age; replaced = o.replaced })
+  pub free : (control_at R moment).wait ≡ None
+  pub set : (left_then R moment).demodulator.control.wait ≡ Some (record { left = 184 * R.p - o.age; age = o.age; replaced = o.replaced })
   pub ends : o.sample ≡ s + (184 * R.p - o.age)
   pub failed : TakenBurst
   pub held : (control_at R moment).candidate ≡ held_as failed

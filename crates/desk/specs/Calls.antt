@@ -1,21 +1,16 @@
 -- What a call for a seat answers and leaves: "Open, feed, reply, close", and the receiver's query of the carrier. Assumes nothing.
-use Rattle.std.specs.Prelude.{◌≡◌, Bool, cond, List, [], ℕ, ltb, ℤ, Float}
+use Rattle.protocol.specs.declared.Refusal.{Refusal}
+use Rattle.std.specs.Prelude.{◌≡◌, Bool, cond, List, [], ℕ, ltb, ℤ, Float, Result}
 use Rattle.shaping.specs.Rate.{rate_of, rate_fit, samples_in_lem}
-use Rattle.protocol.specs.Refusals.{bare, on_paper}
+use Rattle.protocol.specs.Refusals.{bare}
 use Rattle.search.specs.declared.Reply.{Reply}
 use Rattle.demodulator.specs.declared.SoftDemodulator.{SoftDemodulator}
-use Rattle.demodulator.specs.declared.Made.{Made}
-use Rattle.demodulator.specs.declared.Replied.{Replied}
-use Rattle.demodulator.specs.declared.Carrier.{Carrier}
 use Rattle.demodulator.specs.Fit.{record_fit_lem, unfit_number}
-use Rattle.demodulator.specs.Calls.{Paper, refusal, done, heard_paper, made_paper, replied_paper, carrier_paper, Left, answered, detected}
+use Rattle.demodulator.specs.Calls.{Paper, refusal, done, heard_paper, done_paper, carrier_paper, Left, answered, detected}
 use Rattle.demodulator.specs.Feed.{Stretch, fed_into}
 use Rattle.desk.specs.declared.Desk.{Desk}
 use Rattle.desk.specs.declared.Fed.{Fed}
-use Rattle.desk.specs.declared.Closed.{Closed}
-use Rattle.desk.specs.declared.Closed.TheVariants.{Refused as CloseRefused, Done as Shut}
-use Rattle.desk.specs.declared.exercise.AfterOpen.{AfterOpen}
-use Rattle.desk.specs.declared.exercise.AfterClose.{AfterClose}
+use Rattle.desk.specs.declared.exercise.After.{After}
 use Rattle.desk.specs.Desk.{is_open, receiver_at, with_receiver, started, shut_at}
 use Rattle.desk.specs.Passage.{no_such_seat, seat_is_open, Entered, turned, goes, entered}
 
@@ -57,8 +52,8 @@ replied_by d s reply goes = reply_at d s (answered (samples_in_lem (receiver_at 
 abbrev pub seat_replied : Desk → ℕ → Reply → SeatLeft
 seat_replied d s reply = replied_by d s reply (entered d.opened s)
 
-pub record DeskReplySays (d : Desk) (s : ℕ) (reply : Reply) (r : Replied) (next : Desk) : Type 0 where
-  pub answers : replied_paper r ≡ (seat_replied d s reply).answer
+pub record DeskReplySays (d : Desk) (s : ℕ) (reply : Reply) (r : Result Unit Refusal) (next : Desk) : Type 0 where
+  pub answers : done_paper r ≡ (seat_replied d s reply).answer
   pub leaves : next ≡ (seat_replied d s reply).desk
 
 -- ---- open: "Open states the rate and checks no record"; 18, 20, then 15
@@ -68,18 +63,14 @@ open_answer d s rate = cond (ltb 7 s) no_such_seat (cond (is_open d.opened s) se
 unfoldable pub open_leaves : Desk → ℕ → ℕ → Desk
 open_leaves d s rate = cond (ltb 7 s) d (cond (is_open d.opened s) d (cond (rate_fit rate) (started s rate d) d))
 
-pub record Opens (d : Desk) (s rate : ℕ) (r : AfterOpen) : Type 0 where
-  pub answers : made_paper r.answer ≡ open_answer d s rate
+pub record Opens (d : Desk) (s rate : ℕ) (r : After) : Type 0 where
+  pub answers : done_paper r.answer ≡ open_answer d s rate
   pub leaves : r.desk ≡ open_leaves d s rate
 
-abbrev pub DeskOpenSays : Desk → ℕ → ℕ → Made → Desk → Type 0
+abbrev pub DeskOpenSays : Desk → ℕ → ℕ → Result Unit Refusal → Desk → Type 0
 DeskOpenSays d s rate r next = Opens d s rate (record { answer = r; desk = next })
 
 -- ---- close: "the others only their own seat's"; "a call that gives neither tests no filtered value"
-abbrev pub closed_paper : Closed → Paper
-closed_paper (CloseRefused why) = refusal (on_paper why)
-closed_paper Shut = done
-
 abbrev pub seat_fit : Desk → ℕ → Bool
 seat_fit d s = record_fit_lem (samples_in_lem (receiver_at d s).rate) (receiver_at d s)
 
@@ -93,11 +84,11 @@ closed_by d s goes = record {
 abbrev pub seat_shut : Desk → ℕ → SeatLeft
 seat_shut d s = closed_by d s (entered d.opened s)
 
-pub record Closes (d : Desk) (s : ℕ) (r : AfterClose) : Type 0 where
-  pub answers : closed_paper r.answer ≡ (seat_shut d s).answer
+pub record Closes (d : Desk) (s : ℕ) (r : After) : Type 0 where
+  pub answers : done_paper r.answer ≡ (seat_shut d s).answer
   pub leaves : r.desk ≡ (seat_shut d s).desk
 
-abbrev pub DeskCloseSays : Desk → ℕ → Closed → Desk → Type 0
+abbrev pub DeskCloseSays : Desk → ℕ → Result Unit Refusal → Desk → Type 0
 DeskCloseSays d s r next = Closes d s (record { answer = r; desk = next })
 
 -- ---- the query of the carrier
@@ -105,5 +96,5 @@ abbrev pub detected_by : Desk → ℕ → Entered → Paper
 detected_by d s (turned why) = why
 detected_by d s goes = detected (samples_in_lem (receiver_at d s).rate) (receiver_at d s)
 
-abbrev pub DeskCarrierSays : Desk → ℕ → Carrier → Type 0
+abbrev pub DeskCarrierSays : Desk → ℕ → Result Bool Refusal → Type 0
 DeskCarrierSays d s r = carrier_paper r ≡ detected_by d s (entered d.opened s)

@@ -1,17 +1,14 @@
 -- "the listing gives each seat closed, or open with its count and whether a reply is owed, with 15 if the rate of any open one is neither of the two,
 -- and otherwise 1 if an open one is unfit." Assumes nothing.
-use Rattle.std.specs.Prelude.{◌≡◌, Bool, not, ◌&&◌, cond, List, [], ◌∷◌, ℕ}
+use Rattle.std.specs.Prelude.{◌≡◌, Bool, not, ◌&&◌, cond, List, [], ◌∷◌, map, ℕ, Option, Some, None, Result, Ok, Err}
 use Rattle.numbers.specs.Below.{any_below}
 use Rattle.shaping.specs.Rate.{rate_fit, samples_in_lem}
+use Rattle.protocol.specs.declared.Refusal.{Refusal}
 use Rattle.protocol.specs.Refusals.{PaperRefusal, bare, on_paper}
 use Rattle.demodulator.specs.declared.SoftDemodulator.{SoftDemodulator}
 use Rattle.demodulator.specs.Fit.{record_fit_lem}
 use Rattle.desk.specs.declared.Desk.{Desk}
 use Rattle.desk.specs.declared.Line.{Line}
-use Rattle.desk.specs.declared.Line.TheVariants.{Closed as LineClosed, Open as LineOpen}
-use Rattle.desk.specs.declared.Lines.{Lines}
-use Rattle.desk.specs.declared.Listed.{Listed}
-use Rattle.desk.specs.declared.Listed.TheVariants.{Refused as ListRefused, Seats}
 use Rattle.desk.specs.Desk.{is_open, receiver_at}
 
 -- ---- on paper
@@ -23,17 +20,16 @@ pub data PaperList : Type 0 where
   refused_list : PaperRefusal → PaperList
   lines : List PaperLine → PaperList
 
-abbrev pub line_paper : Line → PaperLine
-line_paper LineClosed = shut
-line_paper (LineOpen count owed) = busy count owed
+abbrev pub line_paper : Option Line → PaperLine
+line_paper None = shut
+line_paper (Some l) = busy l.count l.owed
 
-abbrev pub lines_paper : Lines → List PaperLine
-lines_paper ls =
-    line_paper ls.s0 ∷ line_paper ls.s1 ∷ line_paper ls.s2 ∷ line_paper ls.s3 ∷ line_paper ls.s4 ∷ line_paper ls.s5 ∷ line_paper ls.s6 ∷ line_paper ls.s7 ∷ []
+abbrev pub lines_paper : List (Option Line) → List PaperLine
+lines_paper = map line_paper
 
-abbrev pub listed_paper : Listed → PaperList
-listed_paper (ListRefused why) = refused_list (on_paper why)
-listed_paper (Seats ls) = lines (lines_paper ls)
+abbrev pub listed_paper : Result (List (Option Line)) Refusal → PaperList
+listed_paper (Err why) = refused_list (on_paper why)
+listed_paper (Ok ls) = lines (lines_paper ls)
 
 -- ---- the rules
 -- "the rate of any open one is neither of the two"
@@ -50,6 +46,11 @@ unfit flag m = flag && not (record_fit_lem (samples_in_lem m.rate) m)
 unfoldable pub any_unfit : Desk → Bool
 any_unfit d = any_below 8 (λ (s : ℕ). unfit (is_open d.opened s) (receiver_at d s))
 
+-- a test of each seat, whose answers are those of the rule p: whether any seat passes it
+abbrev pub TestsSeats : (Bool → SoftDemodulator → Bool → Type 0) → Desk → Bool → Type 0
+TestsSeats says d r = (p : Bool → SoftDemodulator → Bool) → ((flag : Bool) (m : SoftDemodulator) (b : Bool) → says flag m b → b ≡ p flag m)
+    → r ≡ any_below 8 (λ (s : ℕ). p (is_open d.opened s) (receiver_at d s))
+
 -- "each seat closed, or open with its count and whether a reply is owed"
 abbrev pub line_of : Bool → SoftDemodulator → PaperLine
 line_of flag m = cond flag (busy m.control.sample m.control.owed) shut
@@ -63,5 +64,5 @@ lines_at d = line_at d 0 ∷ line_at d 1 ∷ line_at d 2 ∷ line_at d 3 ∷ lin
 unfoldable pub listed : Desk → PaperList
 listed d = cond (any_strange d) (refused_list (bare 15)) (cond (any_unfit d) (refused_list (bare 1)) (lines (lines_at d)))
 
-abbrev pub DeskListSays : Desk → Listed → Type 0
+abbrev pub DeskListSays : Desk → Result (List (Option Line)) Refusal → Type 0
 DeskListSays d r = listed_paper r ≡ listed d

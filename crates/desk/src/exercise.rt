@@ -1,41 +1,35 @@
 // An exercise opens at a seat, and is closed. A flag changes beside a receiver, so that the desk goes by value; the lent calls take it out and put back what that leaves.
 ghost use Rattle.desk.specs.Calls.{Opens, DeskOpenSays, Closes, DeskCloseSays};
 
-use crate::{Closed, Desk, passage};
-use demodulator::{Carrier, Made, SoftDemodulator};
-use passage::Gate;
+use crate::{Desk, passage};
+use demodulator::SoftDemodulator;
 use protocol::Refusal;
 
+// What an open or a close answers, and the desk that it leaves.
 #[derive(Clone, Copy)]
-struct AfterOpen {
-    answer: Made,
+struct After {
+    answer: Result<(), Refusal>,
     desk: Desk,
 }
 
-#[derive(Clone, Copy)]
-struct AfterClose {
-    answer: Closed,
-    desk: Desk,
-}
-
-fn open_desk(desk: Desk, seat: usize, rate: u32) -> AfterOpen
+fn open_desk(desk: Desk, seat: usize, rate: u32) -> After
     ensures { Opens desk seat rate result }
 {
     if 7 < seat {
-        return AfterOpen {
-            answer: Made::Refused(Refusal::NoSuchSeat),
+        return After {
+            answer: Err(Refusal::NoSuchSeat),
             desk,
         };
     }
     if desk.opened[seat] {
-        return AfterOpen {
-            answer: Made::Refused(Refusal::SeatOpen),
+        return After {
+            answer: Err(Refusal::SeatOpen),
             desk,
         };
     }
     if !shaping::is_rate(rate) {
-        return AfterOpen {
-            answer: Made::Refused(Refusal::WrongRate),
+        return After {
+            answer: Err(Refusal::WrongRate),
             desk,
         };
     }
@@ -44,36 +38,36 @@ fn open_desk(desk: Desk, seat: usize, rate: u32) -> AfterOpen
     let mut next = desk;
     next.opened[seat] = true;
     next.receivers[seat] = fresh;
-    AfterOpen {
-        answer: Made::Done,
+    After {
+        answer: Ok(()),
         desk: next,
     }
 }
 
 // A close gives no sample and no reply: it tests of the record what the carrier query does, and that refuses exactly where a close is to.
-fn close_desk(desk: Desk, seat: usize) -> AfterClose
+fn close_desk(desk: Desk, seat: usize) -> After
     ensures { Closes desk seat result }
 {
     let flags = desk.opened;
     let passed = passage::pass(flags, seat);
     match passed {
-        Gate::Turned(why) => AfterClose {
-            answer: Closed::Refused(why),
+        Err(why) => After {
+            answer: Err(why),
             desk,
         },
-        Gate::Goes => {
+        Ok(()) => {
             let receiver = desk.receivers[seat];
             let tested = receiver.data_carrier_detect();
             match tested {
-                Carrier::Refused(why) => AfterClose {
-                    answer: Closed::Refused(why),
+                Err(why) => After {
+                    answer: Err(why),
                     desk,
                 },
-                Carrier::Detected(_) => {
+                Ok(_) => {
                     let mut shut = desk;
                     shut.opened[seat] = false;
-                    AfterClose {
-                        answer: Closed::Done,
+                    After {
+                        answer: Ok(()),
                         desk: shut,
                     }
                 }
@@ -83,7 +77,7 @@ fn close_desk(desk: Desk, seat: usize) -> AfterClose
 }
 
 // An exercise at a closed seat: a fresh receiver of the stated rate. No record is tested.
-pub fn open(desk: &mut Desk, seat: usize, rate: u32) -> Made
+pub fn open(desk: &mut Desk, seat: usize, rate: u32) -> Result<(), Refusal>
     ensures { DeskOpenSays desk.old seat rate result desk.new }
 {
     let after = open_desk(*desk, seat, rate);
@@ -92,7 +86,7 @@ pub fn open(desk: &mut Desk, seat: usize, rate: u32) -> Made
 }
 
 // The end of a seat's exercise. A reply that is owed does not hinder it.
-pub fn close(desk: &mut Desk, seat: usize) -> Closed
+pub fn close(desk: &mut Desk, seat: usize) -> Result<(), Refusal>
     ensures { DeskCloseSays desk.old seat result desk.new }
 {
     let after = close_desk(*desk, seat);

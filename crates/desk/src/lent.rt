@@ -3,7 +3,8 @@ ghost use Rattle.desk.specs.Lent.{FeedInSays, ReplyInSays};
 ghost use Rattle.desk.specs.Calls.{DeskFeedSays, DeskReplySays};
 
 use crate::{Desk, Fed, passage};
-use demodulator::{Replied, Reply, SoftDemodulator};
+use demodulator::{Reply, SoftDemodulator};
+use protocol::Refusal;
 
 fn feed_in(receiver: &mut SoftDemodulator, samples: &[i16], room: &mut [f32]) -> Fed
     ensures { FeedInSays receiver.old samples.now room.old result receiver.new room.new }
@@ -16,7 +17,7 @@ fn feed_in(receiver: &mut SoftDemodulator, samples: &[i16], room: &mut [f32]) ->
     }
 }
 
-fn reply_in(receiver: &mut SoftDemodulator, reply: Reply) -> Replied
+fn reply_in(receiver: &mut SoftDemodulator, reply: Reply) -> Result<(), Refusal>
     ensures { ReplyInSays receiver.old reply result receiver.new }
 {
     let after = (*receiver).reply(reply);
@@ -28,24 +29,19 @@ fn reply_in(receiver: &mut SoftDemodulator, reply: Reply) -> Replied
 pub fn feed(desk: &mut Desk, seat: usize, samples: &[i16], room: &mut [f32]) -> Fed
     ensures { DeskFeedSays desk.old seat samples.now room.old result desk.new room.new }
 {
-    let entry = passage::enter(desk.opened, seat);
-    if entry.admitted {
-        let at = entry.at;
-        return feed_in(&mut desk.receivers[at], samples, room);
-    } else {
-        return entry.told;
+    match passage::pass(desk.opened, seat) {
+        Ok(()) => feed_in(&mut desk.receivers[seat], samples, room),
+        Err(why) => Fed {
+            answer: Err(why),
+            fed: 0,
+        },
     }
 }
 
 // The reply to the offer that a seat's receiver has made.
-pub fn reply(desk: &mut Desk, seat: usize, reply: Reply) -> Replied
+pub fn reply(desk: &mut Desk, seat: usize, reply: Reply) -> Result<(), Refusal>
     ensures { DeskReplySays desk.old seat reply result desk.new }
 {
-    let entry = passage::enter_reply(desk.opened, seat);
-    if entry.admitted {
-        let at = entry.seat;
-        return reply_in(&mut desk.receivers[at], reply);
-    } else {
-        return entry.told;
-    }
+    passage::pass(desk.opened, seat)?;
+    reply_in(&mut desk.receivers[seat], reply)
 }

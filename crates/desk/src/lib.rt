@@ -4,7 +4,7 @@
 
 ghost use Rattle.desk.specs.Desk.{DeskNewSays};
 
-use demodulator::{Heard, SoftDemodulator};
+use demodulator::{Offer, SoftDemodulator};
 use protocol::Refusal;
 
 mod exercise;
@@ -28,42 +28,15 @@ pub struct Desk {
 // What a stretch of samples is answered with, and how many of them went in, as of a single receiver.
 #[derive(Clone, Copy)]
 pub struct Fed {
-    pub answer: Heard,
+    pub answer: Result<Option<Offer>, Refusal>,
     pub fed: usize,
 }
 
-// What a close is answered with.
+// An open seat in the listing: the count of its samples and whether a reply is owed.
 #[derive(Clone, Copy)]
-pub enum Closed {
-    Refused(Refusal),
-    Done,
-}
-
-// A seat in the listing: an open one has the count of its samples and whether a reply is owed.
-#[derive(Clone, Copy)]
-pub enum Line {
-    Closed,
-    Open { count: u64, owed: bool },
-}
-
-// The seats from 0 to 7. A choice cannot hold an array, so that the eight are named.
-#[derive(Clone, Copy)]
-pub struct Lines {
-    pub s0: Line,
-    pub s1: Line,
-    pub s2: Line,
-    pub s3: Line,
-    pub s4: Line,
-    pub s5: Line,
-    pub s6: Line,
-    pub s7: Line,
-}
-
-// What the listing is answered with.
-#[derive(Clone, Copy)]
-pub enum Listed {
-    Refused(Refusal),
-    Seats(Lines),
+pub struct Line {
+    pub count: u64,
+    pub owed: bool,
 }
 
 impl Desk {

@@ -1,9 +1,9 @@
 // The listing of all seats, the one call that reads more than its own seat.
 ghost use Rattle.std.specs.Prelude.{◌≡◌, ◌<◌};
-ghost use Rattle.desk.specs.Listing.{strange, unfit, any_strange, any_unfit, line_of, line_at, line_paper, lines_paper, lines_at, DeskListSays};
+ghost use Rattle.desk.specs.Listing.{strange, unfit, TestsSeats, line_of, line_at, line_paper, lines_paper, lines_at, DeskListSays};
 
-use crate::{Desk, Line, Lines, Listed};
-use demodulator::{Carrier, SoftDemodulator};
+use crate::{Desk, Line};
+use demodulator::SoftDemodulator;
 use protocol::Refusal;
 
 // Whether a seat is open and its rate neither of the two.
@@ -18,56 +18,33 @@ fn is_strange(flag: bool, receiver: SoftDemodulator) -> bool
 fn is_unfit(flag: bool, receiver: SoftDemodulator) -> bool
     ensures { result ≡ unfit flag receiver }
 {
-    let tested = receiver.data_carrier_detect();
-    match tested {
-        Carrier::Refused(_) => flag,
-        Carrier::Detected(_) => false,
-    }
+    flag & receiver.data_carrier_detect().is_err()
 }
 
-fn has_strange(desk: Desk) -> bool
-    ensures { result ≡ any_strange desk }
+// Whether any seat's flag and receiver pass a test.
+fn any_seat<F: Fn(bool, SoftDemodulator) -> bool>(desk: Desk, test: F) -> bool
+    requires { F.IsAlwaysCallable test }
+    ensures { TestsSeats (F.post test) desk result }
 {
-    let mut any = false;
-    let mut at: usize = 0;
-    while at < 8 {
-        let receiver = desk.receivers[at];
-        let flag = desk.opened[at];
-        let this = is_strange(flag, receiver);
-        any = any | this;
-        at += 1;
-    }
-    any
+    desk.opened
+        .iter()
+        .zip(desk.receivers.iter())
+        .any(|(flag, receiver)| test(*flag, *receiver))
 }
 
-fn has_unfit(desk: Desk) -> bool
-    ensures { result ≡ any_unfit desk }
-{
-    let mut any = false;
-    let mut at: usize = 0;
-    while at < 8 {
-        let receiver = desk.receivers[at];
-        let flag = desk.opened[at];
-        let this = is_unfit(flag, receiver);
-        any = any | this;
-        at += 1;
-    }
-    any
-}
-
-fn line_of(flag: bool, receiver: SoftDemodulator) -> Line
+fn line_of(flag: bool, receiver: SoftDemodulator) -> Option<Line>
     ensures { line_paper result ≡ line_of flag receiver }
 {
     if !flag {
-        return Line::Closed;
+        return None;
     }
-    let control = receiver.control;
-    let count = control.sample;
-    let owed = control.owed;
-    Line::Open { count, owed }
+    Some(Line {
+        count: receiver.control.sample,
+        owed: receiver.control.owed,
+    })
 }
 
-fn line_at(desk: Desk, at: usize) -> Line
+fn line_at(desk: Desk, at: usize) -> Option<Line>
     requires { at < 8 }
     ensures { line_paper result ≡ line_at desk at }
 {
@@ -76,43 +53,34 @@ fn line_at(desk: Desk, at: usize) -> Line
     line_of(flag, receiver)
 }
 
-fn lines_of(desk: Desk) -> Lines
+fn lines_of(desk: Desk) -> [Option<Line>; 8]
     ensures { lines_paper result ≡ lines_at desk }
 {
-    let s0 = line_at(desk, 0);
-    let s1 = line_at(desk, 1);
-    let s2 = line_at(desk, 2);
-    let s3 = line_at(desk, 3);
-    let s4 = line_at(desk, 4);
-    let s5 = line_at(desk, 5);
-    let s6 = line_at(desk, 6);
-    let s7 = line_at(desk, 7);
-    Lines {
-        s0,
-        s1,
-        s2,
-        s3,
-        s4,
-        s5,
-        s6,
-        s7,
-    }
+    [
+        line_at(desk, 0),
+        line_at(desk, 1),
+        line_at(desk, 2),
+        line_at(desk, 3),
+        line_at(desk, 4),
+        line_at(desk, 5),
+        line_at(desk, 6),
+        line_at(desk, 7),
+    ]
 }
 
-fn list_desk(desk: Desk) -> Listed
+fn list_desk(desk: Desk) -> Result<[Option<Line>; 8], Refusal>
     ensures { DeskListSays desk result }
 {
-    if has_strange(desk) {
-        return Listed::Refused(Refusal::WrongRate);
+    if any_seat(desk, is_strange) {
+        return Err(Refusal::WrongRate);
     }
-    if has_unfit(desk) {
-        return Listed::Refused(Refusal::RecordUnfit);
+    if any_seat(desk, is_unfit) {
+        return Err(Refusal::RecordUnfit);
     }
-    let lines = lines_of(desk);
-    Listed::Seats(lines)
+    Ok(lines_of(desk))
 }
 
-pub fn list(desk: &Desk) -> Listed
+pub fn list(desk: &Desk) -> Result<[Option<Line>; 8], Refusal>
     ensures { DeskListSays desk.now result }
 {
     list_desk(*desk)

@@ -2,24 +2,16 @@
 ghost use Rattle.desk.specs.Calls.{DeskCarrierSays};
 
 use crate::{Desk, passage};
-use demodulator::Carrier;
-use passage::Gate;
+use protocol::Refusal;
 
-fn carrier_at(desk: Desk, seat: usize) -> Carrier
+fn carrier_at(desk: Desk, seat: usize) -> Result<bool, Refusal>
     ensures { DeskCarrierSays desk seat result }
 {
-    let flags = desk.opened;
-    let passed = passage::pass(flags, seat);
-    match passed {
-        Gate::Turned(why) => Carrier::Refused(why),
-        Gate::Goes => {
-            let receiver = desk.receivers[seat];
-            receiver.data_carrier_detect()
-        }
-    }
+    passage::pass(desk.opened, seat)?;
+    desk.receivers[seat].data_carrier_detect()
 }
 
-pub fn data_carrier_detect(desk: &Desk, seat: usize) -> Carrier
+pub fn data_carrier_detect(desk: &Desk, seat: usize) -> Result<bool, Refusal>
     ensures { DeskCarrierSays desk.now seat result }
 {
     carrier_at(*desk, seat)

@@ -1,4 +1,5 @@
 -- Instances of what the theorems ask: a seat that is closed and opened again at the other rate, its replay at another seat of another desk, and refused calls. Assumes nothing.
+use Rattle.std.specs.Prelude.{Err}
 use mathlib.Core.Path.{◌≡◌, refl}
 use mathlib.Core.Bool.{true, false}
 use mathlib.Core.List.{List, [], ◌∷◌, ◌++◌}
@@ -18,7 +19,6 @@ use Rattle.demodulator_run.specs.Rules.{query, start}
 use Rattle.demodulator_run.specs.Run.{Callable}
 use Rattle.demodulator_run.specs.Calls.{one, Given, rules}
 use Rattle.desk.specs.declared.Desk.{Desk}
-use Rattle.desk.specs.declared.Closed.TheVariants.{Refused as CloseRefused}
 use Rattle.desk.specs.Desk.{fresh_desk}
 use Rattle.desk.specs.Passage.{no_such_seat, entered}
 use Rattle.desk.specs.Listing.{lines}
@@ -116,7 +116,7 @@ ninth_kept = (desk_kept fresh_desk (at 9 closing) (bare 18) ninth_refused, numbe
 -- the function itself, called once
 close_called : Session fresh_desk (at 9 closing ∷ []) (seat_told (told no_such_seat) ∷ []) fresh_desk
 unfolding Session Promised entered
-close_called = (seat_told (told no_such_seat), fresh_desk, [], (CloseRefused NoSuchSeat, record { answers = refl; leaves = refl }, refl), (refl, refl), refl)
+close_called = (seat_told (told no_such_seat), fresh_desk, [], (Err NoSuchSeat, record { answers = refl; leaves = refl }, refl), (refl, refl), refl)
 
 pub close_is : (seat_told (told no_such_seat) ∷ [] ≡ answers desk fresh_desk (at 9 closing ∷ [])) × (fresh_desk ≡ run desk fresh_desk (at 9 closing ∷ []))
 close_is = session_is (at 9 closing ∷ []) fresh_desk (seat_told (told no_such_seat) ∷ []) fresh_desk close_called

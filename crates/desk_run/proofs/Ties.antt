@@ -1,4 +1,6 @@
 -- What each function promises is what the desk machine says and leaves, whatever the desk: so the theorems over lists of calls are about what the functions do. Assumes nothing.
+use Rattle.std.specs.Prelude.{Option, Result}
+use Rattle.protocol.specs.declared.Refusal.{Refusal}
 use mathlib.Core.Path.{◌≡◌, refl, sym, ap, ◌∙◌}
 use mathlib.Core.Bool.{Bool, true, false, not, cond}
 use mathlib.Core.List.{List, []}
@@ -12,24 +14,20 @@ use Rattle.shaping.specs.Rate.{rate_fit, samples_in_lem}
 use Rattle.protocol.specs.Refusals.{bare}
 use Rattle.search.specs.declared.Reply.{Reply}
 use Rattle.demodulator.specs.declared.SoftDemodulator.{SoftDemodulator}
-use Rattle.demodulator.specs.declared.Made.{Made}
-use Rattle.demodulator.specs.declared.Replied.{Replied}
-use Rattle.demodulator.specs.declared.Carrier.{Carrier}
 use Rattle.demodulator.specs.Fit.{fit_for_reply_lem, unfit_number}
-use Rattle.demodulator.specs.Calls.{Paper, refusal, done, made_paper, heard_paper, replied_paper, carrier_paper, made, refused, answered}
+use Rattle.demodulator.specs.Calls.{Paper, refusal, done, done_paper, heard_paper, carrier_paper, made, refused, answered}
 use Rattle.demodulator_run.specs.Rules.{reply, query}
 use Rattle.demodulator_run.specs.Run.{left_at}
 use Rattle.demodulator_run.specs.Calls.{Call, one, stretch, Told, receiver, record_next, told_by}
 use Rattle.desk.specs.declared.Desk.{Desk}
 use Rattle.desk.specs.declared.Fed.{Fed}
-use Rattle.desk.specs.declared.Closed.{Closed}
-use Rattle.desk.specs.declared.Listed.{Listed}
+use Rattle.desk.specs.declared.Line.{Line}
 use Rattle.desk.specs.Desk as D
 use Rattle.desk.specs.Desk.{is_open, receiver_at, shut_at, blank}
 use Rattle.desk.specs.Passage.{Entered, turned, goes, entered, no_such_seat, seat_closed}
-use Rattle.desk.specs.Calls.{SeatFed, fed_by, DeskFeedSays, replied_by, DeskReplySays, open_answer, open_leaves, DeskOpenSays, closed_paper, closed_by, seat_fit, DeskCloseSays, detected_by, DeskCarrierSays}
+use Rattle.desk.specs.Calls.{SeatFed, fed_by, DeskFeedSays, replied_by, DeskReplySays, open_answer, open_leaves, DeskOpenSays, closed_by, seat_fit, DeskCloseSays, detected_by, DeskCarrierSays}
 use Rattle.desk.specs.Listing.{listed_paper, DeskListSays}
-use Rattle.desk_run.specs.Seat.{Seat, opening, giving, closing, seat_says, seat_next, started, with_receiver, told, turned_away}
+use Rattle.desk_run.specs.Seat.{opening, giving, closing, seat_says, seat_next, started, with_receiver, told, turned_away}
 use Rattle.desk_run.specs.Desk.{DeskCall, at, listing, DeskTold, seat_told, list_told_lem, seat_of, with_seat, desk_says, desk_next, outside}
 use Rattle.desk_run.proofs.SeatRun.{put_back}
 
@@ -95,7 +93,7 @@ module _ (d : Desk) (s : ℕ) where
         (ap seat_told same ∙ fed_tied.0, p.leaves ∙ fed_tied.1)
 
   -- ---- reply
-  pub reply_tied : (rp : Reply) (r : Replied) (next : Desk) → DeskReplySays d s rp r next → Tied d (at s (giving (one (reply rp)))) (seat_told (told (replied_paper r))) next
+  pub reply_tied : (rp : Reply) (r : Result Unit Refusal) (next : Desk) → DeskReplySays d s rp r next → Tied d (at s (giving (one (reply rp)))) (seat_told (told (done_paper r))) next
   unfolding told_by record_next left_at
   reply_tied rp r next p =
       let m = receiver_at d s in
@@ -104,7 +102,7 @@ module _ (d : Desk) (s : ℕ) where
       (ap (λ (x : Paper). seat_told (told x)) p.answers ∙ k.0, p.leaves ∙ k.1)
 
   -- ---- the carrier query: the desk is lent to be read, and stays
-  pub carrier_tied : (r : Carrier) → DeskCarrierSays d s r → Tied d (at s (giving (one query))) (seat_told (told (carrier_paper r))) d
+  pub carrier_tied : (r : Result Bool Refusal) → DeskCarrierSays d s r → Tied d (at s (giving (one query))) (seat_told (told (carrier_paper r))) d
   unfolding told_by record_next left_at
   carrier_tied r p =
       let kept = sym (set-get_or d.receivers s blank) in
@@ -123,7 +121,7 @@ module _ (d : Desk) (s : ℕ) where
     open_by false false true = refl
     open_by false false false = sym (put_back d s)
 
-    pub open_tied : (r : Made) (next : Desk) → DeskOpenSays d s rate r next → Tied d (at s (opening rate)) (seat_told (told (made_paper r))) next
+    pub open_tied : (r : Result Unit Refusal) (next : Desk) → DeskOpenSays d s rate r next → Tied d (at s (opening rate)) (seat_told (told (done_paper r))) next
     unfolding open_answer open_leaves desk_says desk_next seat_says seat_next made
     open_tied r next p = (
       ap (λ (x : Paper). seat_told (told x)) p.answers ∙ ap seat_told (told_by_lem (ltb 7 s) no_such_seat _),
@@ -145,7 +143,7 @@ module _ (d : Desk) (s : ℕ) where
   close_leaves_by false true = shut_by (seat_fit d s)
   close_leaves_by false false = sym (put_back d s)
 
-  pub close_tied : (r : Closed) (next : Desk) → DeskCloseSays d s r next → Tied d (at s closing) (seat_told (told (closed_paper r))) next
+  pub close_tied : (r : Result Unit Refusal) (next : Desk) → DeskCloseSays d s r next → Tied d (at s closing) (seat_told (told (done_paper r))) next
   unfolding entered desk_says desk_next seat_says seat_next
   close_tied r next p = (
     ap (λ (x : Paper). seat_told (told x)) p.answers ∙ ap seat_told (close_says_by (ltb 7 s) (is_open d.opened s)),
@@ -153,6 +151,6 @@ module _ (d : Desk) (s : ℕ) where
   )
 
 -- ---- the listing
-pub list_tied : (d : Desk) (r : Listed) → DeskListSays d r → Tied d listing (list_told_lem (listed_paper r)) d
+pub list_tied : (d : Desk) (r : Result (List (Option Line)) Refusal) → DeskListSays d r → Tied d listing (list_told_lem (listed_paper r)) d
 unfolding desk_says desk_next
 list_tied d r p = (ap list_told_lem p, refl)

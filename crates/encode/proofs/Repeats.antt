@@ -16,7 +16,7 @@ unfolding frame_of firsts preamble_sign signs_of
 preamble_repeats = refl
 
 -- each symbol times -1.0 is minus it
-pub bert_turns : firsts (λ (i : ℕ). mul binary32 (of_bits binary32 0xbf80_0000) (get_or (frame_of preamble_sign) i nan)) 192 ≡ firsts bert_preamble_symbol 192
+pub bert_turns : firsts (λ (i : ℕ). mul binary32 (get_or (frame_of preamble_sign) i nan) (of_bits binary32 0xbf80_0000)) 192 ≡ firsts bert_preamble_symbol 192
 unfolding frame_of firsts preamble_sign bert_preamble_symbol of_bits of_int neg mul
 bert_turns = refl
 

@@ -13,11 +13,8 @@ fn repeated(burst: SyncBurst) -> [f32; 192]
 {
     let signs = burst.target();
     let mut out = [0.0f32; 192];
-    let mut i: usize = 0;
-    while i < 192 {
-        let at = i % 8;
-        out[i] = signs[at] as f32;
-        i += 1;
+    for (i, symbol) in out.iter_mut().enumerate() {
+        *symbol = f32::from(signs[i % 8]);
     }
     out
 }
@@ -35,14 +32,11 @@ const TURN: f32 = -1.0;
 pub fn generate_bert_preamble() -> [f32; 192]
     ensures { GenerateBertPreambleSays result }
 {
-    let plain = generate_preamble();
-    let mut out = [0.0f32; 192];
-    let mut i: usize = 0;
-    while i < 192 {
-        out[i] = TURN * plain[i];
-        i += 1;
+    let mut symbols = generate_preamble();
+    for symbol in symbols.iter_mut() {
+        *symbol *= TURN;
     }
-    out
+    symbols
 }
 
 pub fn generate_end_of_transmission() -> [f32; 192]
@@ -60,10 +54,6 @@ pub fn generate_ending() -> [f32; 272]
 {
     let end = generate_end_of_transmission();
     let mut symbols = [0.0f32; 272];
-    let mut i: usize = 0;
-    while i < FLUSH {
-        symbols[i] = end[i];
-        i += 1;
-    }
+    symbols[..FLUSH].copy_from_slice(&end[..FLUSH]);
     symbols
 }

@@ -1,4 +1,5 @@
 -- Adding a recording: each refusal, and what is joined. Assumes nothing.
+use Rattle.std.specs.Prelude.{Err}
 use mathlib.Core.Path.{◌≡◌, refl, sym, ap, ◌∙◌, subst}
 use mathlib.Core.Bool.{Bool, true, false, cond, ◌&&◌}
 use mathlib.Core.List.{List}
@@ -19,7 +20,6 @@ use Rattle.demodulator_run.proofs.Sixteen.{each_sixteen}
 use Rattle.figures.specs.declared.Figures.{Figures}
 use Rattle.figures.specs.declared.Report.{Report}
 use Rattle.figures.specs.declared.AfterAdd.{AfterAdd}
-use Rattle.figures.specs.declared.Added.TheVariants.{Refused}
 use Rattle.figures.specs.Totals.{no_figures_lem, no_report, totals_fit, figures_fit, report_fit_lem}
 use Rattle.figures.specs.FullList.{record_figures, figures_of}
 use Rattle.figures.specs.Answers.{Left, joined, report_of, added, Says, AddSays, JoinSays}
@@ -29,17 +29,17 @@ pub both_are : (a b : Bool) → a ≡ true → b ≡ true → a && b ≡ true
 both_are a b p q = rw (p, q)
 
 module _ (r : Report) (rate : ℕ) (xs : List ℤ) where
-  pub added_15 : rate_fit rate ≡ false → Says (added r rate xs) (record { answer = Refused WrongRate; report = r })
+  pub added_15 : rate_fit rate ≡ false → Says (added r rate xs) (record { answer = Err WrongRate; report = r })
   unfolding added
   added_15 e = record { answers = rw e; leaves = rw e }
 
   module _ (fit : rate_fit rate ≡ true) where
-    pub added_1 : report_fit_lem r ≡ false → Says (added r rate xs) (record { answer = Refused RecordUnfit; report = r })
+    pub added_1 : report_fit_lem r ≡ false → Says (added r rate xs) (record { answer = Err RecordUnfit; report = r })
     unfolding added
     added_1 e = record { answers = rw (fit, e); leaves = rw (fit, e) }
 
     module _ (whole : report_fit_lem r ≡ true) where
-      pub added_5 : 2 ^ 63 < length xs → Says (added r rate xs) (record { answer = Refused CountAtItsEnd; report = r })
+      pub added_5 : 2 ^ 63 < length xs → Says (added r rate xs) (record { answer = Err CountAtItsEnd; report = r })
       unfolding added
       added_5 l = record { answers = rw (fit, whole, lt-ltb (2 ^ 63) (length xs) l); leaves = rw (fit, whole, lt-ltb (2 ^ 63) (length xs) l) }
 

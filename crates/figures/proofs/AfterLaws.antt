@@ -1,4 +1,5 @@
 -- Figures after a list of offers, part by part: what the loop over a recording keeps. Assumes nothing.
+use Rattle.std.specs.Prelude.{Float, Option, Some, None}
 use mathlib.Core.Path.{◌≡◌, refl, sym, ap, ◌∙◌}
 use mathlib.Core.Bool.{Bool, true, false, cond}
 use mathlib.Core.List.{List, [], ◌∷◌, ◌++◌}
@@ -11,8 +12,6 @@ use lib.Seq.{get_or-set_same, get_or-set_other, ext_get_or}
 use Rattle.numbers.specs.Firsts.{firsts}
 use Rattle.numbers.proofs.Firsts.{length_firsts, firsts_same, firsts_at}
 use Rattle.listening.specs.Listener.{Listed}
-use Rattle.figures.specs.declared.Gain.{Gain}
-use Rattle.figures.specs.declared.Gain.TheVariants.{Nothing, Of}
 use Rattle.figures.specs.declared.Figures.{Figures}
 use Rattle.figures.specs.Totals.{total_at, no_figures_lem, summed, lesser, greater, plus}
 use Rattle.figures.specs.FullList.{number_at_lem, least_from, greatest_from, carrier_place, after_at, after}
@@ -22,21 +21,21 @@ unfolding number_at_lem
 number_two i [] b = omega arith
 number_two i (o ∷ a) b = let on = number_two i a b in omega arith
 
-least_two : (g : Gain) (a b : List Listed) → least_from g (a ++ b) ≡ least_from (least_from g a) b
+least_two : (g : Option Float) (a b : List Listed) → least_from g (a ++ b) ≡ least_from (least_from g a) b
 unfolding least_from
 least_two g [] b = refl
-least_two g (o ∷ a) b = least_two (lesser g (Of o.due.gain)) a b
+least_two g (o ∷ a) b = least_two (lesser g (Some o.due.gain)) a b
 
-greatest_two : (g : Gain) (a b : List Listed) → greatest_from g (a ++ b) ≡ greatest_from (greatest_from g a) b
+greatest_two : (g : Option Float) (a b : List Listed) → greatest_from g (a ++ b) ≡ greatest_from (greatest_from g a) b
 unfolding greatest_from
 greatest_two g [] b = refl
-greatest_two g (o ∷ a) b = greatest_two (greater g (Of o.due.gain)) a b
+greatest_two g (o ∷ a) b = greatest_two (greater g (Some o.due.gain)) a b
 
 carrier_two : (t : Bool) (m n : ℕ) → cond t (m + n) 0 ≡ cond t m 0 + cond t n 0
 carrier_two true m n = refl
 carrier_two false m n = refl
 
-pub same_figures : {a b : List ℕ} {g h k l : Gain} → a ≡ b → g ≡ h → k ≡ l → ◌≡◌ {A = Figures} (record { totals = a; smallest = g; largest = k }) (record { totals = b; smallest = h; largest = l })
+pub same_figures : {a b : List ℕ} {g h k l : Option Float} → a ≡ b → g ≡ h → k ≡ l → ◌≡◌ {A = Figures} (record { totals = a; smallest = g; largest = k }) (record { totals = b; smallest = h; largest = l })
 same_figures p q r = cc
 
 -- two lists, one after the other
@@ -52,15 +51,15 @@ after_two f a b m n =
     (least_two f.smallest a b)
     (greatest_two f.largest a b)
 
-pub lesser_none : (g : Gain) → lesser g Nothing ≡ g
+pub lesser_none : (g : Option Float) → lesser g None ≡ g
 unfolding lesser
-lesser_none Nothing = refl
-lesser_none (Of x) = refl
+lesser_none None = refl
+lesser_none (Some x) = refl
 
-pub greater_none : (g : Gain) → greater g Nothing ≡ g
+pub greater_none : (g : Option Float) → greater g None ≡ g
 unfolding greater
-greater_none Nothing = refl
-greater_none (Of x) = refl
+greater_none None = refl
+greater_none (Some x) = refl
 
 sum_after : (f : Figures) (list : List Listed) (m : ℕ)
     → summed f.totals (firsts (after_at no_figures_lem list m) 24) ≡ firsts (after_at f list m) 24
@@ -103,7 +102,7 @@ module _ (list : List Listed) (none_there : number_at_lem carrier_place list ≡
           let other : i ≡ 23 → ⊥ = eqb-false i 23 e in
           get_or-set_other old 23 i h 0 other ∙ firsts_at (after_at no_figures_lem list 0) 24 i 0 l ∙ ap (λ (c : ℕ). total_at no_figures_lem.totals i + (number_at_lem i list + c)) (rw e)
 
-  pub with_carrier : ◌≡◌ {A = Figures} (record { totals = set old 23 h; smallest = least_from Nothing list; largest = greatest_from Nothing list }) (after no_figures_lem list h)
+  pub with_carrier : ◌≡◌ {A = Figures} (record { totals = set old 23 h; smallest = least_from None list; largest = greatest_from None list }) (after no_figures_lem list h)
   unfolding after
   with_carrier =
       let size = length_firsts (after_at no_figures_lem list 0) 24 in

@@ -1,7 +1,7 @@
 -- What becomes of the carrier timer over a stretch of at most 24 symbols. Over p and any values. Assumes nothing.
+use Rattle.std.specs.Prelude.{Some, None, Option}
 use mathlib.Core.Path.{◌≡◌, refl}
 use mathlib.Core.Logic.{◌⊎◌, inl, inr}
-use mathlib.Core.Option.{Option, none, some}
 use Prim.Native.Nat.{ℕ, ◌+◌, ◌*◌, ◌^◌, ◌≤◌, ◌<◌}
 use native.Mathlib.Omega.{arith}
 use lib.Dec.{ltb}
@@ -12,10 +12,6 @@ use Rattle.protocol.specs.declared.SyncBurst.{SyncBurst}
 use Rattle.protocol.specs.declared.SyncBurst.TheVariants.{Frame, Preamble, EndOfTransmission}
 use Rattle.decode.specs.Correlator.{matches}
 use Rattle.search.specs.declared.Waiting.{Waiting}
-use Rattle.search.specs.declared.Wait.{Wait}
-use Rattle.search.specs.declared.Wait.TheVariants.{Free, Due}
-use Rattle.search.specs.declared.Timer.{Timer}
-use Rattle.search.specs.declared.Timer.TheVariants.{Off, Until}
 use Rattle.search.specs.declared.Control.{Control}
 use Rattle.search.specs.declared.Turn.{Turn}
 use Rattle.search.specs.declared.Turn.TheVariants.{Rest, Offer, Look}
@@ -25,17 +21,17 @@ use Rattle.search.specs.Turn.{cleared, counted, freed, due_turn, waited_turn, co
 use Rattle.search.proofs.AgeInPass.{by_test}
 
 -- a timer that lasts to sample `end` at least
-abbrev pub Lasts : ℕ → Timer → Type 0
-Lasts end Off = ⊥
-Lasts end (Until e) = end ≤ e
+abbrev pub Lasts : ℕ → Option ℕ → Type 0
+Lasts end None = ⊥
+Lasts end (Some e) = end ≤ e
 
 -- ---- after a search at sample n the timer is as it was, or lasts 24 symbols at least
-pub record Kept (p n : ℕ) (t : Timer) (c : Control) : Type 0 where
+pub record Kept (p n : ℕ) (t : Option ℕ) (c : Control) : Type 0 where
   pub count : c.sample ≡ n
   pub timer : (c.dcd ≡ t) ⊎ Lasts (n + 24 * p) c.dcd
 
-module _ (p n : ℕ) (small : p ≤ 10) (few : n ≤ 2 ^ 63) (t : Timer) where
-  sets : (span : ℕ) → 24 * p ≤ span → span ≤ 384 * p → (k : ℕ) → k ≡ n → Lasts (n + 24 * p) (Until (end_after_lem k span))
+module _ (p n : ℕ) (small : p ≤ 10) (few : n ≤ 2 ^ 63) (t : Option ℕ) where
+  sets : (span : ℕ) → 24 * p ≤ span → span ≤ 384 * p → (k : ℕ) → k ≡ n → Lasts (n + 24 * p) (Some (end_after_lem k span))
   sets span l u k e = omega arith
 
   module _ (v : ℕ → Float) where
@@ -46,14 +42,14 @@ module _ (p n : ℕ) (small : p ≤ 10) (few : n ≤ 2 ^ 63) (t : Timer) where
 
     matched_kept : (o : Option TakenBurst) (new : TakenBurst) (c : Control) → Kept p n t c → Kept p n t (matched o new c)
     unfolding matched
-    matched_kept none new c K = record { count = K.count; timer = K.timer }
-    matched_kept (some b) new c K =
+    matched_kept None new c K = record { count = K.count; timer = K.timer }
+    matched_kept (Some b) new c K =
         by_test (Kept p n t) (lt b.diff new.diff) _ _ (λ e. record { count = K.count; timer = K.timer }) (λ e. record { count = K.count; timer = K.timer })
 
     missed_kept : (kind : Kind) (o : Option TakenBurst) (c : Control) → Kept p n t c → Kept p n t (missed p kind o c)
     unfolding missed
-    missed_kept kind none c K = K
-    missed_kept kind (some b) c K =
+    missed_kept kind None c K = K
+    missed_kept kind (Some b) c K =
         by_test (Kept p n t) (same_kind b.kind kind) _ _ (λ e. record { count = K.count; timer = inr (sets (384 * p) (omega arith) (omega arith) c.sample K.count) }) (λ e. K)
 
     tried_kept : (kind : Kind) (c : Control) → Kept p n t c → Kept p n t (tried p v kind c)
@@ -71,7 +67,7 @@ module _ (p : ℕ) (small : p ≤ 10) (v : ℕ → Float) (c : Control) (few : c
   abbrev n : ℕ
   n = c.sample + 1
 
-  abbrev t : Timer
+  abbrev t : Option ℕ
   t = cleared n c.dcd
 
   some_few : n ≤ 2 ^ 63
@@ -89,13 +85,13 @@ module _ (p : ℕ) (small : p ≤ 10) (v : ℕ → Float) (c : Control) (few : c
 
   due_kept : (o : Option TakenBurst) (w : Waiting) (d : Control) → Kept p n t d → TurnKept (due_turn o w d)
   unfolding due_turn
-  due_kept none w d K = K
-  due_kept (some b) w d K = record { count = K.count; timer = K.timer }
+  due_kept None w d K = K
+  due_kept (Some b) w d K = record { count = K.count; timer = K.timer }
 
-  waited_kept : (w : Wait) → TurnKept (waited_turn w (counted c))
+  waited_kept : (w : Option Waiting) → TurnKept (waited_turn w (counted c))
   unfolding waited_turn
-  waited_kept Free = record { count = refl; timer = inl refl }
-  waited_kept (Due w) =
+  waited_kept None = record { count = refl; timer = inl refl }
+  waited_kept (Some w) =
       by_test TurnKept (ltb 1 w.left) _ _ (λ e. record { count = refl; timer = inl refl }) (λ e. due_kept (held_in c.candidate) w (freed (counted c)) (record { count = refl; timer = inl refl }))
 
   pub sampled_kept : Kept p n t (control_of (sampled p v c))

@@ -1,5 +1,6 @@
 -- The carrier over a stretch of at most 24 symbols: a timer that lasts over it is held after each sample, and after the reply to its offer.
 -- Over the record. Assumes nothing.
+use Rattle.std.specs.Prelude.{Option, Some, None}
 use mathlib.Core.Path.{◌≡◌, refl, sym, ap, subst, ◌∙◌}
 use mathlib.Core.Logic.{◌⊎◌, inl, inr}
 use mathlib.Core.Bool.{true, false, not, ◌&&◌}
@@ -12,8 +13,6 @@ use lib.Ieee.{Float}
 use Rattle.machine.specs.Runs.{run}
 use Rattle.shaping.specs.Rate.{Rate, rate_of}
 use Rattle.protocol.specs.Refusals.{bare}
-use Rattle.search.specs.declared.Timer.{Timer}
-use Rattle.search.specs.declared.Timer.TheVariants.{Off, Until}
 use Rattle.search.specs.Turn.{cleared}
 use Rattle.demodulator.specs.declared.SoftDemodulator.{SoftDemodulator}
 use Rattle.demodulator.specs.declared.Offer.{Offer}
@@ -40,9 +39,9 @@ pub held_none : (m : SoftDemodulator) → held_in m [] ≡ 0
 unfolding held_from
 held_none m = refl
 
-lasting_held : (end : ℕ) (t : Timer) → Lasts end t → timer_held t ≡ true
-lasting_held end Off h = absurd h
-lasting_held end (Until e) h = refl
+lasting_held : (end : ℕ) (t : Option ℕ) → Lasts end t → timer_held t ≡ true
+lasting_held end None h = absurd h
+lasting_held end (Some e) h = refl
 
 -- ---- a sample, up to `end`
 module _ (end : ℕ) (last : end ≤ 2 ^ 63) where
@@ -76,8 +75,8 @@ module _ (end : ℕ) (last : end ≤ 2 ^ 63) where
     next_lasts h =
         lasts_on R.p end m.control.sample m.control.dcd l.demodulator.control (omega (arith, ready.there)) ready.near kept_by h
 
-    pub next_off : cleared (m.control.sample + 1) m.control.dcd ≡ Off
-        → (l.demodulator.control.dcd ≡ Off) ⊎ Lasts end l.demodulator.control.dcd
+    pub next_off : cleared (m.control.sample + 1) m.control.dcd ≡ None
+        → (l.demodulator.control.dcd ≡ None) ⊎ Lasts end l.demodulator.control.dcd
     next_off q =
         off_or_lasts R.p end m.control.sample m.control.dcd l.demodulator.control (omega (arith, ready.there)) ready.near kept_by q
 
@@ -94,9 +93,9 @@ module _ (end : ℕ) (last : end ≤ 2 ^ 63) where
       let K = reply_kept (rate_of m.rate).p small m (omega (arith, there, last)) (verdict o.kind room) in
       elim K.timer [ inl e ↦ subst (Lasts end) (sym e) h | inr l ↦ shorter (answered (rate_of m.rate).p m (verdict o.kind room) []).demodulator.control.dcd l ]
     where
-      shorter : (t : Timer) → Lasts (m.control.sample + 24 * (rate_of m.rate).p) t → Lasts end t
-      shorter Off g = absurd g
-      shorter (Until e) g = omega arith
+      shorter : (t : Option ℕ) → Lasts (m.control.sample + 24 * (rate_of m.rate).p) t → Lasts end t
+      shorter None g = absurd g
+      shorter (Some e) g = omega arith
 
   -- ---- a timer that lasts
   pub record Held (n : ℕ) (m : SoftDemodulator) (xs : List ℤ) (f : Stretch SoftDemodulator) : Type 0 where

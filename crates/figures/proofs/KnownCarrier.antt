@@ -1,5 +1,6 @@
 -- The carrier of a stretch, where it is known: where it rests, where the timer lasts over it, where it is one sample, and where the timer is off
 -- after it. Over the record. Assumes nothing.
+use Rattle.std.specs.Prelude.{Option, Some, None}
 use mathlib.Core.Path.{◌≡◌, refl, sym, subst}
 use mathlib.Core.Bool.{Bool, true, false, not, cond, ◌||◌, true≢false}
 use mathlib.Core.List.{List, [], ◌∷◌}
@@ -11,8 +12,6 @@ use lib.IntN.{ℤ}
 use lib.ListN.{length, take}
 use Rattle.machine.specs.Runs.{run}
 use Rattle.shaping.specs.Rate.{rate_of}
-use Rattle.search.specs.declared.Timer.{Timer}
-use Rattle.search.specs.declared.Timer.TheVariants.{Off, Until}
 use Rattle.search.specs.Turn.{cleared}
 use Rattle.demodulator.specs.declared.SoftDemodulator.{SoftDemodulator}
 use Rattle.demodulator.specs.Singles.{blank}
@@ -34,14 +33,14 @@ unfolding fed
 fed_is m [] l = absurd (omega arith)
 fed_is m (x ∷ xs) l = refl
 
-lasts_to : (t : Timer) (count n : ℕ) → 1 ≤ n → n ≤ lasting t count → Lasts (count + n) t
-lasts_to Off count n s l = absurd (omega arith)
-lasts_to (Until e) count n s l = omega arith
+lasts_to : (t : Option ℕ) (count n : ℕ) → 1 ≤ n → n ≤ lasting t count → Lasts (count + n) t
+lasts_to None count n s l = absurd (omega arith)
+lasts_to (Some e) count n s l = omega arith
 
-at_end : (t : Timer) (count : ℕ) → lasting t count ≤ 0 → cleared (count + 1) t ≡ Off
+at_end : (t : Option ℕ) (count : ℕ) → lasting t count ≤ 0 → cleared (count + 1) t ≡ None
 unfolding cleared
-at_end Off count l = refl
-at_end (Until e) count l = let under : e < count + 1 = omega arith in rw (lt-ltb e (count + 1) under)
+at_end None count l = refl
+at_end (Some e) count l = let under : e < count + 1 = omega arith in rw (lt-ltb e (count + 1) under)
 
 -- ---- one sample
 module _ (m : SoftDemodulator) (x : ℤ) where
@@ -67,9 +66,9 @@ one_only m [] l u = absurd (omega arith)
 one_only m (x ∷ []) l u = one_held m x
 one_only m (x ∷ (y ∷ xs)) l u = absurd (omega arith)
 
-off_is : (t : Timer) → timer_held t ≡ false → t ≡ Off
-off_is Off e = refl
-off_is (Until k) e = absurd (true≢false e)
+off_is : (t : Option ℕ) → timer_held t ≡ false → t ≡ None
+off_is None e = refl
+off_is (Some k) e = absurd (true≢false e)
 
 module _ (m : SoftDemodulator) (xs : List ℤ) (S : Short m xs) where
   abbrev f : Stretch SoftDemodulator
@@ -100,7 +99,7 @@ module _ (m : SoftDemodulator) (xs : List ℤ) (S : Short m xs) where
         let same : f.fed - 0 ≡ f.fed = omega arith in
         rw same at g.all
 
-    held_off : ltb 0 (lasting_of m) ≡ false → f.state.control.dcd ≡ Off → held_in m (take f.fed xs) ≡ bit (record_held (left_by_stretch f))
+    held_off : ltb 0 (lasting_of m) ≡ false → f.state.control.dcd ≡ None → held_in m (take f.fed xs) ≡ bit (record_held (left_by_stretch f))
     held_off e q =
         let none = ltb-false 0 (lasting m.control.dcd m.control.sample) e in
         let h = off_stretch end S.few 0 m xs ready (at_end m.control.dcd m.control.sample none) in
@@ -112,7 +111,7 @@ module _ (m : SoftDemodulator) (xs : List ℤ) (S : Short m xs) where
   none_fed n e = rw e (held_none m)
 
   module _ (busy : rested m xs ≡ false) where
-    off_carrier : (b : Bool) → eqb f.fed 0 ≡ b → ltb 0 (lasting_of m) ≡ false → f.state.control.dcd ≡ Off
+    off_carrier : (b : Bool) → eqb f.fed 0 ≡ b → ltb 0 (lasting_of m) ≡ false → f.state.control.dcd ≡ None
         → held_in m (take f.fed xs) ≡ cond b 0 (bit (record_held (left_by_stretch f)))
     off_carrier true e l q = none_fed f.fed (eqb-true f.fed 0 e)
     off_carrier false e l q = held_off busy l q

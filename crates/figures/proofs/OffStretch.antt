@@ -1,5 +1,6 @@
 -- The carrier over a stretch of at most 24 symbols whose timer is off, or at its end, before it: where it is off after it too, it is held after no
 -- sample but the last, whose reply may have set it. Over the record. Assumes nothing.
+use Rattle.std.specs.Prelude.{Option, None}
 use mathlib.Core.Path.{◌≡◌, refl, sym, ap, subst, ◌∙◌}
 use mathlib.Core.Logic.{inl, inr}
 use mathlib.Core.Bool.{Bool, true, false, cond}
@@ -13,8 +14,6 @@ use lib.Ieee.{Float}
 use Rattle.machine.specs.Runs.{run}
 use Rattle.shaping.specs.Rate.{rate_of}
 use Rattle.protocol.specs.Refusals.{bare}
-use Rattle.search.specs.declared.Timer.{Timer}
-use Rattle.search.specs.declared.Timer.TheVariants.{Off}
 use Rattle.search.specs.Turn.{cleared}
 use Rattle.demodulator.specs.declared.SoftDemodulator.{SoftDemodulator}
 use Rattle.demodulator.specs.declared.Offer.{Offer}
@@ -33,17 +32,17 @@ use Rattle.figures.proofs.HeldStretch.{held_in, held_at, held_none, Ready, next_
 module _ (end : ℕ) (last : end ≤ 2 ^ 63) where
   pub record Unheld (n : ℕ) (m : SoftDemodulator) (xs : List ℤ) (f : Stretch SoftDemodulator) : Type 0 where
     pub least : n ≤ f.fed
-    pub none : f.state.control.dcd ≡ Off → held_in m (take (f.fed - n) xs) ≡ bit (record_held (left_by_stretch f))
+    pub none : f.state.control.dcd ≡ None → held_in m (take (f.fed - n) xs) ≡ bit (record_held (left_by_stretch f))
 
-  off_not : (t : Timer) → Lasts end t → t ≡ Off → ⊥
+  off_not : (t : Option ℕ) → Lasts end t → t ≡ None → ⊥
   off_not t h e = subst (Lasts end) e h
 
-  off_cleared : (k : ℕ) (t : Timer) → t ≡ Off → cleared k t ≡ Off
+  off_cleared : (k : ℕ) (t : Option ℕ) → t ≡ None → cleared k t ≡ None
   unfolding cleared
   off_cleared k t e = rw e
 
-  module _ (n : ℕ) (m : SoftDemodulator) (x : ℤ) (xs : List ℤ) (ready : Ready end last m (x ∷ xs)) (expired : cleared (m.control.sample + 1) m.control.dcd ≡ Off) where
-    unheld_silent : (m' : SoftDemodulator) (f : Stretch SoftDemodulator) → (m'.control.dcd ≡ Off → Unheld (n + 1) m' xs f)
+  module _ (n : ℕ) (m : SoftDemodulator) (x : ℤ) (xs : List ℤ) (ready : Ready end last m (x ∷ xs)) (expired : cleared (m.control.sample + 1) m.control.dcd ≡ None) where
+    unheld_silent : (m' : SoftDemodulator) (f : Stretch SoftDemodulator) → (m'.control.dcd ≡ None → Unheld (n + 1) m' xs f)
         → (Lasts end m'.control.dcd → Held end last (n + 1) m' xs f)
         → left_by_sample m x ≡ record { answer = nothing; demodulator = m'; room = blank } → Unheld n m (x ∷ xs) f
     unfolding listed_of run
@@ -73,12 +72,12 @@ module _ (end : ℕ) (last : end ≤ 2 ^ 63) where
         let zero-fed : n - n ≡ 0 = omega arith in
         record { least = omega arith; none = λ q. rw (zero-fed, held_none m) (sym (off_left (eqb n 0) q)) }
       where
-        off_left : (b : Bool) → m.control.dcd ≡ Off
+        off_left : (b : Bool) → m.control.dcd ≡ None
             → bit (record_held (run own_record m (map reply_to (listed_of verdict (cond b (refusal (bare number)) nothing) blank)))) ≡ 0
         off_left true q = unfold listed_of run in rw q
         off_left false q = unfold listed_of run in rw q
 
-    unheld_by : ((m' : SoftDemodulator) → m'.rate ≡ m.rate → Ready end last m' xs → m'.control.dcd ≡ Off → Unheld (n + 1) m' xs (rest_from (rate_of m.rate) (n + 1) m' xs blank))
+    unheld_by : ((m' : SoftDemodulator) → m'.rate ≡ m.rate → Ready end last m' xs → m'.control.dcd ≡ None → Unheld (n + 1) m' xs (rest_from (rate_of m.rate) (n + 1) m' xs blank))
         → ((m' : SoftDemodulator) → m'.rate ≡ m.rate → Ready end last m' xs → Lasts end m'.control.dcd → Held end last (n + 1) m' xs (rest_from (rate_of m.rate) (n + 1) m' xs blank))
         → Comes m blank (left_by_sample m) (left_by_sample m x) → Unheld n m (x ∷ xs) (rest_from (rate_of m.rate) n m (x ∷ xs) blank)
     unheld_by off on (silent m' e) =
@@ -91,7 +90,7 @@ module _ (end : ℕ) (last : end ≤ 2 ^ 63) where
         subst (Unheld n m (x ∷ xs)) (sym (fed_stuck (rate_of m.rate) m x xs blank n number e)) (unheld_stuck number)
 
   pub off_stretch : (n : ℕ) (m : SoftDemodulator) (xs : List ℤ) → Ready end last m xs
-      → cleared (m.control.sample + 1) m.control.dcd ≡ Off → Unheld n m xs (rest_from (rate_of m.rate) n m xs blank)
+      → cleared (m.control.sample + 1) m.control.dcd ≡ None → Unheld n m xs (rest_from (rate_of m.rate) n m xs blank)
   unfolding fed_from listed_of run
   off_stretch n m [] ready expired =
       let zero-fed : n - n ≡ 0 = omega arith in

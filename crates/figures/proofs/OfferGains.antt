@@ -1,4 +1,5 @@
 -- Each offer's gain is within 16 to 1,000,000: it is a fit candidate's. Over the rules from where a run stands. Assumes nothing.
+use Rattle.std.specs.Prelude.{Option, Some, None}
 use mathlib.Core.Path.{◌≡◌, refl}
 use mathlib.Core.Bool.{Bool, true, false, cond, ◌&&◌, false≢true}
 use mathlib.Core.List.{List, [], ◌∷◌, ◌++◌, flat_map}
@@ -17,8 +18,6 @@ use Rattle.shaping.specs.Rate.{Rate}
 use Rattle.shaping.proofs.RateFacts.{Facts}
 use Rattle.search.specs.declared.Candidate.{Candidate}
 use Rattle.search.specs.declared.Waiting.{Waiting}
-use Rattle.search.specs.declared.Wait.{Wait}
-use Rattle.search.specs.declared.Wait.TheVariants.{Free, Due}
 use Rattle.search.specs.declared.Control.{Control}
 use Rattle.search.specs.declared.Turn.{Turn}
 use Rattle.search.specs.TakenBurst.{held_in}
@@ -36,8 +35,6 @@ use Rattle.demodulator_run.proofs.Whole.{Stands}
 use Rattle.listening.specs.Listener.{Rule, Listed, listed_of, listed_in, calls_at, offers, own_record}
 use Rattle.listening.specs.Rules.{rules_at}
 use Rattle.listening.proofs.Agreement.{listens}
-use Rattle.figures.specs.declared.Gain.{Gain}
-use Rattle.figures.specs.declared.Gain.TheVariants.{Nothing, Of}
 use Rattle.figures.specs.Totals.{gain_fit, gains_fit, lesser, greater}
 use Rattle.figures.specs.FullList.{least_from, greatest_from}
 
@@ -57,10 +54,10 @@ module _ (p : ℕ) (v : ℕ → Float) where
   due_gain (is_held u) t w c =
       is_true (gain_fit u.gain) (and_r (age_fit u.age && diff_fit u.diff) (gain_fit u.gain) (and_l (age_fit u.age && diff_fit u.diff && gain_fit u.gain) (shift_fit u.shift) t))
 
-  waited_gain : (wait : Wait) (c : Control) → T (candidate_fit_lem c.candidate) → GainBy (comes_to p v (waited_turn wait c))
+  waited_gain : (wait : Option Waiting) (c : Control) → T (candidate_fit_lem c.candidate) → GainBy (comes_to p v (waited_turn wait c))
   unfolding waited_turn
-  waited_gain Free c t = tt
-  waited_gain (Due w) c t =
+  waited_gain None c t = tt
+  waited_gain (Some w) c t =
       by_test (λ (o : Turn). GainBy (comes_to p v o)) (ltb 1 w.left) _ _ (λ _. tt) (λ _. due_gain (held_or_not c.candidate) t w (freed c))
 
   sampled_gain : (c : Control) → T (candidate_fit_lem c.candidate) → GainBy (sampled p v c)
@@ -109,34 +106,34 @@ pub right_fit : (a b : Bool) → a && b ≡ true → b ≡ true
 right_fit true b e = e
 right_fit false b e = absurd (false≢true e)
 
-chosen : (t : Bool) (x y : Float) → gain_fit x ≡ true → gain_fit y ≡ true → (high : Gain)
-    → ((z : Float) → gain_fit z ≡ true → gains_fit (Of z) high ≡ true) → gains_fit (cond t (Of y) (Of x)) high ≡ true
+chosen : (t : Bool) (x y : Float) → gain_fit x ≡ true → gain_fit y ≡ true → (high : Option Float)
+    → ((z : Float) → gain_fit z ≡ true → gains_fit (Some z) high ≡ true) → gains_fit (cond t (Some y) (Some x)) high ≡ true
 chosen true x y p q high f = f y q
 chosen false x y p q high f = f x p
 
 chosen_high : (t : Bool) (x y : Float) → gain_fit x ≡ true → gain_fit y ≡ true → (z : Float) → gain_fit z ≡ true
-    → gains_fit (Of z) (cond t (Of y) (Of x)) ≡ true
+    → gains_fit (Some z) (cond t (Some y) (Some x)) ≡ true
 chosen_high true x y p q z r = both_fit (gain_fit z) (gain_fit y) r q
 chosen_high false x y p q z r = both_fit (gain_fit z) (gain_fit x) r p
 
-pub gains_plus : (a b c d : Gain) → gains_fit a b ≡ true → gains_fit c d ≡ true → gains_fit (lesser a c) (greater b d) ≡ true
+pub gains_plus : (a b c d : Option Float) → gains_fit a b ≡ true → gains_fit c d ≡ true → gains_fit (lesser a c) (greater b d) ≡ true
 unfolding lesser greater
-gains_plus Nothing Nothing c d e f = f
-gains_plus Nothing (Of y) c d e f = absurd (false≢true e)
-gains_plus (Of x) Nothing c d e f = absurd (false≢true e)
-gains_plus (Of x) (Of y) Nothing Nothing e f = e
-gains_plus (Of x) (Of y) Nothing (Of w) e f = absurd (false≢true f)
-gains_plus (Of x) (Of y) (Of z) Nothing e f = absurd (false≢true f)
-gains_plus (Of x) (Of y) (Of z) (Of w) e f =
+gains_plus None None c d e f = f
+gains_plus None (Some y) c d e f = absurd (false≢true e)
+gains_plus (Some x) None c d e f = absurd (false≢true e)
+gains_plus (Some x) (Some y) None None e f = e
+gains_plus (Some x) (Some y) None (Some w) e f = absurd (false≢true f)
+gains_plus (Some x) (Some y) (Some z) None e f = absurd (false≢true f)
+gains_plus (Some x) (Some y) (Some z) (Some w) e f =
     let ex = left_fit (gain_fit x) (gain_fit y) e in
     let ey = right_fit (gain_fit x) (gain_fit y) e in
     let fz = left_fit (gain_fit z) (gain_fit w) f in
     let fw = right_fit (gain_fit z) (gain_fit w) f in
-    chosen (lt z x) x z ex fz (cond (lt y w) (Of w) (Of y)) (λ k r. chosen_high (lt y w) y w ey fw k r)
+    chosen (lt z x) x z ex fz (cond (lt y w) (Some w) (Some y)) (λ k r. chosen_high (lt y w) y w ey fw k r)
 
-pub gains_from : (list : List Listed) → Each GainWithin list → (a b : Gain) → gains_fit a b ≡ true
+pub gains_from : (list : List Listed) → Each GainWithin list → (a b : Option Float) → gains_fit a b ≡ true
     → gains_fit (least_from a list) (greatest_from b list) ≡ true
 unfolding least_from greatest_from Each
 gains_from [] g a b e = e
 gains_from (o ∷ list) g a b e =
-    gains_from list g.1 (lesser a (Of o.due.gain)) (greater b (Of o.due.gain)) (gains_plus a b (Of o.due.gain) (Of o.due.gain) e (both_fit (gain_fit o.due.gain) (gain_fit o.due.gain) g.0 g.0))
+    gains_from list g.1 (lesser a (Some o.due.gain)) (greater b (Some o.due.gain)) (gains_plus a b (Some o.due.gain) (Some o.due.gain) e (both_fit (gain_fit o.due.gain) (gain_fit o.due.gain) g.0 g.0))

@@ -1,4 +1,5 @@
 -- An offer's figures: three places at which one is stored, and at which it is counted. Assumes nothing.
+use Rattle.std.specs.Prelude.{Some}
 use mathlib.Core.Path.{◌≡◌, refl, sym, ap, ◌∙◌}
 use mathlib.Core.Bool.{Bool, true, false, cond, ◌&&◌, ◌||◌}
 use mathlib.Core.List.{List, [], ◌∷◌}
@@ -17,7 +18,6 @@ use Rattle.search.specs.declared.Reply.TheVariants.{Accepted, Rejected}
 use Rattle.search.specs.Search.{rank}
 use Rattle.demodulator.specs.declared.Offer.{Offer}
 use Rattle.listening.specs.Listener.{Listed}
-use Rattle.figures.specs.declared.Gain.TheVariants.{Of}
 use Rattle.figures.specs.declared.Figures.{Figures}
 use Rattle.figures.specs.Totals.{total_at, no_figures_lem, lesser, greater}
 use Rattle.figures.specs.FullList.{reply_place, bit, is_counted, number_at_lem, least_from, greatest_from, carrier_place, after_at, after}
@@ -95,17 +95,17 @@ module _ (o : Offer) (r : Reply) where
   settled_place = reply_place r + rank o.kind
 
   same_after : (totals : List ℕ) → length totals ≡ 24 → ((i : ℕ) → i < 24 → get_or totals i 0 ≡ bit (is_counted (listed_as o r) i))
-      → ◌≡◌ {A = Figures} (record { totals = totals; smallest = Of o.gain; largest = Of o.gain }) (after no_figures_lem (listed_as o r ∷ []) 0)
+      → ◌≡◌ {A = Figures} (record { totals = totals; smallest = Some o.gain; largest = Some o.gain }) (after no_figures_lem (listed_as o r ∷ []) 0)
   unfolding after least_from greatest_from lesser greater
   same_after totals size at =
       let all : totals ≡ firsts (after_at no_figures_lem (listed_as o r ∷ []) 0) 24 =
       ext_get_or 0 totals (firsts (after_at no_figures_lem (listed_as o r ∷ []) 0) 24) (size ∙ sym (length_firsts (after_at no_figures_lem (listed_as o r ∷ []) 0) 24)) (λ i l.
       let inside : i < 24 = omega arith in
       at i inside ∙ sym (counts_at o r i inside) ∙ sym (firsts_at (after_at no_figures_lem (listed_as o r ∷ []) 0) 24 i 0 inside)) in
-      ap (λ (k : List ℕ). record { totals = k; smallest = Of o.gain; largest = Of o.gain }) all
+      ap (λ (k : List ℕ). record { totals = k; smallest = Some o.gain; largest = Some o.gain }) all
 
   pub aged : leb 1 o.age && leb o.age 11 ≡ true
-      → ◌≡◌ {A = Figures} (record { totals = set (set (set zeros kind_place 1) settled_place 1) (11 + o.age) 1; smallest = Of o.gain; largest = Of o.gain }) (after no_figures_lem (listed_as o r ∷ []) 0)
+      → ◌≡◌ {A = Figures} (record { totals = set (set (set zeros kind_place 1) settled_place 1) (11 + o.age) 1; smallest = Some o.gain; largest = Some o.gain }) (after no_figures_lem (listed_as o r ∷ []) 0)
   unfolding is_counted
   aged e =
       same_after _
@@ -113,7 +113,7 @@ module _ (o : Offer) (r : Reply) where
       (λ i inside. three_read kind_place settled_place i inside (11 + o.age) ∙ three_bits (eqb i kind_place) (eqb i settled_place) (eqb i (11 + o.age)) ∙ rw e)
 
   pub ageless : leb 1 o.age && leb o.age 11 ≡ false
-      → ◌≡◌ {A = Figures} (record { totals = set (set zeros kind_place 1) settled_place 1; smallest = Of o.gain; largest = Of o.gain }) (after no_figures_lem (listed_as o r ∷ []) 0)
+      → ◌≡◌ {A = Figures} (record { totals = set (set zeros kind_place 1) settled_place 1; smallest = Some o.gain; largest = Some o.gain }) (after no_figures_lem (listed_as o r ∷ []) 0)
   unfolding is_counted
   ageless e =
       same_after _

@@ -1,4 +1,6 @@
 -- Each promise fixes the answer and the report. That there is one on every input is the function's own proof. Assumes nothing.
+use Rattle.std.specs.Prelude.{Result, Ok, Err}
+use Rattle.protocol.specs.declared.Refusal.{Refusal}
 use mathlib.Core.Path.{◌≡◌, refl, ap}
 use mathlib.Core.List.{List}
 use Prim.Native.Nat.{ℕ}
@@ -7,19 +9,17 @@ use Rattle.numbers.proofs.Answer.{same_answer}
 use Rattle.protocol.proofs.Numbers.{numbered, numbered_back}
 use Rattle.demodulator.proofs.OnlyAnswer.{once}
 use Rattle.figures.specs.declared.Report.{Report}
-use Rattle.figures.specs.declared.Added.{Added}
-use Rattle.figures.specs.declared.Added.TheVariants.{Refused, Done}
 use Rattle.figures.specs.declared.AfterAdd.{AfterAdd}
 use Rattle.figures.specs.Answers.{Paper, refusal, done, added_paper, Left, Says, NewSays, added, AddSays, merged, MergeSays}
 
-added_as : Paper → Added
-added_as (refusal why) = Refused (numbered why)
-added_as done = Done
+added_as : Paper → Result Unit Refusal
+added_as (refusal why) = Err (numbered why)
+added_as done = Ok tt
 
-added_back : (a : Added) → added_as (added_paper a) ≡ a
+added_back : (a : Result Unit Refusal) → added_as (added_paper a) ≡ a
 unfolding added_as
-added_back (Refused why) = ap Refused (numbered_back why)
-added_back Done = refl
+added_back (Err why) = ap Err (numbered_back why)
+added_back (Ok _) = refl
 
 says_once : (l : Left) (r s : AfterAdd) → Says l r → Says l s → r ≡ s
 says_once l r s p q =

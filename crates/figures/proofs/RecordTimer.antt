@@ -1,4 +1,5 @@
 -- What a sample and a reply do to the record's carrier timer. Assumes nothing.
+use Rattle.std.specs.Prelude.{Option, Some, None}
 use mathlib.Core.Path.{◌≡◌, refl, sym, ◌∙◌, subst}
 use mathlib.Core.Logic.{◌⊎◌, inl, inr}
 use mathlib.Core.Bool.{false, not, true≢false}
@@ -11,8 +12,6 @@ use lib.IntN.{ℤ}
 use lib.ListN.{length}
 use lib.Ieee.{Float}
 use Rattle.shaping.specs.Rate.{Rate}
-use Rattle.search.specs.declared.Timer.{Timer}
-use Rattle.search.specs.declared.Timer.TheVariants.{Off, Until}
 use Rattle.search.specs.declared.Control.{Control}
 use Rattle.search.specs.declared.Reply.{Reply}
 use Rattle.search.specs.declared.Reply.TheVariants.{Accepted, Rejected}
@@ -67,19 +66,19 @@ module _ (p : ℕ) (small : p ≤ 10) (m : SoftDemodulator) (few : m.control.sam
       (λ _. replied_kept r))
 
 -- ---- up to sample `end`: a timer that lasts to it goes on doing so, and one that is off stays off or lasts to it
-module _ (p end n : ℕ) (t : Timer) (c : Control) (below : n < end) (near : end ≤ n + 1 + 24 * p) (K : Kept p (n + 1) (cleared (n + 1) t) c) where
-  cleared_lasts : (u : Timer) → Lasts end u → Lasts end (cleared (n + 1) u)
+module _ (p end n : ℕ) (t : Option ℕ) (c : Control) (below : n < end) (near : end ≤ n + 1 + 24 * p) (K : Kept p (n + 1) (cleared (n + 1) t) c) where
+  cleared_lasts : (u : Option ℕ) → Lasts end u → Lasts end (cleared (n + 1) u)
   unfolding cleared
-  cleared_lasts Off h = absurd h
-  cleared_lasts (Until e) h =
-      by_test (Lasts end) (ltb e (n + 1)) Off (Until e) (λ q. let under = ltb-true e (n + 1) q in absurd (omega arith)) (λ q. h)
+  cleared_lasts None h = absurd h
+  cleared_lasts (Some e) h =
+      by_test (Lasts end) (ltb e (n + 1)) None (Some e) (λ q. let under = ltb-true e (n + 1) q in absurd (omega arith)) (λ q. h)
 
-  longer : (u : Timer) → Lasts (n + 1 + 24 * p) u → Lasts end u
-  longer Off h = absurd h
-  longer (Until e) h = omega arith
+  longer : (u : Option ℕ) → Lasts (n + 1 + 24 * p) u → Lasts end u
+  longer None h = absurd h
+  longer (Some e) h = omega arith
 
   pub lasts_on : Lasts end t → Lasts end c.dcd
   lasts_on h = elim K.timer [ inl e ↦ subst (Lasts end) (sym e) (cleared_lasts t h) | inr l ↦ longer c.dcd l ]
 
-  pub off_or_lasts : cleared (n + 1) t ≡ Off → (c.dcd ≡ Off) ⊎ Lasts end c.dcd
+  pub off_or_lasts : cleared (n + 1) t ≡ None → (c.dcd ≡ None) ⊎ Lasts end c.dcd
   off_or_lasts e = elim K.timer [ inl q ↦ inl (q ∙ e) | inr l ↦ inr (longer c.dcd l) ]

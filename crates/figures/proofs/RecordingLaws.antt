@@ -1,4 +1,5 @@
 -- The loop over a recording: what one turn keeps of it. Assumes nothing.
+use Rattle.std.specs.Prelude.{Some, None, is_some}
 use mathlib.Core.Path.{◌≡◌, refl, sym, ap, subst, ◌∙◌}
 use mathlib.Core.Bool.{Bool, true, false, true≢false}
 use mathlib.Core.List.{List, ◌++◌}
@@ -132,54 +133,54 @@ module _ (rate : ℕ) (samples : List ℤ) (fit : rate_fit rate ≡ true) (short
     AddsBy d = (1 ≤ length ys) → (k : ℕ) → k ≡ (stretch_of d ys).fed
         → plus (record_figures no_figures_lem (fresh rate) zs) (after no_figures_lem (listed_at_end (stretch_of d ys)) (held_in d (take (stretch_of d ys).fed ys))) ≡ record_figures no_figures_lem (fresh rate) (zs ++ take k ys)
 
-    pub turn_adds : r.known ≡ true → plus figures r.figures ≡ record_figures no_figures_lem (fresh rate) (take (fed + r.fed) samples)
-    turn_adds k =
-        ap (λ (g : Figures). plus g r.figures) H.counts
-        ∙ ap (plus (record_figures no_figures_lem (fresh rate) zs)) (T.adds k)
+    pub turn_adds : (added : Figures) → r.figures ≡ Some added → plus figures added ≡ record_figures no_figures_lem (fresh rate) (take (fed + r.fed) samples)
+    turn_adds added k =
+        ap (λ (g : Figures). plus g added) H.counts
+        ∙ ap (plus (record_figures no_figures_lem (fresh rate) zs)) (T.adds added k)
         ∙ subst AddsBy (sym H.leaves) (figures_turn (fresh rate) zs ys) some r.fed T.feeds
         ∙ ap (record_figures no_figures_lem (fresh rate)) parts
 
-    turn_is : r.known ≡ true → r.figures ≡ record_figures no_figures_lem left (take f.fed ys)
+    turn_is : (added : Figures) → r.figures ≡ Some added → added ≡ record_figures no_figures_lem left (take f.fed ys)
     unfolding record_figures
-    turn_is k = T.adds k ∙ ap (λ (l : List Listed). after no_figures_lem l (held_in left (take f.fed ys))) (sym (goes left ys some).lists)
+    turn_is added k = T.adds added k ∙ ap (λ (l : List Listed). after no_figures_lem l (held_in left (take f.fed ys))) (sym (goes left ys some).lists)
 
-    pub turn_fit : r.known ≡ true → Fit figures r.figures
-    turn_fit k =
+    pub turn_fit : (added : Figures) → r.figures ≡ Some added → Fit figures added
+    turn_fit added k =
         let size : length zs ≡ fed = length-take-le fed samples H.inside in
         let g = (goes left ys some).most in
         let size' : length (take f.fed ys) ≡ f.fed = length-take-le f.fed ys g in
         let l = long in
         let there = N.there in
         let first : (i : ℕ) → i < 24 → total_at figures.totals i ≤ fed = λ i inside. rw H.counts (omega (arith, figures_below (fresh rate) zs i inside)) in
-        let second : (i : ℕ) → i < 24 → total_at r.figures.totals i ≤ n = λ i inside. rw (turn_is k) (omega (arith, figures_below left (take f.fed ys) i inside)) in
+        let second : (i : ℕ) → i < 24 → total_at added.totals i ≤ n = λ i inside. rw (turn_is added k) (omega (arith, figures_below left (take f.fed ys) i inside)) in
         record {
           first = fits_all figures.totals (λ i inside. omega (arith, first i inside));
-          second = fits_all r.figures.totals (λ i inside. omega (arith, second i inside));
-          few = passes_none figures.totals r.figures.totals (λ i inside. omega (arith, first i inside, second i inside));
+          second = fits_all added.totals (λ i inside. omega (arith, second i inside));
+          few = passes_none figures.totals added.totals (λ i inside. omega (arith, first i inside, second i inside));
         }
 
-    pub turn_on : r.known ≡ true → (sum : Figures) → sum ≡ plus figures r.figures
+    pub turn_on : (added : Figures) → r.figures ≡ Some added → (sum : Figures) → sum ≡ plus figures added
         → Heard rate samples span r.demodulator sum (fed + r.fed) span
-    turn_on k sum e =
+    turn_on added k sum e =
         let least = H.least in
         let few = H.few in
-        record { inside = turn_inside; least = omega arith; few = omega arith; leaves = turn_leaves; counts = e ∙ turn_adds k }
+        record { inside = turn_inside; least = omega arith; few = omega arith; leaves = turn_leaves; counts = e ∙ turn_adds added k }
 
     pub turn_stops : r.fed ≡ 0 → figures ≡ record_figures no_figures_lem (fresh rate) samples
     turn_stops e =
         let s = (goes left ys some).still (sym T.feeds ∙ e) in
         H.counts ∙ figures_stuck (fresh rate) zs (drop fed samples) (rw H.leaves at s) ∙ ap (record_figures no_figures_lem (fresh rate)) (take-append-drop fed samples)
 
-    pub turn_few : r.known ≡ false → n ≤ most
+    pub turn_few : r.figures ≡ None → n ≤ most
     turn_few k = by_test (leb (length ys) (resting left.control.wait)) refl
       where
         by_test : (t : Bool) → leb (length ys) (resting left.control.wait) ≡ t → n ≤ most
-        by_test true e = absurd (true≢false (sym (T.rest (leb-true (length ys) (resting left.control.wait) e)) ∙ k))
+        by_test true e = absurd (true≢false (sym (T.rest (leb-true (length ys) (resting left.control.wait) e)) ∙ ap is_some k))
         by_test false e = let over = leb-false (length ys) (resting left.control.wait) e in let l = long in N.few (omega arith)
 
-    pub turn_two : r.known ≡ false → 2 ≤ n
+    pub turn_two : r.figures ≡ None → 2 ≤ n
     turn_two k = by_test (leb (length ys) 1) refl
       where
         by_test : (t : Bool) → leb (length ys) 1 ≡ t → 2 ≤ n
-        by_test true e = absurd (true≢false (sym (T.one (leb-true (length ys) 1 e)) ∙ k))
+        by_test true e = absurd (true≢false (sym (T.one (leb-true (length ys) 1 e)) ∙ ap is_some k))
         by_test false e = let two = leb-false (length ys) 1 e in let l = long in omega arith

@@ -1,4 +1,5 @@
 -- While a frame is awaited no sample is searched: the carrier timer is only cleared, and is held for as many samples as it lasts. Over the record. Assumes nothing.
+use Rattle.std.specs.Prelude.{Option, Some, None}
 use mathlib.Core.Path.{◌≡◌, refl, sym, ap, subst, ◌∙◌}
 use mathlib.Core.Bool.{false, not, true≢false}
 use mathlib.Core.List.{List, [], ◌∷◌}
@@ -13,10 +14,6 @@ use Rattle.machine.specs.Runs.{run}
 use Rattle.shaping.specs.Rate.{Rate, rate_of}
 use Rattle.protocol.specs.Refusals.{bare}
 use Rattle.search.specs.declared.Waiting.{Waiting}
-use Rattle.search.specs.declared.Wait.{Wait}
-use Rattle.search.specs.declared.Wait.TheVariants.{Free, Due}
-use Rattle.search.specs.declared.Timer.{Timer}
-use Rattle.search.specs.declared.Timer.TheVariants.{Off, Until}
 use Rattle.search.specs.declared.Control.{Control}
 use Rattle.search.specs.Turn.{Outcome, quiet, cleared, counted, nearer, waiting_on, waited_turn, comes_to, sampled}
 use Rattle.search.proofs.AgeInPass.{by_test}
@@ -35,12 +32,12 @@ use Rattle.figures.specs.Turn.{lasting, resting}
 use Rattle.figures.proofs.HeldStretch.{held_in, held_at, held_none}
 
 -- ---- a sample of a wait that has more than one left
-sampled_rest : (p : ℕ) (v : ℕ → Float) (c : Control) (w : Waiting) → c.wait ≡ Due w → 1 < w.left
+sampled_rest : (p : ℕ) (v : ℕ → Float) (c : Control) (w : Waiting) → c.wait ≡ Some w → 1 < w.left
     → sampled p v c ≡ quiet (waiting_on (nearer w) (counted c))
 unfolding sampled waited_turn
-sampled_rest p v c w e l = ap (λ (d : Wait). comes_to p v (waited_turn d (counted c))) e ∙ rw (lt-ltb 1 w.left l)
+sampled_rest p v c w e l = ap (λ (d : Option Waiting). comes_to p v (waited_turn d (counted c))) e ∙ rw (lt-ltb 1 w.left l)
 
-module _ (R : Rate) (m : SoftDemodulator) (x : ℤ) (room : List Float) (w : Waiting) (e : m.control.wait ≡ Due w) (some : 1 < w.left) where
+module _ (R : Rate) (m : SoftDemodulator) (x : ℤ) (room : List Float) (w : Waiting) (e : m.control.wait ≡ Some w) (some : 1 < w.left) where
   record Rests (l : Left) : Type 0 where
     says : l.answer ≡ nothing
     keeps : l.demodulator.control ≡ waiting_on (nearer w) (counted m.control)
@@ -61,17 +58,17 @@ module _ (R : Rate) (m : SoftDemodulator) (x : ℤ) (room : List Float) (w : Wai
       (λ _ _. subst (λ (o : Outcome). Rests (finished R.p (stored R m x) room o)) (sym (sampled_rest R.p (eight R.p (back R.p (stored R m x))) m.control w e some)) finished_rests))))
 
 -- ---- the timer one sample on
-lasting_less : (t : Timer) (count : ℕ) → lasting (cleared (count + 1) t) (count + 1) ≡ lasting t count - 1
+lasting_less : (t : Option ℕ) (count : ℕ) → lasting (cleared (count + 1) t) (count + 1) ≡ lasting t count - 1
 unfolding cleared
-lasting_less Off count = refl
-lasting_less (Until end) count =
-    by_test (λ (t : Timer). lasting t (count + 1) ≡ end - count - 1) (ltb end (count + 1)) Off (Until end) (λ q. let under = ltb-true end (count + 1) q in omega arith) (λ q. omega arith)
+lasting_less None count = refl
+lasting_less (Some end) count =
+    by_test (λ (t : Option ℕ). lasting t (count + 1) ≡ end - count - 1) (ltb end (count + 1)) None (Some end) (λ q. let under = ltb-true end (count + 1) q in omega arith) (λ q. omega arith)
 
-held_now : (t : Timer) (count : ℕ) → bit (timer_held (cleared (count + 1) t)) ≡ min 1 (lasting t count)
+held_now : (t : Option ℕ) (count : ℕ) → bit (timer_held (cleared (count + 1) t)) ≡ min 1 (lasting t count)
 unfolding cleared
-held_now Off count = refl
-held_now (Until end) count =
-    by_test (λ (t : Timer). bit (timer_held t) ≡ min 1 (end - count)) (ltb end (count + 1)) Off (Until end)
+held_now None count = refl
+held_now (Some end) count =
+    by_test (λ (t : Option ℕ). bit (timer_held t) ≡ min 1 (end - count)) (ltb end (count + 1)) None (Some end)
     (λ q. let under = ltb-true end (count + 1) q in omega arith) (λ q. let over = ltb-false end (count + 1) q in omega arith)
 
 one_more_held : (k last : ℕ) → min 1 last + min k (last - 1) ≡ min (suc k) last
@@ -82,11 +79,11 @@ pub record Rested (n : ℕ) (m : SoftDemodulator) (xs : List ℤ) (f : Stretch S
   pub least : n ≤ f.fed
   pub all : held_in m (take (f.fed - n) xs) ≡ min (f.fed - n) (lasting m.control.dcd m.control.sample)
 
-wait_is : (t : Wait) → 1 ≤ resting t → (w : Waiting) × (t ≡ Due w) × (1 < w.left)
-wait_is Free l = absurd (omega arith)
-wait_is (Due w) l = (w, refl, omega arith)
+wait_is : (t : Option Waiting) → 1 ≤ resting t → (w : Waiting) × (t ≡ Some w) × (1 < w.left)
+wait_is None l = absurd (omega arith)
+wait_is (Some w) l = (w, refl, omega arith)
 
-module _ (n : ℕ) (m : SoftDemodulator) (x : ℤ) (xs : List ℤ) (w : Waiting) (e : m.control.wait ≡ Due w) (some : 1 < w.left) where
+module _ (n : ℕ) (m : SoftDemodulator) (x : ℤ) (xs : List ℤ) (w : Waiting) (e : m.control.wait ≡ Some w) (some : 1 < w.left) where
   rested_silent : (m' : SoftDemodulator) (f : Stretch SoftDemodulator) → m'.control ≡ waiting_on (nearer w) (counted m.control)
       → Rested (n + 1) m' xs f
       → left_by_sample m x ≡ record { answer = nothing; demodulator = m'; room = blank } → Rested n m (x ∷ xs) f

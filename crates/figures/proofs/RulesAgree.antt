@@ -1,4 +1,5 @@
 -- The figures of a recording, by the record and by the rules; they are fit. Assumes nothing.
+use Rattle.std.specs.Prelude.{None}
 use mathlib.Core.Path.{◌≡◌, refl, ap, ◌∙◌}
 use mathlib.Core.Logic.{inl, inr}
 use mathlib.Core.Bool.{Bool, true, not, ◌&&◌}
@@ -24,7 +25,6 @@ use Rattle.listening.specs.Listener.{Rule, Listed, listener, offers, own_record}
 use Rattle.listening.specs.Verdict.{verdict}
 use Rattle.listening.specs.Rules.{rules_at}
 use Rattle.listening.proofs.Agreement.{listens, same_offers}
-use Rattle.figures.specs.declared.Gain.TheVariants.{Nothing}
 use Rattle.figures.specs.Totals.{no_figures_lem, totals_fit, gains_fit, figures_fit}
 use Rattle.figures.specs.FullList.{bit, held_from, record_held, history_held, after, figures_of, record_figures}
 use Rattle.figures.proofs.TotalLaws.{fits_all}
@@ -70,7 +70,7 @@ module _ (rate : ℕ) (fit : rate_fit rate ≡ true) (xs : List ℤ) (g : Each (
   pub gains_within : gains_fit (figures_of (rate_of rate) xs).smallest (figures_of (rate_of rate) xs).largest ≡ true
   unfolding figures_of after
   gains_within =
-      gains_from (offers (rules_at R) verdict start xs) (offers_within R (rate_facts rate fit) verdict xs g (fresh_at R) start (stands_start R (rate_facts rate fit))) Nothing Nothing refl
+      gains_from (offers (rules_at R) verdict start xs) (offers_within R (rate_facts rate fit) verdict xs g (fresh_at R) start (stands_start R (rate_facts rate fit))) None None refl
 
   pub totals_within : length xs ≤ 2 ^ 63 → totals_fit (figures_of (rate_of rate) xs).totals ≡ true
   unfolding figures_of

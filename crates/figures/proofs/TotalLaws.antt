@@ -1,12 +1,19 @@
 -- Totals, one by one: when they are fit, and when a sum would pass 2^63. Assumes nothing.
-use mathlib.Core.Path.{◌≡◌, refl, ap}
-use mathlib.Core.Bool.{Bool, true, false, not}
-use mathlib.Core.List.{List}
+use mathlib.Core.Path.{◌≡◌, refl, sym, ap, ◌∙◌}
+use mathlib.Core.Bool.{Bool, true, false, not, ◌&&◌}
+use mathlib.Core.List.{List, ◌++◌}
 use Prim.Native.Nat.{ℕ, zero, suc, ◌^◌, ◌≤◌, ◌<◌}
+use native.Mathlib.Numerals.{add-one}
 use native.Mathlib.Omega.{arith}
 use borrow.Author.Tests.{le-leb, lt-leb, not-false}
 use lib.Dec.{leb, leb→le}
+use lib.ListN.{length, get_or, take, drop}
+use lib.Seq.{take_all, drop-cons, get_or_at}
+use Rattle.std.specs.List.{list_all}
+use Rattle.std.proofs.lemmas.List.Folds.{list_all_more}
 use Rattle.numbers.specs.Below.{all_below}
+use Rattle.numbers.specs.Firsts.{firsts, written}
+use Rattle.numbers.proofs.Firsts.{length_firsts}
 use Rattle.numbers.proofs.Tests.{holds}
 use Rattle.numbers.proofs.Below.{all_below_lem, all_failed, all_more}
 use Rattle.figures.specs.Totals.{total_at, most_total, totals_fit, summed_at, would_pass}
@@ -49,3 +56,18 @@ fits_all totals h = all_up_to 24 (fit_at totals) (λ i l. le-leb (total_at total
 
 pub passes_none : (a b : List ℕ) → ((i : ℕ) → i < 24 → summed_at a b i ≤ 2 ^ 63) → would_pass a b ≡ false
 passes_none a b h = passes_not a b (all_up_to 24 (sum_fit_at a b) (λ i l. le-leb (summed_at a b i) most_total (h i l)))
+
+-- ---- the totals as the code goes through them
+all_first : (totals : List ℕ) (n : ℕ) → n ≤ length totals → list_all (λ (x : ℕ). leb x most_total) (take n totals) ≡ all_below n (fit_at totals)
+unfolding all_below
+all_first totals zero h = refl
+all_first totals (suc n) h =
+    rw (← add-one n) (list_all_more (λ (x : ℕ). leb x most_total) totals n 0 (omega arith)) ∙ ap (λ (b : Bool). b && fit_at totals n) (all_first totals n (omega arith))
+
+pub all_small : (totals : List ℕ) → length totals ≡ 24 → list_all (λ (x : ℕ). leb x most_total) totals ≡ all_below 24 (fit_at totals)
+all_small totals e = ap (list_all (λ (x : ℕ). leb x most_total)) (sym (take_all 24 totals (omega (arith, e)))) ∙ all_first totals 24 (omega (arith, e))
+
+-- a total that is not yet summed is as it was
+pub not_yet : (f : ℕ → ℕ) (n : ℕ) (totals : List ℕ) → n < length totals → get_or (written f n totals) n 0 ≡ get_or totals n 0
+not_yet f n totals h =
+    ap (λ (l : List ℕ). get_or (firsts f n ++ l) n 0) (drop-cons totals n 0 h) ∙ get_or_at (firsts f n) (get_or totals n 0) (drop (suc n) totals) 0 n (length_firsts f n)

@@ -1,10 +1,9 @@
 -- Document 02 l): what adding a recording answers, and the report after it; two reports merged; and what the functions promise. Assumes nothing.
-use Rattle.std.specs.Prelude.{◌≡◌, not, cond, ◌&&◌, List, ℕ, ◌^◌, eqb, ltb, ℤ, length}
+use Rattle.protocol.specs.declared.Refusal.{Refusal}
+use Rattle.std.specs.Prelude.{◌≡◌, not, cond, ◌&&◌, List, ℕ, ◌^◌, eqb, ltb, ℤ, length, Result, Ok, Err}
 use Rattle.shaping.specs.Rate.{rate_fit, samples_in_lem, rate_of}
 use Rattle.protocol.specs.Refusals.{PaperRefusal, bare, on_paper}
 use Rattle.figures.specs.declared.Report.{Report}
-use Rattle.figures.specs.declared.Added.{Added}
-use Rattle.figures.specs.declared.Added.TheVariants.{Refused, Done}
 use Rattle.figures.specs.declared.AfterAdd.{AfterAdd}
 use Rattle.figures.specs.Totals.{no_figures_lem, no_report, report_fit_lem, both, reports_pass}
 use Rattle.figures.specs.FullList.{figures_of}
@@ -13,9 +12,9 @@ pub data Paper : Type 0 where
   refusal : PaperRefusal → Paper
   done : Paper
 
-abbrev pub added_paper : Added → Paper
-added_paper (Refused why) = refusal (on_paper why)
-added_paper Done = done
+abbrev pub added_paper : Result Unit Refusal → Paper
+added_paper (Err why) = refusal (on_paper why)
+added_paper (Ok _) = done
 
 pub record Left : Type 0 where
   pub answer : Paper

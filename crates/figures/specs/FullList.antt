@@ -1,5 +1,5 @@
 -- Document 02 l): the figures of one recording, by its full list of offers. Assumes nothing.
-use Rattle.std.specs.Prelude.{Bool, not, cond, ◌&&◌, ◌||◌, List, [], ◌∷◌, ℕ, ◌+◌, eqb, leb, ℤ}
+use Rattle.std.specs.Prelude.{Bool, not, cond, ◌&&◌, ◌||◌, List, [], ◌∷◌, ℕ, ◌+◌, eqb, leb, ℤ, Float, Option, Some}
 use Rattle.numbers.specs.Firsts.{firsts}
 use Rattle.machine.specs.Runs.{Machine}
 use Rattle.shaping.specs.Rate.{Rate}
@@ -13,8 +13,6 @@ use Rattle.demodulator_run.specs.Rules.{History, start}
 use Rattle.listening.specs.Listener.{Listed, Rule, listener, offers, own_record}
 use Rattle.listening.specs.Verdict.{verdict}
 use Rattle.listening.specs.Rules.{rules_at}
-use Rattle.figures.specs.declared.Gain.{Gain}
-use Rattle.figures.specs.declared.Gain.TheVariants.{Of}
 use Rattle.figures.specs.declared.Figures.{Figures}
 use Rattle.figures.specs.Totals.{total_at, lesser, greater, no_figures_lem}
 
@@ -38,13 +36,13 @@ number_at_lem i [] = 0
 number_at_lem i (o ∷ later) = bit (is_counted o i) + number_at_lem i later
 
 -- ---- "the offers' smallest and largest gain", after those already seen
-unfoldable pub least_from : Gain → List Listed → Gain
+unfoldable pub least_from : Option Float → List Listed → Option Float
 least_from g [] = g
-least_from g (o ∷ later) = least_from (lesser g (Of o.due.gain)) later
+least_from g (o ∷ later) = least_from (lesser g (Some o.due.gain)) later
 
-unfoldable pub greatest_from : Gain → List Listed → Gain
+unfoldable pub greatest_from : Option Float → List Listed → Option Float
 greatest_from g [] = g
-greatest_from g (o ∷ later) = greatest_from (greater g (Of o.due.gain)) later
+greatest_from g (o ∷ later) = greatest_from (greater g (Some o.due.gain)) later
 
 -- ---- figures, and after them a list of offers and so many samples with the carrier held
 abbrev pub carrier_place : ℕ

@@ -1,12 +1,10 @@
 -- Document 02 l): what a report has, which one is fit, and two reports in one. Assumes nothing.
-use Rattle.std.specs.Prelude.{◌≡◌, Bool, true, false, not, cond, ◌&&◌, ◌||◌, List, ℕ, ◌+◌, ◌^◌, leb, get_or, replicate, Float}
+use Rattle.std.specs.Prelude.{◌≡◌, Bool, true, false, not, cond, ◌&&◌, ◌||◌, List, ℕ, ◌+◌, ◌^◌, leb, get_or, replicate, Float, Option, Some, None}
 use Rattle.std.specs.Float.{binary32}
 use Rattle.std.specs.Float.Ieee.{of_bits, lt, le}
 use Rattle.numbers.specs.Below.{all_below}
 use Rattle.numbers.specs.Firsts.{firsts}
 use Rattle.decode.specs.Correlator.{least_gain}
-use Rattle.figures.specs.declared.Gain.{Gain}
-use Rattle.figures.specs.declared.Gain.TheVariants.{Nothing, Of}
 use Rattle.figures.specs.declared.Figures.{Figures}
 use Rattle.figures.specs.declared.Report.{Report}
 
@@ -16,7 +14,7 @@ total_at totals i = get_or totals i 0
 
 -- "An empty run gives zeros and no gains."
 abbrev pub no_figures_lem : Figures
-no_figures_lem = record { totals = replicate 24 0; smallest = Nothing; largest = Nothing }
+no_figures_lem = record { totals = replicate 24 0; smallest = None; largest = None }
 
 abbrev pub no_report : Report
 no_report = record { at_48 = no_figures_lem; at_24 = no_figures_lem }
@@ -25,11 +23,11 @@ no_report = record { at_48 = no_figures_lem; at_24 = no_figures_lem }
 abbrev pub gain_fit : Float → Bool
 gain_fit gain = le least_gain gain && le gain (of_bits binary32 0x4974_2400)
 
-abbrev pub gains_fit : Gain → Gain → Bool
-gains_fit Nothing Nothing = true
-gains_fit Nothing (Of high) = false
-gains_fit (Of low) Nothing = false
-gains_fit (Of low) (Of high) = gain_fit low && gain_fit high
+abbrev pub gains_fit : Option Float → Option Float → Bool
+gains_fit None None = true
+gains_fit None (Some high) = false
+gains_fit (Some low) None = false
+gains_fit (Some low) (Some high) = gain_fit low && gain_fit high
 
 abbrev pub most_total : ℕ
 most_total = 2 ^ 63
@@ -55,15 +53,15 @@ unfoldable pub would_pass : List ℕ → List ℕ → Bool
 would_pass a b = not (all_below 24 (λ (i : ℕ). leb (summed_at a b i) most_total))
 
 -- "smallest and largest gain as exact f32"
-unfoldable pub lesser : Gain → Gain → Gain
-lesser Nothing b = b
-lesser (Of x) Nothing = Of x
-lesser (Of x) (Of y) = cond (lt y x) (Of y) (Of x)
+unfoldable pub lesser : Option Float → Option Float → Option Float
+lesser None b = b
+lesser (Some x) None = Some x
+lesser (Some x) (Some y) = cond (lt y x) (Some y) (Some x)
 
-unfoldable pub greater : Gain → Gain → Gain
-greater Nothing b = b
-greater (Of x) Nothing = Of x
-greater (Of x) (Of y) = cond (lt x y) (Of y) (Of x)
+unfoldable pub greater : Option Float → Option Float → Option Float
+greater None b = b
+greater (Some x) None = Some x
+greater (Some x) (Some y) = cond (lt x y) (Some y) (Some x)
 
 unfoldable pub plus : Figures → Figures → Figures
 plus a b = record {

@@ -10,20 +10,13 @@ mod offered;
 mod recording;
 mod sums;
 
-// A gain, where there is one.
-#[derive(Clone, Copy)]
-pub enum Gain {
-    Nothing,
-    Of(f32),
-}
-
 // The figures of one rate. In `totals`, by kind in the order LSF, BERT, Stream, Packet: places 0 to 3 the offers, 4 to 7 those accepted,
 // 8 to 11 those rejected. Places 12 to 22 the offers at ages 1 to 11; place 23 the samples after which, and after any reply, the carrier is held.
 #[derive(Clone, Copy)]
 pub struct Figures {
     pub totals: [u64; 24],
-    pub smallest: Gain,
-    pub largest: Gain,
+    pub smallest: Option<f32>,
+    pub largest: Option<f32>,
 }
 
 #[derive(Clone, Copy)]
@@ -33,14 +26,8 @@ pub struct Report {
 }
 
 #[derive(Clone, Copy)]
-pub enum Added {
-    Refused(Refusal),
-    Done,
-}
-
-#[derive(Clone, Copy)]
 pub struct AfterAdd {
-    pub answer: Added,
+    pub answer: Result<(), Refusal>,
     pub report: Report,
 }
 
@@ -63,19 +50,19 @@ impl Report {
     {
         if !shaping::is_rate(rate) {
             return AfterAdd {
-                answer: Added::Refused(Refusal::WrongRate),
+                answer: Err(Refusal::WrongRate),
                 report: self,
             };
         }
         if !sums::is_report_fit(self) {
             return AfterAdd {
-                answer: Added::Refused(Refusal::RecordUnfit),
+                answer: Err(Refusal::RecordUnfit),
                 report: self,
             };
         }
         if 9223372036854775808 < recording.len() {
             return AfterAdd {
-                answer: Added::Refused(Refusal::CountAtItsEnd),
+                answer: Err(Refusal::CountAtItsEnd),
                 report: self,
             };
         }
@@ -106,7 +93,7 @@ impl Report {
     {
         if !(sums::is_report_fit(self) & sums::is_report_fit(other)) {
             return AfterAdd {
-                answer: Added::Refused(Refusal::RecordUnfit),
+                answer: Err(Refusal::RecordUnfit),
                 report: self,
             };
         }

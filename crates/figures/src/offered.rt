@@ -5,21 +5,15 @@ ghost use Rattle.figures.specs.Totals.{no_figures_lem};
 ghost use Rattle.figures.specs.FullList.{reply_place, after};
 ghost use Rattle.figures.specs.Turn.{listed_as, offered_figures};
 
+use super::Figures;
 use super::sums::no_figures;
-use super::{Figures, Gain};
-use demodulator::{Heard, Offer, Reply};
-use listening::Settled;
-use protocol::Kind;
+use demodulator::{Offer, Reply};
+use protocol::{Kind, Refusal};
 
 fn place_kind(kind: Kind) -> usize
     ensures { result ≡ rank kind }
 {
-    match kind {
-        Kind::Lsf => 0,
-        Kind::Bert => 1,
-        Kind::Stream => 2,
-        Kind::Packet => 3,
-    }
+    kind as usize
 }
 
 fn place_reply(reply: Reply) -> usize
@@ -48,21 +42,21 @@ fn count_offer(offer: Offer, reply: Reply) -> Figures
     }
     Figures {
         totals,
-        smallest: Gain::Of(offer.gain),
-        largest: Gain::Of(offer.gain),
+        smallest: Some(offer.gain),
+        largest: Some(offer.gain),
     }
 }
 
 // An answer with the reply that it was given: one offer's figures, or none.
-pub(crate) fn count_answer(answer: Heard, settled: Settled) -> Figures
+#[tactic(auto, unfolding(crate::specs::Turn::offered_figures))]
+pub(crate) fn count_answer(
+    answer: Result<Option<Offer>, Refusal>,
+    settled: Option<Reply>,
+) -> Figures
     ensures { result ≡ offered_figures answer settled }
 {
-    match answer {
-        Heard::Refused(_) => no_figures(),
-        Heard::Quiet => no_figures(),
-        Heard::Offered(offer) => match settled {
-            Settled::Nothing => no_figures(),
-            Settled::By(reply) => count_offer(offer, reply),
-        },
+    match (answer, settled) {
+        (Ok(Some(offer)), Some(reply)) => count_offer(offer, reply),
+        _ => no_figures(),
     }
 }

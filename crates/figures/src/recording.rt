@@ -10,12 +10,6 @@ use super::sums::{add_figures, no_figures};
 use super::{Figures, hear};
 use demodulator::SoftDemodulator;
 
-fn fewer(a: usize, b: usize) -> usize
-    ensures { (result ≤ a) × (result ≤ b) × (1 ≤ a → 1 ≤ b → 1 ≤ result) }
-{
-    if a < b { a } else { b }
-}
-
 // How many samples to give, of those that are left: no more than rest; or than `most`, and than the timer lasts where it lasts.
 fn count_next(demodulator: SoftDemodulator, left: usize, most: usize) -> usize
     requires { (1 ≤ left) × (1 ≤ most) }
@@ -30,7 +24,7 @@ fn count_next(demodulator: SoftDemodulator, left: usize, most: usize) -> usize
         }
         return rest as usize;
     }
-    let few = fewer(left, most);
+    let few = left.min(most);
     let timer = control.dcd;
     let lasts = hear::lasts(timer, control.sample);
     if lasts == 0 {
@@ -52,21 +46,22 @@ pub(crate) fn count_recording(rate: u32, samples: &[i16]) -> Figures
     let mut figures = no_figures();
     let mut fed: usize = 0;
     let mut most = span;
+    // A turn takes as many samples as it hears, so no range gives the next one's place.
     while fed < samples.len() {
         let n = count_next(left, samples.len() - fed, most);
         let end = fed + n;
         let turn = hear::take_turn(left, &samples[fed..end]);
-        if turn.known {
-            if turn.fed == 0 {
-                return figures;
+        match turn.figures {
+            Some(more) => {
+                if turn.fed == 0 {
+                    return figures;
+                }
+                figures = add_figures(figures, more);
+                left = turn.demodulator;
+                fed += turn.fed;
+                most = span;
             }
-            let more = turn.figures;
-            figures = add_figures(figures, more);
-            left = turn.demodulator;
-            fed += turn.fed;
-            most = span;
-        } else {
-            most = n / 2;
+            None => most = n / 2,
         }
     }
     figures

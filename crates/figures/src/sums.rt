@@ -3,7 +3,7 @@ ghost use Rattle.std.specs.Prelude.{◌≡◌, true, false};
 ghost use Rattle.figures.specs.Totals.{no_figures_lem, gain_fit, gains_fit, totals_fit, figures_fit, report_fit_lem, would_pass, summed, lesser, greater, plus, Fit};
 ghost use Rattle.figures.specs.Answers.{JoinSays};
 
-use super::{Added, AfterAdd, Figures, Gain, Report};
+use super::{AfterAdd, Figures, Report};
 use protocol::Refusal;
 
 const MOST: u64 = 9223372036854775808;
@@ -13,8 +13,8 @@ pub(crate) fn no_figures() -> Figures
 {
     Figures {
         totals: [0; 24],
-        smallest: Gain::Nothing,
-        largest: Gain::Nothing,
+        smallest: None,
+        largest: None,
     }
 }
 
@@ -25,32 +25,20 @@ fn is_gain_fit(gain: f32) -> bool
 }
 
 // None, or both and each within its limits.
-fn is_pair_fit(smallest: Gain, largest: Gain) -> bool
+fn is_pair_fit(smallest: Option<f32>, largest: Option<f32>) -> bool
     ensures { result ≡ gains_fit smallest largest }
 {
-    match smallest {
-        Gain::Nothing => match largest {
-            Gain::Nothing => true,
-            Gain::Of(_) => false,
-        },
-        Gain::Of(low) => match largest {
-            Gain::Nothing => false,
-            Gain::Of(high) => is_gain_fit(low) & is_gain_fit(high),
-        },
+    match (smallest, largest) {
+        (None, None) => true,
+        (Some(low), Some(high)) => is_gain_fit(low) & is_gain_fit(high),
+        _ => false,
     }
 }
 
 fn has_fit_totals(totals: [u64; 24]) -> bool
     ensures { result ≡ totals_fit totals }
 {
-    let mut i: usize = 0;
-    while i < 24 {
-        if MOST < totals[i] {
-            return false;
-        }
-        i += 1;
-    }
-    true
+    totals.iter().all(|total| *total <= MOST)
 }
 
 fn is_fit(figures: Figures) -> bool
@@ -62,6 +50,7 @@ fn is_fit(figures: Figures) -> bool
     has_fit_totals(totals) & is_pair_fit(smallest, largest)
 }
 
+#[tactic(auto, unfolding(crate::specs::Totals::report_fit_lem))]
 pub(crate) fn is_report_fit(report: Report) -> bool
     ensures { result ≡ report_fit_lem report }
 {
@@ -76,13 +65,11 @@ fn is_too_large(a: [u64; 24], b: [u64; 24]) -> bool
     requires { (totals_fit a ≡ true) × (totals_fit b ≡ true) }
     ensures { result ≡ would_pass a b }
 {
-    let mut i: usize = 0;
-    while i < 24 {
-        let room = MOST - a[i];
-        if room < b[i] {
+    for (total, more) in a.iter().zip(b.iter()) {
+        let room = MOST - *total;
+        if room < *more {
             return true;
         }
-        i += 1;
     }
     false
 }
@@ -92,40 +79,35 @@ fn sum_totals(a: [u64; 24], b: [u64; 24]) -> [u64; 24]
     ensures { result ≡ summed a b }
 {
     let mut both = a;
-    let mut i: usize = 0;
-    while i < 24 {
-        let more = b[i];
-        let total = a[i] + more;
-        both[i] = total;
-        i += 1;
+    for (i, total) in both.iter_mut().enumerate() {
+        *total += b[i];
     }
     both
 }
 
-fn lesser_gain(a: Gain, b: Gain) -> Gain
+#[tactic(auto, unfolding(crate::specs::Totals::lesser))]
+fn lesser_gain(a: Option<f32>, b: Option<f32>) -> Option<f32>
     ensures { result ≡ lesser a b }
 {
-    match a {
-        Gain::Nothing => b,
-        Gain::Of(x) => match b {
-            Gain::Nothing => a,
-            Gain::Of(y) => if y < x { b } else { a },
-        },
+    match (a, b) {
+        (None, _) => b,
+        (_, None) => a,
+        (Some(x), Some(y)) => if y < x { b } else { a },
     }
 }
 
-fn greater_gain(a: Gain, b: Gain) -> Gain
+#[tactic(auto, unfolding(crate::specs::Totals::greater))]
+fn greater_gain(a: Option<f32>, b: Option<f32>) -> Option<f32>
     ensures { result ≡ greater a b }
 {
-    match a {
-        Gain::Nothing => b,
-        Gain::Of(x) => match b {
-            Gain::Nothing => a,
-            Gain::Of(y) => if x < y { b } else { a },
-        },
+    match (a, b) {
+        (None, _) => b,
+        (_, None) => a,
+        (Some(x), Some(y)) => if x < y { b } else { a },
     }
 }
 
+#[tactic(auto, unfolding(crate::specs::Totals::plus))]
 pub(crate) fn add_figures(a: Figures, b: Figures) -> Figures
     requires { Fit a b }
     ensures { result ≡ plus a b }
@@ -159,20 +141,20 @@ pub(crate) fn join(a: Report, b: Report) -> AfterAdd
     let second_b = b_24.totals;
     if is_too_large(first_a, first_b) {
         return AfterAdd {
-            answer: Added::Refused(Refusal::TotalTooLarge),
+            answer: Err(Refusal::TotalTooLarge),
             report: a,
         };
     }
     if is_too_large(second_a, second_b) {
         return AfterAdd {
-            answer: Added::Refused(Refusal::TotalTooLarge),
+            answer: Err(Refusal::TotalTooLarge),
             report: a,
         };
     }
     let at_48 = add_figures(a_48, b_48);
     let at_24 = add_figures(a_24, b_24);
     AfterAdd {
-        answer: Added::Done,
+        answer: Ok(()),
         report: Report { at_48, at_24 },
     }
 }

@@ -23,7 +23,6 @@ use Rattle.protocol.specs.declared.Kind.TheVariants.{Lsf, Bert, Stream, Packet}
 use Rattle.search.specs.declared.Reply.{Reply}
 use Rattle.search.specs.declared.Reply.TheVariants.{Accepted, Rejected}
 use Rattle.search.specs.Search.{rank}
-use Rattle.demodulator.specs.Singles.{reply}
 use Rattle.demodulator_run.specs.Rules.{start}
 use Rattle.listening.specs.Listener.{Listed, offers}
 use Rattle.listening.specs.Verdict.{verdict}

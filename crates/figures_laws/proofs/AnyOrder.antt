@@ -1,4 +1,5 @@
 -- "Where none is refused their order changes nothing", gains too; and if none is refused in one order, none is in any other. Assumes nothing.
+use Rattle.std.specs.Prelude.{None}
 use mathlib.Core.Path.{◌≡◌, refl, sym, ap, subst, ◌∙◌}
 use mathlib.Core.Bool.{Bool, true, false}
 use mathlib.Core.List.{List, Permᴰ}
@@ -16,7 +17,6 @@ use Rattle.demodulator_run.proofs.Whole.{stands_start}
 use Rattle.listening.specs.Listener.{offers}
 use Rattle.listening.specs.Verdict.{verdict}
 use Rattle.listening.specs.Rules.{rules_at}
-use Rattle.figures.specs.declared.Gain.TheVariants.{Nothing}
 use Rattle.figures.specs.declared.Report.{Report}
 use Rattle.figures.specs.Totals.{report_fit_lem, both}
 use Rattle.figures.specs.FullList.{after, figures_of}
@@ -35,7 +35,7 @@ figures_good rate fit xs g =
     let R : Rate = rate_of rate in
     let w = offers_within R (rate_facts rate fit) verdict xs g (fresh_at R) start (stands_start R (rate_facts rate fit)) in
     let s = offers_single R verdict xs start tt in
-    record { small = leasts_good (offers (rules_at R) verdict start xs) w s Nothing tt; large = greatests_good (offers (rules_at R) verdict start xs) w s Nothing tt }
+    record { small = leasts_good (offers (rules_at R) verdict start xs) w s None tt; large = greatests_good (offers (rules_at R) verdict start xs) w s None tt }
 
 pub report_good : (x : Recording) → Given x → Fair x → GoodReport (report_in_lem x)
 report_good x g f =

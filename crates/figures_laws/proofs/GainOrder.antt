@@ -1,4 +1,5 @@
 -- The smaller and the larger of two gains, in either order, and of three in either grouping. A gain is a 32-bit float above zero. Assumes nothing.
+use Rattle.std.specs.Prelude.{Option, Some, None}
 use mathlib.Core.Path.{◌≡◌, refl, sym, ap, subst, ◌∙◌}
 use mathlib.Core.Logic.{inl, inr}
 use mathlib.Core.Bool.{Bool, true, false, cond, true≢false}
@@ -14,8 +15,6 @@ use Rattle.numbers.proofs.Tests.{holds, fails}
 use Rattle.numbers.proofs.Order.{lt→le, nlt→le, not_lt, le_trans}
 use Rattle.numbers.proofs.Unique.{level_same}
 use Rattle.decode.specs.Correlator.{least_gain}
-use Rattle.figures.specs.declared.Gain.{Gain}
-use Rattle.figures.specs.declared.Gain.TheVariants.{Nothing, Of}
 use Rattle.figures.specs.Totals.{gain_fit, gains_fit, lesser, greater}
 use Rattle.figures.proofs.OfferGains.{left_fit, right_fit}
 use Rattle.figures_laws.specs.Typed.{Proper, GoodGain, SingleGain}
@@ -88,68 +87,68 @@ choosing_down = record {
   back = λ x y z p q r a b. lt_back z y x r q p b a;
 }
 
-chosen : (Float → Float → Bool) → Gain → Gain → Gain
-chosen comes Nothing b = b
-chosen comes (Of x) Nothing = Of x
-chosen comes (Of x) (Of y) = cond (comes y x) (Of y) (Of x)
+chosen : (Float → Float → Bool) → Option Float → Option Float → Option Float
+chosen comes None b = b
+chosen comes (Some x) None = Some x
+chosen comes (Some x) (Some y) = cond (comes y x) (Some y) (Some x)
 
 module _ (comes : Float → Float → Bool) (L : Choosing comes) where
-  chosen_swap : (a b : Gain) → GoodGain a → GoodGain b → chosen comes a b ≡ chosen comes b a
+  chosen_swap : (a b : Option Float) → GoodGain a → GoodGain b → chosen comes a b ≡ chosen comes b a
   unfolding chosen
-  chosen_swap Nothing Nothing p q = refl
-  chosen_swap Nothing (Of y) p q = refl
-  chosen_swap (Of x) Nothing p q = refl
-  chosen_swap (Of x) (Of y) p q = by_test (comes y x) refl (comes x y) refl
+  chosen_swap None None p q = refl
+  chosen_swap None (Some y) p q = refl
+  chosen_swap (Some x) None p q = refl
+  chosen_swap (Some x) (Some y) p q = by_test (comes y x) refl (comes x y) refl
     where
-      by_test : (s : Bool) → comes y x ≡ s → (t : Bool) → comes x y ≡ t → cond s (Of y) (Of x) ≡ cond t (Of x) (Of y)
+      by_test : (s : Bool) → comes y x ≡ s → (t : Bool) → comes x y ≡ t → cond s (Some y) (Some x) ≡ cond t (Some x) (Some y)
       by_test true a true b = absurd (true≢false (sym b ∙ L.once x y p q a))
       by_test true a false b = refl
       by_test false a true b = refl
-      by_test false a false b = ap Of (L.same x y p q a b)
+      by_test false a false b = ap Some (L.same x y p q a b)
 
-  chosen_none : (a : Gain) → chosen comes a Nothing ≡ a
+  chosen_none : (a : Option Float) → chosen comes a None ≡ a
   unfolding chosen
-  chosen_none Nothing = refl
-  chosen_none (Of x) = refl
+  chosen_none None = refl
+  chosen_none (Some x) = refl
 
-  chosen_three : (a b c : Gain) → GoodGain a → GoodGain b → GoodGain c → chosen comes (chosen comes a b) c ≡ chosen comes a (chosen comes b c)
+  chosen_three : (a b c : Option Float) → GoodGain a → GoodGain b → GoodGain c → chosen comes (chosen comes a b) c ≡ chosen comes a (chosen comes b c)
   unfolding chosen
-  chosen_three Nothing b c p q r = refl
-  chosen_three (Of x) Nothing c p q r = refl
-  chosen_three (Of x) (Of y) Nothing p q r = chosen_none (cond (comes y x) (Of y) (Of x))
-  chosen_three (Of x) (Of y) (Of z) p q r = by_test (comes y x) refl (comes z y) refl
+  chosen_three None b c p q r = refl
+  chosen_three (Some x) None c p q r = refl
+  chosen_three (Some x) (Some y) None p q r = chosen_none (cond (comes y x) (Some y) (Some x))
+  chosen_three (Some x) (Some y) (Some z) p q r = by_test (comes y x) refl (comes z y) refl
     where
       by_test : (s : Bool) → comes y x ≡ s → (t : Bool) → comes z y ≡ t
-          → chosen comes (cond s (Of y) (Of x)) (Of z) ≡ chosen comes (Of x) (cond t (Of z) (Of y))
-      by_test true a true b = ap (λ (k : Bool). cond k (Of z) (Of y)) b ∙ sym (ap (λ (k : Bool). cond k (Of z) (Of x)) (L.on x y z p q r a b))
-      by_test true a false b = ap (λ (k : Bool). cond k (Of z) (Of y)) b ∙ sym (ap (λ (k : Bool). cond k (Of y) (Of x)) a)
+          → chosen comes (cond s (Some y) (Some x)) (Some z) ≡ chosen comes (Some x) (cond t (Some z) (Some y))
+      by_test true a true b = ap (λ (k : Bool). cond k (Some z) (Some y)) b ∙ sym (ap (λ (k : Bool). cond k (Some z) (Some x)) (L.on x y z p q r a b))
+      by_test true a false b = ap (λ (k : Bool). cond k (Some z) (Some y)) b ∙ sym (ap (λ (k : Bool). cond k (Some y) (Some x)) a)
       by_test false a true b = refl
       by_test false a false b =
-          ap (λ (k : Bool). cond k (Of z) (Of x)) (L.back x y z p q r a b) ∙ sym (ap (λ (k : Bool). cond k (Of y) (Of x)) a)
+          ap (λ (k : Bool). cond k (Some z) (Some x)) (L.back x y z p q r a b) ∙ sym (ap (λ (k : Bool). cond k (Some y) (Some x)) a)
 
-  chosen_good : (a b : Gain) → GoodGain a → GoodGain b → GoodGain (chosen comes a b)
+  chosen_good : (a b : Option Float) → GoodGain a → GoodGain b → GoodGain (chosen comes a b)
   unfolding chosen
-  chosen_good Nothing b p q = q
-  chosen_good (Of x) Nothing p q = p
-  chosen_good (Of x) (Of y) p q = by_test (comes y x)
+  chosen_good None b p q = q
+  chosen_good (Some x) None p q = p
+  chosen_good (Some x) (Some y) p q = by_test (comes y x)
     where
-      by_test : (s : Bool) → GoodGain (cond s (Of y) (Of x))
+      by_test : (s : Bool) → GoodGain (cond s (Some y) (Some x))
       by_test true = q
       by_test false = p
 
-lesser_is : (a b : Gain) → lesser a b ≡ chosen up a b
+lesser_is : (a b : Option Float) → lesser a b ≡ chosen up a b
 unfolding lesser chosen
-lesser_is Nothing b = refl
-lesser_is (Of x) Nothing = refl
-lesser_is (Of x) (Of y) = refl
+lesser_is None b = refl
+lesser_is (Some x) None = refl
+lesser_is (Some x) (Some y) = refl
 
-greater_is : (a b : Gain) → greater a b ≡ chosen down a b
+greater_is : (a b : Option Float) → greater a b ≡ chosen down a b
 unfolding greater chosen
-greater_is Nothing b = refl
-greater_is (Of x) Nothing = refl
-greater_is (Of x) (Of y) = refl
+greater_is None b = refl
+greater_is (Some x) None = refl
+greater_is (Some x) (Some y) = refl
 
-module _ (a b : Gain) (p : GoodGain a) (q : GoodGain b) where
+module _ (a b : Option Float) (p : GoodGain a) (q : GoodGain b) where
   pub lesser_swap : lesser a b ≡ lesser b a
   lesser_swap = lesser_is a b ∙ chosen_swap up choosing_up a b p q ∙ sym (lesser_is b a)
 
@@ -162,21 +161,21 @@ module _ (a b : Gain) (p : GoodGain a) (q : GoodGain b) where
   pub greater_good : GoodGain (greater a b)
   greater_good = subst GoodGain (sym (greater_is a b)) (chosen_good down choosing_down a b p q)
 
-  module _ (c : Gain) (r : GoodGain c) where
+  module _ (c : Option Float) (r : GoodGain c) where
     pub lesser_three : lesser (lesser a b) c ≡ lesser a (lesser b c)
     lesser_three =
-        lesser_is (lesser a b) c ∙ ap (λ (g : Gain). chosen up g c) (lesser_is a b) ∙ chosen_three up choosing_up a b c p q r
+        lesser_is (lesser a b) c ∙ ap (λ (g : Option Float). chosen up g c) (lesser_is a b) ∙ chosen_three up choosing_up a b c p q r
         ∙ ap (chosen up a) (sym (lesser_is b c)) ∙ sym (lesser_is a (lesser b c))
 
     pub greater_three : greater (greater a b) c ≡ greater a (greater b c)
     greater_three =
-        greater_is (greater a b) c ∙ ap (λ (g : Gain). chosen down g c) (greater_is a b) ∙ chosen_three down choosing_down a b c p q r
+        greater_is (greater a b) c ∙ ap (λ (g : Option Float). chosen down g c) (greater_is a b) ∙ chosen_three down choosing_down a b c p q r
         ∙ ap (chosen down a) (sym (greater_is b c)) ∙ sym (greater_is a (greater b c))
 
 -- ---- the gains of fit figures
-pub gains_good : (a b : Gain) → gains_fit a b ≡ true → SingleGain a → SingleGain b → GoodGain a × GoodGain b
-gains_good Nothing Nothing e s t = (tt, tt)
-gains_good Nothing (Of y) e s t = absurd (true≢false (sym e))
-gains_good (Of x) Nothing e s t = absurd (true≢false (sym e))
-gains_good (Of x) (Of y) e s t =
+pub gains_good : (a b : Option Float) → gains_fit a b ≡ true → SingleGain a → SingleGain b → GoodGain a × GoodGain b
+gains_good None None e s t = (tt, tt)
+gains_good None (Some y) e s t = absurd (true≢false (sym e))
+gains_good (Some x) None e s t = absurd (true≢false (sym e))
+gains_good (Some x) (Some y) e s t =
     (record { single = s; above = fit_positive x (left_fit (gain_fit x) (gain_fit y) e) }, record { single = t; above = fit_positive y (right_fit (gain_fit x) (gain_fit y) e) })

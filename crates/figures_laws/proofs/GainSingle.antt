@@ -1,7 +1,7 @@
 -- Each offer's gain is a 32-bit float: a quotient that the correlator rounded. Over the rules, for any samples. Assumes nothing.
+use Rattle.std.specs.Prelude.{Some, None, Option}
 use mathlib.Core.Bool.{false, not}
 use mathlib.Core.List.{List, [], ◌∷◌, ◌++◌, map, flat_map}
-use mathlib.Core.Option.{Option, none, some}
 use Prim.Native.Nat.{ℕ, ◌^◌}
 use lib.Dec.{T, ltb, eqb}
 use lib.IntN.{ℤ}
@@ -17,8 +17,6 @@ use Rattle.protocol.specs.declared.SyncBurst.{SyncBurst}
 use Rattle.protocol.specs.declared.SyncBurst.TheVariants.{Frame, Preamble, EndOfTransmission}
 use Rattle.decode.specs.Correlator.{zero_unsigned, highest, lowest, gain_of, correlation, matches}
 use Rattle.search.specs.declared.Waiting.{Waiting}
-use Rattle.search.specs.declared.Wait.{Wait}
-use Rattle.search.specs.declared.Wait.TheVariants.{Free, Due}
 use Rattle.search.specs.declared.Control.{Control}
 use Rattle.search.specs.declared.Turn.{Turn}
 use Rattle.search.specs.declared.Reply.{Reply}
@@ -38,8 +36,8 @@ abbrev pub Single : Listed → Type 0
 Single o = T (fits binary32 o.due.gain)
 
 abbrev HeldSingle : Option TakenBurst → Type 0
-HeldSingle none = Unit {0}
-HeldSingle (some t) = T (fits binary32 t.gain)
+HeldSingle None = Unit {0}
+HeldSingle (Some t) = T (fits binary32 t.gain)
 
 abbrev pub Keeps : Control → Type 0
 Keeps c = HeldSingle (held_in c.candidate)
@@ -58,13 +56,13 @@ module _ (p : ℕ) (v : ℕ → Float) where
   matched_single : (o : Option TakenBurst) → HeldSingle o → (new : TakenBurst) → T (fits binary32 new.gain) → (c : Control)
       → Keeps (matched o new c)
   unfolding matched
-  matched_single none K new f c = f
-  matched_single (some t) K new f c = by_test Keeps (lt t.diff new.diff) _ _ (λ e. K) (λ e. f)
+  matched_single None K new f c = f
+  matched_single (Some t) K new f c = by_test Keeps (lt t.diff new.diff) _ _ (λ e. K) (λ e. f)
 
   missed_single : (kind : Kind) (o : Option TakenBurst) (c : Control) → Keeps c → Keeps (missed p kind o c)
   unfolding missed
-  missed_single kind none c K = K
-  missed_single kind (some t) c K = by_test Keeps (same_kind t.kind kind) _ _ (λ e. K) (λ e. K)
+  missed_single kind None c K = K
+  missed_single kind (Some t) c K = by_test Keeps (same_kind t.kind kind) _ _ (λ e. K) (λ e. K)
 
   tried_single : (kind : Kind) (c : Control) → Keeps c → Keeps (tried p v kind c)
   unfolding tried
@@ -85,13 +83,13 @@ module _ (p : ℕ) (v : ℕ → Float) where
 
   due_single : (o : Option TakenBurst) → HeldSingle o → (w : Waiting) (c : Control) → Keeps c → OutSingle (comes_to p v (due_turn o w c))
   unfolding due_turn
-  due_single none f w c K = searched_single c K
-  due_single (some t) f w c K = (f, K)
+  due_single None f w c K = searched_single c K
+  due_single (Some t) f w c K = (f, K)
 
-  waited_single : (wait : Wait) (c : Control) → Keeps c → OutSingle (comes_to p v (waited_turn wait c))
+  waited_single : (wait : Option Waiting) (c : Control) → Keeps c → OutSingle (comes_to p v (waited_turn wait c))
   unfolding waited_turn
-  waited_single Free c K = searched_single c K
-  waited_single (Due w) c K =
+  waited_single None c K = searched_single c K
+  waited_single (Some w) c K =
       by_test (λ (o : Turn). OutSingle (comes_to p v o)) (ltb 1 w.left) _ _ (λ _. K) (λ _. due_single (held_by c) K w (freed c) tt)
 
   sampled_single : (c : Control) → Keeps c → OutSingle (sampled p v c)

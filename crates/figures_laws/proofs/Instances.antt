@@ -1,5 +1,6 @@
 -- Recordings and reports that meet what the theorems ask: two recordings of 6,560 and 3,280 samples at the two rates, in either order, and
 -- reports at the limits of gains and totals. Assumes nothing.
+use Rattle.std.specs.Prelude.{Some}
 use mathlib.Core.Path.{◌≡◌, refl}
 use mathlib.Core.Bool.{true, false}
 use mathlib.Core.List.Permᴰ
@@ -18,11 +19,8 @@ use Rattle.numbers.specs.Firsts.{firsts}
 use Rattle.machine.specs.Runs.{Each}
 use Rattle.shaping.specs.Rate.{rate_of}
 use Rattle.search.specs.declared.Candidate.TheVariants.{Nothing}
-use Rattle.search.specs.declared.Wait.TheVariants.{Due}
-use Rattle.search.specs.declared.Timer.TheVariants.{Until}
 use Rattle.search.specs.declared.Control.{Control}
 use Rattle.search.specs.Turn.{sampled}
-use Rattle.figures.specs.declared.Gain.TheVariants.{Of}
 use Rattle.figures.specs.declared.Figures.{Figures}
 use Rattle.figures.specs.declared.Report.{Report}
 use Rattle.figures.specs.Totals.{total_at, no_figures_lem, no_report, totals_fit, report_fit_lem, would_pass, summed, lesser, greater, plus, both}
@@ -105,7 +103,7 @@ ages_all_meets = ages_all 24000 refl (replicate 3280 (pos 1)) (each_hum 3280)
 
 -- ---- reports with gains: the smallest and the largest that there are, and totals of which two sum to the limit
 abbrev with_gains : ℕ → ℕ → Figures
-with_gains n bits = record { totals = replicate 24 n; smallest = Of (of_bits binary32 bits); largest = Of (of_bits binary32 bits) }
+with_gains n bits = record { totals = replicate 24 n; smallest = Some (of_bits binary32 bits); largest = Some (of_bits binary32 bits) }
 
 typed_gains : (n bits : ℕ) → Typed (with_gains n bits)
 typed_gains n bits = record { size = length-replicate 24 n; low = of_bits-fits binary32 bits; high = of_bits-fits binary32 bits }
@@ -153,7 +151,7 @@ merge_adds_meets = merge_adds (hum 48000 6560) (each_hum 6560) hum_48 loud
 
 -- ---- a control one sample before its frame is due, with the least timer that outlasts the wait
 abbrev waiting : Control
-waiting = record { candidate = Nothing; wait = Due (record { left = 1; age = 1; replaced = false }); dcd = Until 2002; owed = false; sample = 2000 }
+waiting = record { candidate = Nothing; wait = Some (record { left = 1; age = 1; replaced = false }); dcd = Some 2002; owed = false; sample = 2000 }
 
 abbrev silent : ℕ → Float
 silent i = of_bits binary32 0

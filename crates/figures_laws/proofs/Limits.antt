@@ -1,4 +1,5 @@
 -- Which reports are fit, at each limit and beside it; sums at the limit. Computed. Assumes nothing.
+use Rattle.std.specs.Prelude.{Some, None}
 use mathlib.Core.Path.{◌≡◌, refl}
 use mathlib.Core.Bool.{Bool, true, false, not}
 use mathlib.Core.List.{List}
@@ -6,7 +7,6 @@ use Prim.Native.Nat.{ℕ, ◌+◌, ◌-◌, ◌^◌}
 use lib.ListN.{replicate, set}
 use lib.Ieee.{Float, binary32, of_bits, le}
 use Rattle.numbers.specs.Below.{all_below}
-use Rattle.figures.specs.declared.Gain.TheVariants.{Nothing, Of}
 use Rattle.figures.specs.Totals.{gain_fit, gains_fit, totals_fit, would_pass}
 
 -- a total of each place
@@ -39,8 +39,8 @@ abbrev pub high : Float
 high = of_bits binary32 0x4974_2400
 
 -- one without the other is unfit; smallest above largest is fit
-pub gains_together : (gains_fit Nothing Nothing ≡ true) × (gains_fit (Of low) Nothing ≡ false) × (gains_fit Nothing (Of high) ≡ false)
-    × (gains_fit (Of low) (Of high) ≡ true) × (gains_fit (Of high) (Of low) ≡ true)
+pub gains_together : (gains_fit None None ≡ true) × (gains_fit (Some low) None ≡ false) × (gains_fit None (Some high) ≡ false)
+    × (gains_fit (Some low) (Some high) ≡ true) × (gains_fit (Some high) (Some low) ≡ true)
 unfolding of_bits le
 gains_together = (refl, refl, refl, refl, refl)
 

@@ -1,4 +1,5 @@
 -- Two figures or reports in one, in either order; three in either grouping; with an empty one. Assumes nothing.
+use Rattle.std.specs.Prelude.{Float, Option, Some}
 use mathlib.Core.Path.{◌≡◌, refl, sym, ap, ◌∙◌}
 use mathlib.Core.Bool.{true}
 use mathlib.Core.List.{List, [], ◌∷◌}
@@ -10,8 +11,6 @@ use Rattle.numbers.specs.Firsts.{firsts}
 use Rattle.numbers.proofs.Firsts.{firsts_same, firsts_at, length_firsts}
 use Rattle.machine.specs.Runs.{Each}
 use Rattle.listening.specs.Listener.{Listed}
-use Rattle.figures.specs.declared.Gain.{Gain}
-use Rattle.figures.specs.declared.Gain.TheVariants.{Of}
 use Rattle.figures.specs.declared.Figures.{Figures}
 use Rattle.figures.specs.declared.Report.{Report}
 use Rattle.figures.specs.Totals.{total_at, no_figures_lem, no_report, gains_fit, summed_at, summed, lesser, greater, plus, both, totals_fit, figures_fit, report_fit_lem}
@@ -99,17 +98,17 @@ pub both_turned : (r a b : Report) → GoodReport r → GoodReport a → GoodRep
 both_turned r a b p q s = both_three r a p q b s ∙ ap (both r) (both_swap a b q s) ∙ sym (both_three r b p s a q)
 
 -- ---- gains of offers
-pub leasts_good : (list : List Listed) → Each GainWithin list → Each Single list → (g : Gain) → GoodGain g → GoodGain (least_from g list)
+pub leasts_good : (list : List Listed) → Each GainWithin list → Each Single list → (g : Option Float) → GoodGain g → GoodGain (least_from g list)
 unfolding least_from Each
 leasts_good [] w s g p = p
 leasts_good (o ∷ list) w s g p =
-    leasts_good list w.1 s.1 (lesser g (Of o.due.gain)) (lesser_good g (Of o.due.gain) p (record { single = s.0; above = fit_positive o.due.gain w.0 }))
+    leasts_good list w.1 s.1 (lesser g (Some o.due.gain)) (lesser_good g (Some o.due.gain) p (record { single = s.0; above = fit_positive o.due.gain w.0 }))
 
-pub greatests_good : (list : List Listed) → Each GainWithin list → Each Single list → (g : Gain) → GoodGain g → GoodGain (greatest_from g list)
+pub greatests_good : (list : List Listed) → Each GainWithin list → Each Single list → (g : Option Float) → GoodGain g → GoodGain (greatest_from g list)
 unfolding greatest_from Each
 greatests_good [] w s g p = p
 greatests_good (o ∷ list) w s g p =
-    greatests_good list w.1 s.1 (greater g (Of o.due.gain)) (greater_good g (Of o.due.gain) p (record { single = s.0; above = fit_positive o.due.gain w.0 }))
+    greatests_good list w.1 s.1 (greater g (Some o.due.gain)) (greater_good g (Some o.due.gain) p (record { single = s.0; above = fit_positive o.due.gain w.0 }))
 
 -- ---- a fit report of its type
 typed_figures : (f : Figures) → Typed f → figures_fit f ≡ true → Good f

@@ -1,5 +1,5 @@
 -- A month of at most 2^63 samples is never refused: each total is at most the number of samples. Assumes nothing.
-use mathlib.Core.Path.{◌≡◌, refl, sym, ap, subst, ◌∙◌}
+use mathlib.Core.Path.{◌≡◌, refl, sym, ap, subst}
 use mathlib.Core.Bool.{Bool, true, false}
 use mathlib.Core.List.{List, [], ◌∷◌}
 use Prim.Native.Nat.{ℕ, ◌+◌, ◌^◌, ◌≤◌, ◌<◌}
@@ -10,7 +10,6 @@ use Rattle.shaping.specs.Rate.{rate_of}
 use Rattle.demodulator_run.specs.Rules.{start}
 use Rattle.listening.specs.Verdict.{verdict}
 use Rattle.listening.specs.Rules.{rules_at}
-use Rattle.figures.specs.declared.Figures.{Figures}
 use Rattle.figures.specs.declared.Report.{Report}
 use Rattle.figures.specs.Totals.{total_at, no_figures_lem, no_report, report_fit_lem, both, reports_pass}
 use Rattle.figures.specs.FullList.{history_held, figures_of}

@@ -1,18 +1,16 @@
 -- What the type of a report says of it, and what three of them merged come to. Assumes nothing.
-use Rattle.std.specs.Prelude.{◌≡◌, ℕ, T, length, Float}
+use Rattle.std.specs.Prelude.{◌≡◌, T, length, Float, Option, Some, None}
 use Rattle.std.specs.Float.{binary32}
 use Rattle.std.specs.Float.Ieee.{fits}
 use Rattle.std.specs.Float.Ieee.Positive.{positive}
-use Rattle.figures.specs.declared.Gain.{Gain}
-use Rattle.figures.specs.declared.Gain.TheVariants.{Nothing, Of}
 use Rattle.figures.specs.declared.Figures.{Figures}
 use Rattle.figures.specs.declared.Report.{Report}
 use Rattle.figures.specs.Answers.{done, merged}
 
 -- ---- 24 totals, and each gain a 32-bit float
-abbrev pub SingleGain : Gain → Type 0
-SingleGain Nothing = Unit {0}
-SingleGain (Of x) = T (fits binary32 x)
+abbrev pub SingleGain : Option Float → Type 0
+SingleGain None = Unit {0}
+SingleGain (Some x) = T (fits binary32 x)
 
 pub record Typed (f : Figures) : Type 0 where
   pub size : length f.totals ≡ 24
@@ -28,9 +26,9 @@ pub record Proper (x : Float) : Type 0 where
   pub single : T (fits binary32 x)
   pub above : T (positive x)
 
-abbrev pub GoodGain : Gain → Type 0
-GoodGain Nothing = Unit {0}
-GoodGain (Of x) = Proper x
+abbrev pub GoodGain : Option Float → Type 0
+GoodGain None = Unit {0}
+GoodGain (Some x) = Proper x
 
 pub record Good (f : Figures) : Type 0 where
   pub small : GoodGain f.smallest

@@ -10,9 +10,12 @@ use lib.IntN.{ℤ}
 use lib.ListN.{length}
 use lib.Ieee.{Float, nan, inf, fin, binary32, of_bits, lt, eq, ne}
 use lib.Ieee.Compare.{differs_from_itself}
+use Rattle.std.specs.Prelude.{Result, Ok, Err}
+use Rattle.std.specs.Result.{result_and}
+use Rattle.protocol.specs.declared.Refusal.{Refusal}
 use Rattle.protocol.specs.Refusals.{bare, placed}
 use Rattle.given_symbols.specs.declared.Traffic.{Traffic}
-use Rattle.given_symbols.specs.Offender.{PaperVerdict, refused, fine, judged, earlier, judged_below, head_judged, judged_as}
+use Rattle.given_symbols.specs.Offender.{PaperVerdict, refused, fine, verdict_paper, judged, earlier, judged_below, head_judged, judged_as}
 
 -- 1.0, and -1.0
 abbrev pub one : Float
@@ -23,6 +26,11 @@ minus_one = of_bits binary32 0xbf80_0000
 
 abbrev pub is_infinite : Float → Bool
 is_infinite x = eq x (inf false) || eq x (inf true)
+
+-- the first of two verdicts that is a refusal
+pub verdict_and : (first next : Result Unit Refusal) → verdict_paper (result_and first next) ≡ earlier (verdict_paper first) (verdict_paper next)
+verdict_and (Err why) next = refl
+verdict_and (Ok _) next = refl
 
 module _ (place : ℕ) where
   pub judged_not_a_number : (x : Float) → ne x x ≡ true → refused (placed 71 place) ≡ judged place x

@@ -1,5 +1,6 @@
 -- Which of the symbols given is wrong, and how: document 01's 6, and document 02, requests c and b. Assumes nothing.
-use Rattle.std.specs.Prelude.{◌≡◌, Bool, true, not, cond, ◌&&◌, List, ℕ, zero, suc, eqb, pos, length, get_or, Float}
+use Rattle.protocol.specs.declared.Refusal.{Refusal}
+use Rattle.std.specs.Prelude.{◌≡◌, Bool, true, not, cond, ◌&&◌, List, ℕ, zero, suc, eqb, pos, length, get_or, Float, Result, Ok, Err}
 use Rattle.std.specs.Float.{nan, inf, fin, binary32}
 use Rattle.std.specs.Float.Ieee.{of_bits, of_int, lt, le, eq}
 use Rattle.numbers.specs.Below.{all_below}
@@ -9,17 +10,15 @@ use Rattle.protocol.specs.Bursts.{signs_of}
 use Rattle.protocol.specs.Refusals.{PaperRefusal, bare, placed, on_paper}
 use Rattle.given_symbols.specs.declared.Traffic.{Traffic}
 use Rattle.given_symbols.specs.declared.Traffic.TheVariants.{Ordinary, Bert}
-use Rattle.given_symbols.specs.declared.Verdict.{Verdict}
-use Rattle.given_symbols.specs.declared.Verdict.TheVariants.{Refused, Fine}
 
 -- a verdict on paper: a refusal's number, with a place beside it where it has one; or none
 pub data PaperVerdict : Type 0 where
   refused : PaperRefusal → PaperVerdict
   fine : PaperVerdict
 
-abbrev pub verdict_paper : Verdict → PaperVerdict
-verdict_paper (Refused why) = refused (on_paper why)
-verdict_paper Fine = fine
+abbrev pub verdict_paper : Result Unit Refusal → PaperVerdict
+verdict_paper (Err why) = refused (on_paper why)
+verdict_paper (Ok _) = fine
 
 -- from -1 to 1; document 01's 7 was "a symbol not a number or outside -1 to 1"
 unfoldable pub symbol_fit : Float → Bool
@@ -67,5 +66,5 @@ unfoldable pub judged_as : Traffic → List Float → PaperVerdict
 judged_as traffic symbols = cond (not (eqb (length symbols) 192)) (refused (bare 6)) (earlier (judged_below 192 symbols) (head_judged traffic symbols))
 
 -- ---- what the function promises
-abbrev pub JudgeFrameSays : Traffic → List Float → Verdict → Type 0
+abbrev pub JudgeFrameSays : Traffic → List Float → Result Unit Refusal → Type 0
 JudgeFrameSays traffic symbols r = verdict_paper r ≡ judged_as traffic symbols

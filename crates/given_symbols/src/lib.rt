@@ -2,7 +2,7 @@
 #![tactic(auto)]
 
 ghost use Rattle.std.specs.Prelude.{◌≡◌, length};
-ghost use Rattle.given_symbols.specs.Offender.{verdict_paper, judged, earlier, judged_below, bert_headed, head_judged, JudgeFrameSays};
+ghost use Rattle.given_symbols.specs.Offender.{verdict_paper, judged, judged_below, bert_headed, head_judged, JudgeFrameSays};
 
 use protocol::{Kind, Refusal, SyncBurst};
 
@@ -16,46 +16,29 @@ pub enum Traffic {
     Bert,
 }
 
-#[derive(Clone, Copy)]
-pub enum Verdict {
-    Refused(Refusal),
-    Fine,
-}
-
-fn judge(place: usize, symbol: f32) -> Verdict
+fn judge(place: usize, symbol: f32) -> Result<(), Refusal>
     ensures { verdict_paper result ≡ judged place symbol }
 {
     let infinity: f32 = 1.0 / 0.0;
     if symbol != symbol {
-        Verdict::Refused(Refusal::SymbolNotANumber(place))
+        Err(Refusal::SymbolNotANumber(place))
     } else if (symbol == infinity) | (symbol == -infinity) {
-        Verdict::Refused(Refusal::SymbolInfinite(place))
+        Err(Refusal::SymbolInfinite(place))
     } else if 1.0 < symbol {
-        Verdict::Refused(Refusal::SymbolAboveOne(place))
+        Err(Refusal::SymbolAboveOne(place))
     } else if symbol < -1.0 {
-        Verdict::Refused(Refusal::SymbolBelowMinusOne(place))
+        Err(Refusal::SymbolBelowMinusOne(place))
     } else {
-        Verdict::Fine
+        Ok(())
     }
 }
 
-fn earlier(first: Verdict, next: Verdict) -> Verdict
-    ensures { verdict_paper result ≡ earlier (verdict_paper first) (verdict_paper next) }
-{
-    match first {
-        Verdict::Refused(_) => first,
-        Verdict::Fine => next,
-    }
-}
-
-fn first_offender(symbols: &[f32]) -> Verdict
+fn first_offender(symbols: &[f32]) -> Result<(), Refusal>
     ensures { verdict_paper result ≡ judged_below (length symbols.now) symbols.now }
 {
-    let mut found = Verdict::Fine;
-    let mut i: usize = 0;
-    while i < symbols.len() {
-        found = earlier(found, judge(i, symbols[i]));
-        i += 1;
+    let mut found = Ok(());
+    for (place, symbol) in symbols.iter().enumerate() {
+        found = found.and(judge(place, *symbol));
     }
     found
 }
@@ -65,39 +48,36 @@ fn has_bert_head(symbols: &[f32]) -> bool
     ensures { result ≡ bert_headed symbols.now }
 {
     let signs = SyncBurst::Frame(Kind::Bert).target();
-    let mut headed = true;
-    let mut i: usize = 0;
-    while i < 8 {
-        headed = headed & (symbols[i] == signs[i] as f32);
-        i += 1;
-    }
-    headed
+    symbols
+        .iter()
+        .zip(&signs)
+        .all(|(symbol, sign)| *symbol == *sign as f32)
 }
 
-fn judge_head(traffic: Traffic, symbols: &[f32]) -> Verdict
+fn judge_head(traffic: Traffic, symbols: &[f32]) -> Result<(), Refusal>
     requires { length symbols.now ≡ 192 }
     ensures { verdict_paper result ≡ head_judged traffic symbols.now }
 {
     match traffic {
-        Traffic::Ordinary => Verdict::Fine,
+        Traffic::Ordinary => Ok(()),
         Traffic::Bert => {
             if has_bert_head(symbols) {
-                Verdict::Fine
+                Ok(())
             } else {
-                Verdict::Refused(Refusal::WrongBurst)
+                Err(Refusal::WrongBurst)
             }
         }
     }
 }
 
 // A wrong count is told first, then a wrong symbol, then a wrong burst.
-pub fn judge_frame(traffic: Traffic, symbols: &[f32]) -> Verdict
+pub fn judge_frame(traffic: Traffic, symbols: &[f32]) -> Result<(), Refusal>
     ensures { JudgeFrameSays traffic symbols.now result }
 {
     if symbols.len() != FRAME {
-        return Verdict::Refused(Refusal::WrongCount);
+        return Err(Refusal::WrongCount);
     }
     let offender = first_offender(symbols);
     let head = judge_head(traffic, symbols);
-    earlier(offender, head)
+    offender.and(head)
 }

@@ -1,5 +1,6 @@
 -- Instances that meet the hypotheses of the laws, and lines that are bad. Assumes nothing.
-use mathlib.Core.Path.{◌≡◌, refl, subst⁻¹}
+use Rattle.std.specs.Prelude.{Some}
+use mathlib.Core.Path.{◌≡◌, refl}
 use mathlib.Core.Bool.{Bool, false}
 use mathlib.Core.List.{List, [], ◌∷◌, ◌++◌}
 use Prim.Native.Nat.{ℕ, ◌<◌}
@@ -7,6 +8,7 @@ use lib.Dec.{T, lit<, lit≤}
 use lib.IntN.{pos, negsuc}
 use lib.ListN.{get_or, replicate}
 use lib.Ieee.{Float, binary32, of_bits, of_int, lt, le, eq}
+use lib.Ieee.Bits.{is_true}
 use Rattle.numbers.specs.Below.{all_below}
 use Rattle.numbers.specs.Firsts.{firsts}
 use Rattle.protocol.specs.declared.Kind.{Kind}
@@ -19,7 +21,8 @@ use Rattle.house.specs.Line.{line_feed, symbol_of, bits_of, good_line, symbols_o
 use Rattle.house.specs.Samples.{sample_of, bytes_of, number_of, pattern_of}
 use Rattle.house.specs.BadLine.{tens_in, decimal, bad_line_lem}
 use Rattle.house.specs.Accept.{symbol_at, read_bits, accepted}
-use Rattle.house.proofs.RoundTrip.{line_back, verdict, line_there_and_back}
+use Rattle.house.proofs.RoundTrip.{line_back, line_there_and_back}
+use Rattle.house.proofs.Lines.{read_good}
 use Rattle.house.proofs.Samples.{sample_back, bytes_back}
 use Rattle.house.proofs.DecimalText.{no_leading_zero}
 use Rattle.house.proofs.Word.{one_kind}
@@ -40,11 +43,11 @@ whole_case_good = tt
 whole_case_back : line_of (symbols_of_lem whole_case) ≡ whole_case
 whole_case_back = line_back whole_case whole_case_good
 
-whole_case_read : T (read_line whole_case).good
-whole_case_read = subst⁻¹ T (verdict whole_case) whole_case_good
+whole_case_read : read_line whole_case ≡ Some (symbols_of_lem whole_case)
+whole_case_read = read_good whole_case (is_true (good_line whole_case) whole_case_good)
 
-whole_case_again : line_of (read_line whole_case).symbols ≡ whole_case
-whole_case_again = line_there_and_back whole_case (line_of (read_line whole_case).symbols) (read_line whole_case) refl whole_case_read refl
+whole_case_again : line_of (symbols_of_lem whole_case) ≡ whole_case
+whole_case_again = line_there_and_back whole_case (line_of (symbols_of_lem whole_case)) (symbols_of_lem whole_case) (read_line whole_case) refl whole_case_read refl
 
 whole_case_accepted : T (accepted Lsf (symbol_at (symbols_of_lem whole_case)))
 unfolding whole_case accepted read_bits bits_of symbols_of_lem firsts symbol_of value_of place_in capitals sliced word_of lt le eq of_bits

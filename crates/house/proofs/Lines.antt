@@ -1,40 +1,71 @@
 -- What makes a line good or bad, digit by digit. Assumes nothing.
-use mathlib.Core.Path.{◌≡◌}
+use Rattle.std.specs.Prelude.{Some, None}
+use Rattle.std.specs.Option.{is_some}
+use mathlib.Core.Path.{◌≡◌, refl}
 use mathlib.Core.Bool.{Bool, true, false, cond, ◌&&◌}
 use mathlib.Core.List.{List}
-use Prim.Native.Nat.{ℕ, ◌+◌, ◌*◌, ◌/◌, ◌%◌, ◌<◌}
+use Prim.Native.Nat.{ℕ, zero, suc, ◌+◌, ◌*◌, ◌/◌, ◌%◌, ◌≤◌, ◌<◌}
 use native.Mathlib.Omega.{arith}
+use native.Mathlib.Numerals.{add-one}
 use lib.Dec.{T, eqb, eqb→eq}
-use lib.ListN.{length, get_or}
+use lib.ListN.{length, get_or, take}
+use Rattle.std.specs.List.{list_all}
+use Rattle.std.proofs.lemmas.List.Folds.{list_all_more}
 use lib.Ieee.{Float, nan}
 use lib.Ieee.Fits.{and_l, and_r}
 use Rattle.numbers.specs.Below.{all_below}
-use Rattle.numbers.proofs.Below.{all_below_lem, all_failed}
+use Rattle.numbers.proofs.Below.{all_below_lem}
 use Rattle.house.specs.Digits.{is_digit}
-use Rattle.house.specs.Line.{line_feed, good_line, pair_in, symbols_of_lem, no_symbols, read_line, four_at}
+use Rattle.house.specs.Line.{line_feed, good_line, pair_in, symbols_of_lem, read_line, four_at}
 use Rattle.house.proofs.Bits.{bits_below}
 
 module _ (line : List ℕ) where
-  -- ---- what a loop over the digits finds
+  -- ---- what a test of the first bytes finds
   abbrev pub digit_at : ℕ → Bool
   digit_at i = is_digit (get_or line i 0)
 
-  pub bad_digit : (i : ℕ) → i < 96 → digit_at i ≡ false → good_line line ≡ false
-  unfolding good_line
-  bad_digit i l e = rw (all_failed 96 digit_at i l e)
-
-  pub all_digits : all_below 96 digit_at ≡ true → length line ≡ 97 → good_line line ≡ eqb (get_or line 96 0) line_feed
-  unfolding good_line
-  all_digits h e = rw (h, e)
+  pub first_digits : (n : ℕ) → n ≤ length line → list_all is_digit (take n line) ≡ all_below n digit_at
+  unfolding all_below
+  first_digits zero h = refl
+  first_digits (suc n) h = rw (← add-one n, list_all_more is_digit line n 0 h, first_digits n (omega arith))
 
   -- ---- what a line reads as
-  pub read_good : good_line line ≡ true → read_line line ≡ record { good = true; symbols = symbols_of_lem line }
+  pub read_good : good_line line ≡ true → read_line line ≡ Some (symbols_of_lem line)
   unfolding read_line
   read_good e = rw e
 
-  pub read_bad : good_line line ≡ false → read_line line ≡ record { good = false; symbols = no_symbols }
+  pub read_bad : good_line line ≡ false → read_line line ≡ None
   unfolding read_line
   read_bad e = rw e
+
+  -- a line that has symbols is good, and they are those of its digits; one that has none is bad
+  good_by : (t : Bool) (all symbols : List Float) → cond t (Some all) None ≡ Some symbols → (t ≡ true) × (symbols ≡ all)
+  good_by true all symbols e = (refl, cc)
+  good_by false all symbols e = cc
+
+  has_by : (t : Bool) (all : List Float) → is_some (cond t (Some all) None) ≡ t
+  has_by true all = refl
+  has_by false all = refl
+
+  bad_by : (t : Bool) (all : List Float) → cond t (Some all) None ≡ None → t ≡ false
+  bad_by true all e = cc
+  bad_by false all e = refl
+
+  pub some_good : {symbols : List Float} → read_line line ≡ Some symbols → good_line line ≡ true
+  unfolding read_line
+  some_good {symbols} e = (good_by (good_line line) (symbols_of_lem line) symbols e).0
+
+  pub some_symbols : {symbols : List Float} → read_line line ≡ Some symbols → symbols ≡ symbols_of_lem line
+  unfolding read_line
+  some_symbols {symbols} e = (good_by (good_line line) (symbols_of_lem line) symbols e).1
+
+  pub has_symbols : is_some (read_line line) ≡ good_line line
+  unfolding read_line
+  has_symbols = has_by (good_line line) (symbols_of_lem line)
+
+  pub none_bad : read_line line ≡ None → good_line line ≡ false
+  unfolding read_line
+  none_bad e = bad_by (good_line line) (symbols_of_lem line) e
 
   -- ---- what a good line holds
   module _ (good : T (good_line line)) where

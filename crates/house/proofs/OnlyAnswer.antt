@@ -1,4 +1,5 @@
 -- Each function's promise fixes its answer. That there is one on every input is the function's own proof. Assumes nothing.
+use Rattle.std.specs.Prelude.{Option}
 use mathlib.Core.Path.{◌≡◌}
 use mathlib.Core.Bool.{Bool}
 use mathlib.Core.List.{List}
@@ -7,7 +8,6 @@ use lib.IntN.{ℤ}
 use lib.Ieee.{Float}
 use Rattle.numbers.proofs.Answer.{same_answer}
 use Rattle.protocol.specs.declared.Kind.{Kind}
-use Rattle.house.specs.declared.Symbols.{Symbols}
 use Rattle.house.specs.declared.Text.{Text}
 use Rattle.house.specs.Line.{LineSymbolsSays, SymbolsLineSays}
 use Rattle.house.specs.Samples.{I16OfBytesSays, BytesOfI16Says}
@@ -17,7 +17,7 @@ use Rattle.house.specs.declared.Program.{Program}
 use Rattle.house.specs.declared.Trouble.{Trouble}
 use Rattle.house.specs.Trouble.{TroubleTextSays, OutcomeTextSays}
 
-pub line_symbols_only_answer : (line : List ℕ) (r s : Symbols) → LineSymbolsSays line r → LineSymbolsSays line s → r ≡ s
+pub line_symbols_only_answer : (line : List ℕ) (r s : Option (List Float)) → LineSymbolsSays line r → LineSymbolsSays line s → r ≡ s
 line_symbols_only_answer line r s = same_answer
 
 pub symbols_line_only_answer : (symbols : List Float) (r s : List ℕ) → SymbolsLineSays symbols r → SymbolsLineSays symbols s → r ≡ s

@@ -1,4 +1,5 @@
 -- Document 01's line, there and back: a good line's symbols write that line again, and the line of any symbols is good and reads as the symbols that the slicer takes them for. Assumes nothing.
+use Rattle.std.specs.Prelude.{Option, Some}
 use mathlib.Core.Path.{◌≡◌, refl, sym, ap, ◌∙◌, subst, subst⁻¹}
 use mathlib.Core.Bool.{Bool, true, false, cond}
 use mathlib.Core.List.{List, [], ◌∷◌}
@@ -17,12 +18,11 @@ use Rattle.numbers.specs.Below.{all_below}
 use Rattle.numbers.specs.Firsts.{firsts}
 use Rattle.numbers.proofs.Below.{below_all}
 use Rattle.numbers.proofs.Firsts.{length_firsts, firsts_at, firsts_same}
-use Rattle.house.specs.declared.Symbols.{Symbols}
 use Rattle.house.specs.Digits.{value_of, digit_of}
-use Rattle.house.specs.Line.{line_feed, symbol_of, bits_of, nearest, good_line, pair_in, bits_at, symbols_of_lem, no_symbols, read_line, four_at, line_of, LineSymbolsSays, SymbolsLineSays}
+use Rattle.house.specs.Line.{line_feed, symbol_of, bits_of, nearest, good_line, pair_in, bits_at, symbols_of_lem, read_line, four_at, line_of, LineSymbolsSays, SymbolsLineSays}
 use Rattle.house.proofs.Digits.{digit_of_value, value_of_digit}
 use Rattle.house.proofs.Bits.{bits_below, bits_of_symbol}
-use Rattle.house.proofs.Lines.{digit_at, read_good, good_digit, good_length, good_end, pair_below, four_below}
+use Rattle.house.proofs.Lines.{digit_at, read_good, some_good, some_symbols, good_digit, good_length, good_end, pair_below, four_below}
 
 -- ---- the places of a line that is written
 module _ (symbols : List Float) where
@@ -97,33 +97,24 @@ module _ (line : List ℕ) (good : T (good_line line)) where
       (eq-or-lt_of_le (le_of_suc-le-suc (rw (length_line (symbols_of_lem line)) at l)))
 
 -- ---- the two functions
-pub verdict : (line : List ℕ) → (read_line line).good ≡ good_line line
-unfolding read_line
-verdict line = by_test (good_line line)
-  where
-    by_test : (t : Bool) → (cond {A = Symbols} t (record { good = true; symbols = symbols_of_lem line }) (record { good = false; symbols = no_symbols })).good ≡ t
-    by_test true = refl
-    by_test false = refl
+pub line_there_and_back : (line again : List ℕ) (symbols : List Float) (r : Option (List Float)) → LineSymbolsSays line r → r ≡ Some symbols → SymbolsLineSays symbols again → again ≡ line
+line_there_and_back line again symbols r read some write =
+    let told : read_line line ≡ Some symbols = sym read ∙ some in
+    write ∙ ap line_of (some_symbols line told) ∙ line_back line (subst T (sym (some_good line told)) tt)
 
-good_symbols : (line : List ℕ) → T (good_line line) → (read_line line).symbols ≡ symbols_of_lem line
-good_symbols line good = ap (λ (s : Symbols). s.symbols) (read_good line (is_true (good_line line) good))
+module _ (symbols : List Float) (line : List ℕ) (r : Option (List Float)) (write : SymbolsLineSays symbols line) (read : LineSymbolsSays line r) where
+  -- what the slicer takes each symbol for
+  abbrev pub nearest_symbols : List Float
+  nearest_symbols = firsts (λ i. nearest (get_or symbols i nan)) 192
 
-pub line_there_and_back : (line again : List ℕ) (r : Symbols) → LineSymbolsSays line r → T r.good → SymbolsLineSays r.symbols again → again ≡ line
-line_there_and_back line again r read good write =
-    let right : T (good_line line) = subst T (ap (λ (s : Symbols). s.good) read ∙ verdict line) good in
-    write ∙ ap (λ (s : Symbols). line_of s.symbols) read ∙ ap line_of (good_symbols line right) ∙ line_back line right
-
-module _ (symbols : List Float) (line : List ℕ) (r : Symbols) (write : SymbolsLineSays symbols line) (read : LineSymbolsSays line r) where
   written_good : T (good_line line)
   written_good = subst⁻¹ (λ (l : List ℕ). T (good_line l)) write (line_good symbols)
 
-  own : r.symbols ≡ symbols_of_lem line
-  own = ap (λ (s : Symbols). s.symbols) read ∙ good_symbols line written_good
+  own : symbols_of_lem line ≡ nearest_symbols
+  own = ap symbols_of_lem write ∙ symbols_back symbols
 
-  pub symbols_there_and_back :
-      (r.good ≡ true) × (r.symbols ≡ firsts (λ i. nearest (get_or symbols i nan)) 192) × ((again : List ℕ) → SymbolsLineSays r.symbols again → again ≡ line)
+  pub symbols_there_and_back : (r ≡ Some nearest_symbols) × ((again : List ℕ) → SymbolsLineSays nearest_symbols again → again ≡ line)
   symbols_there_and_back = (
-    ap (λ (s : Symbols). s.good) read ∙ verdict line ∙ is_true (good_line line) written_good,
-    own ∙ ap symbols_of_lem write ∙ symbols_back symbols,
-    λ again h. h ∙ ap line_of own ∙ line_back line written_good,
+    read ∙ read_good line (is_true (good_line line) written_good) ∙ ap Some own,
+    λ again h. h ∙ ap line_of (sym own) ∙ line_back line written_good,
   )

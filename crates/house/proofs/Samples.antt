@@ -1,15 +1,19 @@
 -- Samples and bytes, there and back, in two's complement; and the machine's own steps from one to the other. Assumes nothing.
-use mathlib.Core.Path.{◌≡◌, refl, ap, ◌∙◌, subst}
+use mathlib.Core.Path.{◌≡◌, refl, sym, ap, ◌∙◌}
+use mathlib.Core.Logic.{⊎_elim}
 use mathlib.Core.Bool.{Bool, true, false, cond}
 use mathlib.Core.List.{List, [], ◌∷◌}
-use Prim.Native.Nat.{ℕ, zero, suc, ◌+◌, ◌-◌, ◌*◌, ◌/◌, ◌%◌, ◌≤◌, ◌<◌}
-use native.Mathlib.Nat.{not-suc-le-zero}
+use Prim.Native.Nat.{ℕ, suc, ◌+◌, ◌-◌, ◌*◌, ◌/◌, ◌%◌, ◌^◌, ◌≤◌, ◌<◌}
 use native.Mathlib.Omega.{arith}
 use borrow.Author.Tests.{lt-ltb, le-ltb, ltb-true, ltb-false}
-use lib.Dec.{T, ltb}
-use lib.IntN.{ℤ, pos, negsuc, ◌-ℤ◌}
+use lib.Dec.{ltb}
+use lib.IntN.{ℤ, pos, negsuc}
 use lib.ListN.{get_or}
-use lib.Signed.{mag, lt_z}
+use lib.Signed.{mag}
+use mir.Syntax.{w16}
+use mir.Val.{to_z, of_z}
+use mir.Facts.{to_z_pos, to_z-neg, of_z-to_z}
+use Rattle.numbers.proofs.Tests.{lt_or_le}
 use Rattle.house.specs.Samples.{number_of, pattern_of, sample_of, bytes_of, I16OfBytesSays, BytesOfI16Says}
 
 -- ---- the two halves of the patterns
@@ -75,22 +79,17 @@ bytes_there_and_back low high l h x r there back = back ∙ ap bytes_of there �
 pub sample_there_and_back : (x : ℤ) → mag x < 0x8000 → (r : List ℕ) (y : ℤ) → BytesOfI16Says x r → I16OfBytesSays (get_or r 0 0) (get_or r 1 0) y → y ≡ x
 sample_there_and_back x l r y there back = back ∙ ap (λ (b : List ℕ). sample_of (get_or b 0 0) (get_or b 1 0)) there ∙ sample_back x l
 
--- ---- the machine's steps below zero: both ways, -1 less a number
-pub below_zero : (x : ℤ) → lt_z x (pos 0) ≡ true → (n : ℕ) × (x ≡ negsuc n)
-below_zero (pos n) e = absurd (not-suc-le-zero (ltb-true n 0 e))
-below_zero (negsuc n) e = (n, refl)
+-- ---- the machine's own readings of a pattern and of a number
+pub signed_is : (p : ℕ) → p < 0x1_0000 → to_z w16 p ≡ number_of p
+signed_is p l =
+    ⊎_elim
+    (λ (h : p < 0x8000). to_z_pos w16 h ∙ sym (number_above p h))
+    (λ (h : 0x8000 ≤ p).
+    let back : 2 ^ 16 - suc (0xffff - p) ≡ p = omega arith in
+    ap (to_z w16) (sym back) ∙ to_z-neg w16 (0xffff - p) (omega arith) ∙ sym (number_below p h))
+    (lt_or_le p 0x8000)
 
-pub from_zero : (x : ℤ) → lt_z x (pos 0) ≡ false → (n : ℕ) × (x ≡ pos n)
-from_zero (pos n) e = (n, refl)
-from_zero (negsuc n) e = absurd (subst T e tt)
-
-pub less_negative : (n : ℕ) → negsuc 0 -ℤ negsuc n ≡ pos n
-less_negative n =
-    let same : suc n - 1 ≡ n = omega arith in
-    rw (le-ltb (suc n) 1 (omega arith)) (ap pos same)
-
-pub less_positive : (n : ℕ) → negsuc 0 -ℤ pos n ≡ negsuc n
-less_positive zero = refl
-less_positive (suc n) =
-    let same : 0 + n ≡ n = omega arith in
-    ap (λ (k : ℕ). negsuc (suc k)) same
+pub unsigned_is : (x : ℤ) → mag x < 0x8000 → of_z w16 x ≡ pattern_of x
+unsigned_is x l =
+    let fits = pattern_below x l in
+    ap (of_z w16) (sym (number_back x l) ∙ sym (signed_is (pattern_of x) fits)) ∙ of_z-to_z {w = w16} (record { fits = fits })

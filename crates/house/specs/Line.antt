@@ -1,11 +1,10 @@
 -- Document 01, 'The two programs': a frame's 192 symbols as a line, and back. Assumes nothing.
-use Rattle.std.specs.Prelude.{◌≡◌, Bool, true, false, cond, ◌&&◌, List, [], ◌∷◌, ◌++◌, ℕ, ◌+◌, ◌*◌, ◌/◌, ◌%◌, eqb, length, get_or, replicate, Float}
+use Rattle.std.specs.Prelude.{◌≡◌, Bool, cond, ◌&&◌, List, [], ◌∷◌, ◌++◌, ℕ, ◌+◌, ◌*◌, ◌/◌, ◌%◌, eqb, length, get_or, replicate, Float, Option, Some, None}
 use Rattle.std.specs.Float.{nan, binary32}
 use Rattle.std.specs.Float.Ieee.{of_bits}
 use Rattle.numbers.specs.Below.{all_below}
 use Rattle.numbers.specs.Firsts.{firsts}
 use Rattle.decode.specs.Slicer.{sliced}
-use Rattle.house.specs.declared.Symbols.{Symbols}
 use Rattle.house.specs.Digits.{digit_of, value_of, is_digit}
 
 -- "(01, 00, 10, 11 are 1, 1/3, -1/3, -1 as f32)", here in the order of the bits: 00, 01, 10, 11
@@ -38,12 +37,13 @@ bits_at line i = pair_in (value_of (get_or line (i / 2) 0)) i
 unfoldable pub symbols_of_lem : List ℕ → List Float
 symbols_of_lem line = firsts (λ (i : ℕ). symbol_of (bits_at line i)) 192
 
--- of a bad line there are none: its room holds 0.0
+-- what is given where there are none: 0.0
 unfoldable pub no_symbols : List Float
 no_symbols = replicate 192 (of_bits binary32 0)
 
-unfoldable pub read_line : List ℕ → Symbols
-read_line line = cond (good_line line) (record { good = true; symbols = symbols_of_lem line }) (record { good = false; symbols = no_symbols })
+-- a bad line has none
+unfoldable pub read_line : List ℕ → Option (List Float)
+read_line line = cond (good_line line) (Some (symbols_of_lem line)) None
 
 -- "The house format is hexadecimal, one frame a line: 96 capital digits, first symbol in the high bits, then a line feed."
 abbrev pub four_at : List Float → ℕ → ℕ
@@ -53,7 +53,7 @@ unfoldable pub line_of : List Float → List ℕ
 line_of symbols = firsts (λ (i : ℕ). digit_of (four_at symbols i)) 96 ++ (line_feed ∷ [])
 
 -- ---- what the functions promise
-abbrev pub LineSymbolsSays : List ℕ → Symbols → Type 0
+abbrev pub LineSymbolsSays : List ℕ → Option (List Float) → Type 0
 LineSymbolsSays line r = r ≡ read_line line
 
 abbrev pub SymbolsLineSays : List Float → List ℕ → Type 0

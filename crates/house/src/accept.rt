@@ -6,7 +6,8 @@ ghost use Rattle.house.specs.Accept.{sliced_word_lem, AcceptsSays};
 use crate::two_bits;
 use protocol::Kind;
 
-// The words of the M17 specification.
+// The words of the M17 specification: numbers, as the promise (`word_of`) has them.
+#[tactic(auto, unfolding(protocol::specs::Bursts::word_of))]
 fn word(kind: Kind) -> u32
     ensures { result ≡ word_of kind }
 {
@@ -23,15 +24,14 @@ fn sliced_word(symbols: [f32; 8]) -> u32
     ensures { result ≡ sliced_word_lem symbols }
 {
     let mut read: u32 = 0;
-    let mut i: usize = 0;
-    while i < 8 {
-        read = 4 * read + two_bits(symbols[i]) as u32;
-        i += 1;
+    for symbol in &symbols {
+        read = 4 * read + two_bits(*symbol) as u32;
     }
     read
 }
 
 // A window's first eight symbols are those of its burst.
+#[tactic(auto, unfolding(crate::specs::Accept::accepted))]
 pub fn accepts(kind: Kind, symbols: [f32; 8]) -> bool
     ensures { AcceptsSays kind symbols result }
 {

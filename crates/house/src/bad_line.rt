@@ -13,9 +13,10 @@ fn first_weight(n: u64) -> u64
 {
     let mut weight: u64 = 1;
     let mut rest = n;
+    // The number says how many turns there are: no index is counted.
     while rest >= 10 {
-        rest = rest / 10;
-        weight = 10 * weight;
+        rest /= 10;
+        weight *= 10;
     }
     weight
 }
@@ -26,9 +27,10 @@ pub fn bad_line_text(n: u64) -> Text
     let mut bytes = HEADING;
     let mut weight = first_weight(n);
     let mut at: usize = 9;
+    // The weight says when the digits end, and `at` is needed after them: a `for` over places is no plainer.
     while weight > 0 {
         bytes[at] = b'0' + (n / weight % 10) as u8;
-        weight = weight / 10;
+        weight /= 10;
         at += 1;
     }
     bytes[at] = LINE_FEED;

@@ -19,13 +19,6 @@ pub use line::{line_symbols, symbols_line};
 pub use outcome::outcome_text;
 pub use sample::{bytes_of_i16, i16_of_bytes};
 
-// A line's symbols; of a bad line, none but zeros.
-#[derive(Clone, Copy)]
-pub struct Symbols {
-    pub good: bool,
-    pub symbols: [f32; 192],
-}
-
 // The first `length` bytes are the text, and zeros follow.
 #[derive(Clone, Copy)]
 pub struct Text {

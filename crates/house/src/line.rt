@@ -3,7 +3,7 @@ ghost use Rattle.std.specs.Prelude.{◌≡◌, true, ◌<◌};
 ghost use Rattle.house.specs.Digits.{value_of, digit_of};
 ghost use Rattle.house.specs.Line.{symbol_of, good_line, symbols_of_lem, LineSymbolsSays, SymbolsLineSays};
 
-use crate::{LINE_FEED, Symbols, two_bits};
+use crate::{LINE_FEED, two_bits};
 
 // What stands for the value of a byte that is no digit.
 const NO_DIGIT: u8 = 16;
@@ -47,14 +47,7 @@ fn symbol(bits: u8) -> f32
 fn good(line: [u8; 97]) -> bool
     ensures { result ≡ good_line line }
 {
-    let mut i: usize = 0;
-    while i < 96 {
-        if value(line[i]) >= NO_DIGIT {
-            return false;
-        }
-        i += 1;
-    }
-    line[96] == LINE_FEED
+    line[..96].iter().all(|byte| value(*byte) < NO_DIGIT) && line[96] == LINE_FEED
 }
 
 // Of a digit's two symbols the first is in the high bits.
@@ -63,30 +56,23 @@ fn symbols_of(line: [u8; 97]) -> [f32; 192]
     ensures { result ≡ symbols_of_lem line }
 {
     let mut symbols = [0.0f32; 192];
-    let mut i: usize = 0;
-    while i < 192 {
-        let at = i / 2;
-        let four = value(line[at]);
+    for (i, place) in symbols.iter_mut().enumerate() {
+        let four = value(line[i / 2]);
         let bits = if i % 2 == 0 { four / 4 } else { four % 4 };
-        symbols[i] = symbol(bits);
-        i += 1;
+        *place = symbol(bits);
     }
     symbols
 }
 
-pub fn line_symbols(line: [u8; 97]) -> Symbols
+// A bad line has no symbols.
+#[tactic(auto, unfolding(crate::specs::Line::read_line))]
+pub fn line_symbols(line: [u8; 97]) -> Option<[f32; 192]>
     ensures { LineSymbolsSays line result }
 {
-    if !good(line) {
-        return Symbols {
-            good: false,
-            symbols: [0.0; 192],
-        };
-    }
-    let symbols = symbols_of(line);
-    Symbols {
-        good: true,
-        symbols,
+    if good(line) {
+        Some(symbols_of(line))
+    } else {
+        None
     }
 }
 
@@ -95,14 +81,10 @@ pub fn symbols_line(symbols: [f32; 192]) -> [u8; 97]
     ensures { SymbolsLineSays symbols result }
 {
     let mut line = [LINE_FEED; 97];
-    let mut i: usize = 0;
-    while i < 96 {
-        let first = 2 * i;
-        let second = first + 1;
-        let high = two_bits(symbols[first]);
-        let low = two_bits(symbols[second]);
+    for i in 0..96 {
+        let high = two_bits(symbols[2 * i]);
+        let low = two_bits(symbols[2 * i + 1]);
         line[i] = digit(4 * high + low);
-        i += 1;
     }
     line
 }

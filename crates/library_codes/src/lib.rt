@@ -50,5 +50,5 @@ pub fn kind_code(kind: Kind) -> u32
 pub fn flag_of(b: bool) -> u64
     ensures { FlagOfSays b result }
 {
-    if b { 1 } else { 0 }
+    u64::from(b)
 }

@@ -13,7 +13,7 @@ use Rattle.desk.proofs.ListLaws.{listed_by}
 use Rattle.desk_run.specs.Desk.{listing, list_told_lem, desk_says}
 use Rattle.library_codes.specs.Codes.{flag_number}
 use Rattle.library_desk.specs.Memory.{Memory, numbers_at, flag_at, part_at, open_in, receiver_in, desk_in}
-use Rattle.library_desk.specs.Passage.{stray_at, any_stray, no_desk}
+use Rattle.library_desk.specs.Passage.{stray_at, no_desk}
 use Rattle.library_desk.specs.Listing.{line_numbers, lines_numbers, line_in, three_of, lines_in, seat_code, SeatsTested}
 use Rattle.library_desk.specs.Calls.{Export, export_of, coded_as, Says}
 use Rattle.library_desk.proofs.InSeat.{no_desk_lem, by_desk, recast}

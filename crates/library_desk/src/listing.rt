@@ -47,14 +47,10 @@ fn test_seats(
 {
     let mut strange = false;
     let mut unfit = false;
-    let mut at: usize = 0;
-    while at < 8 {
+    for at in 0..8 {
         let code = test_seat(opened[at], &windows[at], &numbers[at], &levels[at]);
-        let first = code == 115;
-        let second = code == 101;
-        strange = strange | first;
-        unfit = unfit | second;
-        at += 1;
+        strange |= code == 115;
+        unfit |= code == 101;
     }
     Tested { strange, unfit }
 }

@@ -6,9 +6,8 @@ ghost use Rattle.std.specs.Prelude.{◌≡◌};
 ghost use Rattle.bit_errors.specs.Errors.{paper};
 ghost use Rattle.library_house.specs.Exports.{kind_of, errors_code, errors_told, M17AcceptsSays, M17LineSays, M17LineSymbolsSays, M17BitErrorsSays};
 
-use bit_errors::BitErrors;
 use library_codes::refusal_code;
-use protocol::Kind;
+use protocol::{Kind, Refusal};
 
 fn find_kind(number: u32) -> Kind
     ensures { result ≡ kind_of number }
@@ -57,32 +56,26 @@ pub extern "C" fn m17_line(symbols: &[f32; 192], line: &mut [u8; 97])
 pub extern "C" fn m17_line_symbols(line: &[u8; 97], symbols: &mut [f32; 192]) -> u32
     ensures { M17LineSymbolsSays line.now symbols.old result symbols.new }
 {
-    let bytes = *line;
-    let read = house::line_symbols(bytes);
-    if read.good {
-        let values = read.symbols;
+    if let Some(values) = house::line_symbols(*line) {
         *symbols = values;
         return 1;
     }
     0
 }
 
-fn code_errors(answer: BitErrors) -> u32
+fn code_errors(answer: Result<u32, Refusal>) -> u32
     ensures { result ≡ errors_code (paper answer) }
 {
     match answer {
-        BitErrors::Refused(why) => refusal_code(why),
-        BitErrors::Counted(_) => 0,
+        Err(why) => refusal_code(why),
+        Ok(_) => 0,
     }
 }
 
-fn tell_errors(answer: BitErrors, told: u64) -> u64
+fn tell_errors(answer: Result<u32, Refusal>, told: u64) -> u64
     ensures { result ≡ errors_told (paper answer) told }
 {
-    match answer {
-        BitErrors::Refused(_) => told,
-        BitErrors::Counted(count) => count as u64,
-    }
+    answer.map_or(told, |count| count as u64)
 }
 
 // 0, and beside it how many bits differ; a refusal's code, and nothing beside it.

@@ -1,4 +1,6 @@
 -- A control's numbers mean that control, and are a receiver's. Assumes nothing.
+use Rattle.std.specs.Prelude.{Option, Some, None}
+use Rattle.search.specs.declared.Waiting.{Waiting}
 use mathlib.Core.Path.{◌≡◌, refl}
 use mathlib.Core.Bool.{Bool, true, false, cond, ◌&&◌}
 use mathlib.Core.List.{List}
@@ -12,10 +14,6 @@ use lib.Ieee.{Float, nan}
 use Rattle.protocol.specs.declared.Kind.TheVariants.{Lsf, Bert, Stream, Packet}
 use Rattle.search.specs.declared.Candidate.{Candidate}
 use Rattle.search.specs.declared.Candidate.TheVariants.{Nothing, Held}
-use Rattle.search.specs.declared.Wait.{Wait}
-use Rattle.search.specs.declared.Wait.TheVariants.{Free, Due}
-use Rattle.search.specs.declared.Timer.{Timer}
-use Rattle.search.specs.declared.Timer.TheVariants.{Off, Until}
 use Rattle.search.specs.declared.Control.{Control}
 use Rattle.search.specs.Search.{age_of}
 use Rattle.search.proofs.AgeInPass.{by_test}
@@ -44,23 +42,23 @@ flag_back : (b : Bool) → (eqb (flag_number b) 1 ≡ b) × (leb (flag_number b)
 flag_back true = (refl, refl)
 flag_back false = (refl, refl)
 
-abbrev wait_by : WaitNumbers → Wait
-wait_by d = cond (eqb d.held 0) Free (Due (record { left = d.left % 65536; age = d.age % 256; replaced = eqb d.mark 1 }))
+abbrev wait_by : WaitNumbers → Option Waiting
+wait_by d = cond (eqb d.held 0) None (Some (record { left = d.left % 65536; age = d.age % 256; replaced = eqb d.mark 1 }))
 
-wait_back : (w : Wait) → left_of w < 65536 → kept_age w < 256 → wait_by (wait_numbers w) ≡ w
-wait_back Free l k = refl
-wait_back (Due w) l k =
+wait_back : (w : Option Waiting) → left_of w < 65536 → kept_age w < 256 → wait_by (wait_numbers w) ≡ w
+wait_back None l k = refl
+wait_back (Some w) l k =
     let f = (flag_back w.replaced).0 in
     let m = mod-eq_of_lt l in
     let n = mod-eq_of_lt k in
-    λ i. Due (record { left = m i; age = n i; replaced = f i })
+    λ i. Some (record { left = m i; age = n i; replaced = f i })
 
-abbrev timer_by : TimerNumbers → Timer
-timer_by t = cond (eqb t.held 0) Off (Until t.end)
+abbrev timer_by : TimerNumbers → Option ℕ
+timer_by t = cond (eqb t.held 0) None (Some t.end)
 
-timer_back : (t : Timer) → timer_by (timer_numbers t) ≡ t
-timer_back Off = refl
-timer_back (Until end) = refl
+timer_back : (t : Option ℕ) → timer_by (timer_numbers t) ≡ t
+timer_back None = refl
+timer_back (Some end) = refl
 
 -- ---- the whole control, where its ages are below 256 and its wait below 65,536
 pub control_back : (rate windowCursor ringCursor : ℕ) (c : Control) → Holdable c
@@ -87,9 +85,9 @@ record WaitSmall (d : WaitNumbers) : Type 0 where
   age : leb d.age 255 ≡ true
   mark : leb d.mark 1 ≡ true
 
-wait_small : (w : Wait) → left_of w < 65536 → kept_age w < 256 → WaitSmall (wait_numbers w)
-wait_small Free l k = record { held = refl; left = refl; age = refl; mark = refl }
-wait_small (Due w) l k =
+wait_small : (w : Option Waiting) → left_of w < 65536 → kept_age w < 256 → WaitSmall (wait_numbers w)
+wait_small None l k = record { held = refl; left = refl; age = refl; mark = refl }
+wait_small (Some w) l k =
     record {
       held = refl;
       left = le-leb w.left 65535 (omega arith);
@@ -97,9 +95,9 @@ wait_small (Due w) l k =
       mark = (flag_back w.replaced).1;
     }
 
-timer_small : (t : Timer) → leb (timer_numbers t).held 1 ≡ true
-timer_small Off = refl
-timer_small (Until end) = refl
+timer_small : (t : Option ℕ) → leb (timer_numbers t).held 1 ≡ true
+timer_small None = refl
+timer_small (Some end) = refl
 
 abbrev Eight : Bool → Bool → Bool → Bool → Bool → Bool → Bool → Bool → Bool
 Eight a b c d e f g h = a && b && c && d && e && f && g && h
@@ -118,8 +116,8 @@ pub in_holdable : (n : List ℕ) (l : List Float) → Holdable (control_in n l)
 unfolding candidate_in wait_in
 in_holdable n l = record {
   age = by_test (λ (c : Candidate). age_of c < 256) (eqb (get_or n 4 0) 0) _ _ (λ e. lit< tt) (λ e. mod-lt (get_or n 5 0) (lit< tt));
-  left = by_test (λ (w : Wait). left_of w < 65536) (eqb (get_or n 7 0) 0) _ _ (λ e. lit< tt) (λ e. mod-lt (get_or n 8 0) (lit< tt));
-  kept = by_test (λ (w : Wait). kept_age w < 256) (eqb (get_or n 7 0) 0) _ _ (λ e. lit< tt) (λ e. mod-lt (get_or n 9 0) (lit< tt));
+  left = by_test (λ (w : Option Waiting). left_of w < 65536) (eqb (get_or n 7 0) 0) _ _ (λ e. lit< tt) (λ e. mod-lt (get_or n 8 0) (lit< tt));
+  kept = by_test (λ (w : Option Waiting). kept_age w < 256) (eqb (get_or n 7 0) 0) _ _ (λ e. lit< tt) (λ e. mod-lt (get_or n 9 0) (lit< tt));
 }
 
 pub meant_again : (n : List ℕ) (l : List Float) (rate windowCursor ringCursor : ℕ)

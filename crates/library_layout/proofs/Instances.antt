@@ -1,4 +1,5 @@
 -- Small instances: what the laws ask can be met, and what they then say. Assumes nothing.
+use Rattle.std.specs.Prelude.{Some}
 use mathlib.Core.Path.{◌≡◌, refl}
 use mathlib.Core.Bool.{true, false}
 use mathlib.Core.List.{List, [], ◌∷◌}
@@ -7,8 +8,6 @@ use lib.Dec.{lit<}
 use lib.Ieee.{Float, binary32, of_bits}
 use Rattle.protocol.specs.declared.Kind.TheVariants.{Stream}
 use Rattle.search.specs.declared.Candidate.TheVariants.{Held}
-use Rattle.search.specs.declared.Wait.TheVariants.{Due}
-use Rattle.search.specs.declared.Timer.TheVariants.{Until}
 use Rattle.search.specs.declared.Control.{Control}
 use Rattle.library_layout.specs.Layout.{record_code_lem, control_in, no_levels, numbers_of_lem, levels_of}
 use Rattle.library_layout.specs.Within.{Holdable, Plain}
@@ -23,8 +22,8 @@ levels = of_bits binary32 0x3f80_0000 ∷ of_bits binary32 0x3f00_0000 ∷ of_bi
 abbrev awaiting : Control
 awaiting = record {
   candidate = Held Stream 3 (of_bits binary32 0x3f80_0000) (of_bits binary32 0x3f00_0000) (of_bits binary32 0) 1200;
-  wait = Due (record { left = 1837; age = 3; replaced = true });
-  dcd = Until 5043;
+  wait = Some (record { left = 1837; age = 3; replaced = true });
+  dcd = Some 5043;
   owed = false;
   sample = 1203;
 }

@@ -1,4 +1,6 @@
 -- Numbers that are a receiver's come back as they were, where what is not held is 0; and what is written is such. Assumes nothing.
+use Rattle.std.specs.Prelude.{Option, Some, None}
+use Rattle.search.specs.declared.Waiting.{Waiting}
 use mathlib.Core.Path.{◌≡◌, refl, sym, ap, ◌∙◌}
 use mathlib.Core.Bool.{true, cond, ◌&&◌}
 use mathlib.Core.List.{List, [], ◌∷◌}
@@ -18,10 +20,6 @@ use Rattle.numbers.proofs.Tests.{holds}
 use Rattle.protocol.specs.declared.Kind.TheVariants.{Lsf, Bert, Stream, Packet}
 use Rattle.search.specs.declared.Candidate.{Candidate}
 use Rattle.search.specs.declared.Candidate.TheVariants.{Nothing, Held}
-use Rattle.search.specs.declared.Wait.{Wait}
-use Rattle.search.specs.declared.Wait.TheVariants.{Free, Due}
-use Rattle.search.specs.declared.Timer.{Timer}
-use Rattle.search.specs.declared.Timer.TheVariants.{Off, Until}
 use Rattle.search.specs.declared.Control.{Control}
 use Rattle.library_codes.specs.Codes.{flag_number}
 use Rattle.library_layout.specs.Layout.{kind_at, is_receiver, candidate_in, wait_in, timer_in, control_in, no_level, no_levels, candidate_numbers, wait_numbers, timer_numbers, numbers_of_lem, levels_of}
@@ -47,7 +45,7 @@ flag_again (suc zero) l = refl
 flag_again (suc (suc n)) l = absurd (omega arith)
 
 wait_again : (held left kept mark : ℕ) → held ≤ 1 → left ≤ 65535 → kept ≤ 255 → mark ≤ 1 → (held ≡ 0 → (left ≡ 0) × (kept ≡ 0) × (mark ≡ 0))
-    → wait_numbers (cond (eqb held 0) Free (Due (record { left = left % 65536; age = kept % 256; replaced = eqb mark 1 })))
+    → wait_numbers (cond (eqb held 0) None (Some (record { left = left % 65536; age = kept % 256; replaced = eqb mark 1 })))
     ≡ record { held = held; left = left; age = kept; mark = mark }
 wait_again zero left kept mark h l a m none = let n = none refl in rw (n.0, n.1, n.2)
 wait_again (suc zero) left kept mark h l a m none =
@@ -58,7 +56,7 @@ wait_again (suc zero) left kept mark h l a m none =
 wait_again (suc (suc held)) left kept mark h l a m none = absurd (omega arith)
 
 timer_again : (held end : ℕ) → held ≤ 1 → (held ≡ 0 → end ≡ 0)
-    → timer_numbers (cond (eqb held 0) Off (Until end)) ≡ record { held = held; end = end }
+    → timer_numbers (cond (eqb held 0) None (Some end)) ≡ record { held = held; end = end }
 timer_again zero end t none = rw (none refl)
 timer_again (suc zero) end t none = refl
 timer_again (suc (suc held)) end t none = absurd (omega arith)
@@ -138,13 +136,13 @@ plain_candidate (Held Bert age diff gain shift since) z = absurd (omega arith)
 plain_candidate (Held Stream age diff gain shift since) z = absurd (omega arith)
 plain_candidate (Held Packet age diff gain shift since) z = absurd (omega arith)
 
-plain_wait : (w : Wait) → let d = wait_numbers w in d.held ≡ 0 → (d.left ≡ 0) × (d.age ≡ 0) × (d.mark ≡ 0)
-plain_wait Free z = (refl, refl, refl)
-plain_wait (Due w) z = absurd (omega arith)
+plain_wait : (w : Option Waiting) → let d = wait_numbers w in d.held ≡ 0 → (d.left ≡ 0) × (d.age ≡ 0) × (d.mark ≡ 0)
+plain_wait None z = (refl, refl, refl)
+plain_wait (Some w) z = absurd (omega arith)
 
-plain_timer : (t : Timer) → (timer_numbers t).held ≡ 0 → (timer_numbers t).end ≡ 0
-plain_timer Off z = refl
-plain_timer (Until end) z = absurd (omega arith)
+plain_timer : (t : Option ℕ) → (timer_numbers t).held ≡ 0 → (timer_numbers t).end ≡ 0
+plain_timer None z = refl
+plain_timer (Some end) z = absurd (omega arith)
 
 pub written_plain : (rate windowCursor ringCursor : ℕ) (c : Control) → Plain (numbers_of_lem rate windowCursor ringCursor c) (levels_of c)
 written_plain rate windowCursor ringCursor c =

@@ -1,5 +1,6 @@
 -- What the 14 numbers and the 3 levels of a receiver mean, and those of a control. Assumes nothing.
-use Rattle.std.specs.Prelude.{ℕ, ◌%◌, Bool, cond, ◌&&◌, List, [], ◌∷◌, leb, eqb, get_or, Float}
+use Rattle.search.specs.declared.Waiting.{Waiting}
+use Rattle.std.specs.Prelude.{ℕ, ◌%◌, Bool, cond, ◌&&◌, List, [], ◌∷◌, leb, eqb, get_or, Float, Option, Some, None}
 use Rattle.std.specs.Float.{nan, binary32}
 use Rattle.std.specs.Float.Ieee.{of_bits}
 use Rattle.shaping.specs.Rate.{rate_fit}
@@ -7,10 +8,6 @@ use Rattle.protocol.specs.declared.Kind.{Kind}
 use Rattle.protocol.specs.declared.Kind.TheVariants.{Lsf, Bert, Stream, Packet}
 use Rattle.search.specs.declared.Candidate.{Candidate}
 use Rattle.search.specs.declared.Candidate.TheVariants.{Nothing, Held}
-use Rattle.search.specs.declared.Wait.{Wait}
-use Rattle.search.specs.declared.Wait.TheVariants.{Free, Due}
-use Rattle.search.specs.declared.Timer.{Timer}
-use Rattle.search.specs.declared.Timer.TheVariants.{Off, Until}
 use Rattle.search.specs.declared.Control.{Control}
 use Rattle.library_codes.specs.Codes.{kind_number, flag_number}
 use Rattle.library_layout.specs.declared.notation.CandidateNumbers.{CandidateNumbers}
@@ -29,13 +26,13 @@ candidate_in n l =
     (Held (kind_at (get_or n 4 0)) (get_or n 5 0 % 256) (get_or l 0 nan) (get_or l 1 nan) (get_or l 2 nan) (get_or n 6 0))
 
 -- 7 held; 8 how many samples are left; 9 the age at which it was set; 10 the mark
-unfoldable pub wait_in : List ℕ → Wait
+unfoldable pub wait_in : List ℕ → Option Waiting
 wait_in n =
-    cond (eqb (get_or n 7 0) 0) Free (Due (record { left = get_or n 8 0 % 65536; age = get_or n 9 0 % 256; replaced = eqb (get_or n 10 0) 1 }))
+    cond (eqb (get_or n 7 0) 0) None (Some (record { left = get_or n 8 0 % 65536; age = get_or n 9 0 % 256; replaced = eqb (get_or n 10 0) 1 }))
 
 -- 11 held; 12 its end
-unfoldable pub timer_in : List ℕ → Timer
-timer_in n = cond (eqb (get_or n 11 0) 0) Off (Until (get_or n 12 0))
+unfoldable pub timer_in : List ℕ → Option ℕ
+timer_in n = cond (eqb (get_or n 11 0) 0) None (Some (get_or n 12 0))
 
 -- 3 the count; 13 a reply is owed
 abbrev pub control_in : List ℕ → List Float → Control
@@ -69,13 +66,13 @@ candidate_numbers Nothing = record { kind = 0; age = 0; taken_at = 0; levels = n
 candidate_numbers (Held kind age diff gain shift since) =
     record { kind = kind_number kind; age = age; taken_at = since; levels = diff ∷ gain ∷ shift ∷ [] }
 
-abbrev pub wait_numbers : Wait → WaitNumbers
-wait_numbers Free = record { held = 0; left = 0; age = 0; mark = 0 }
-wait_numbers (Due w) = record { held = 1; left = w.left; age = w.age; mark = flag_number w.replaced }
+abbrev pub wait_numbers : Option Waiting → WaitNumbers
+wait_numbers None = record { held = 0; left = 0; age = 0; mark = 0 }
+wait_numbers (Some w) = record { held = 1; left = w.left; age = w.age; mark = flag_number w.replaced }
 
-abbrev pub timer_numbers : Timer → TimerNumbers
-timer_numbers Off = record { held = 0; end = 0 }
-timer_numbers (Until end) = record { held = 1; end = end }
+abbrev pub timer_numbers : Option ℕ → TimerNumbers
+timer_numbers None = record { held = 0; end = 0 }
+timer_numbers (Some end) = record { held = 1; end = end }
 
 -- 0 the rate; 1 the window's cursor; 2 the ring's cursor
 abbrev pub numbers_of_lem : ℕ → ℕ → ℕ → Control → List ℕ

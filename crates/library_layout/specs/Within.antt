@@ -1,18 +1,17 @@
 -- Which controls a record can hold, and which numbers are those of one. Assumes nothing.
-use Rattle.std.specs.Prelude.{ℕ, ◌<◌, ◌≡◌, List, get_or, Float}
-use Rattle.search.specs.declared.Wait.{Wait}
-use Rattle.search.specs.declared.Wait.TheVariants.{Free, Due}
+use Rattle.search.specs.declared.Waiting.{Waiting}
+use Rattle.std.specs.Prelude.{ℕ, ◌<◌, ◌≡◌, List, get_or, Float, Option, Some, None}
 use Rattle.search.specs.declared.Control.{Control}
 use Rattle.search.specs.Search.{age_of}
 use Rattle.library_layout.specs.Layout.{no_levels}
 
-abbrev pub left_of : Wait → ℕ
-left_of Free = 0
-left_of (Due w) = w.left
+abbrev pub left_of : Option Waiting → ℕ
+left_of None = 0
+left_of (Some w) = w.left
 
-abbrev pub kept_age : Wait → ℕ
-kept_age Free = 0
-kept_age (Due w) = w.age
+abbrev pub kept_age : Option Waiting → ℕ
+kept_age None = 0
+kept_age (Some w) = w.age
 
 -- what the types of a record's fields let it hold: an age has 8 bits, what is left of a wait 16
 pub record Holdable (c : Control) : Type 0 where

@@ -3,7 +3,7 @@ ghost use Rattle.std.specs.Prelude.{◌≡◌};
 ghost use Rattle.library_layout.specs.Layout.{kind_at, candidate_in, wait_in, timer_in};
 
 use protocol::Kind;
-use search::{Candidate, Timer, Wait, Waiting};
+use search::{Candidate, Waiting};
 
 fn read_kind(number: u64) -> Kind
     ensures { result ≡ kind_at number }
@@ -37,27 +37,27 @@ pub fn read_candidate(numbers: &[u64; 14], levels: &[f32; 3]) -> Candidate
     }
 }
 
-pub fn read_wait(numbers: &[u64; 14]) -> Wait
+pub fn read_wait(numbers: &[u64; 14]) -> Option<Waiting>
     ensures { result ≡ wait_in numbers.now }
 {
     if numbers[7] == 0 {
-        return Wait::Free;
+        return None;
     }
     let left = (numbers[8] % 65536) as u16;
     let age = (numbers[9] % 256) as u8;
     let replaced = numbers[10] == 1;
-    Wait::Due(Waiting {
+    Some(Waiting {
         left,
         age,
         replaced,
     })
 }
 
-pub fn read_timer(numbers: &[u64; 14]) -> Timer
+pub fn read_timer(numbers: &[u64; 14]) -> Option<u64>
     ensures { result ≡ timer_in numbers.now }
 {
     if numbers[11] == 0 {
-        return Timer::Off;
+        return None;
     }
-    Timer::Until(numbers[12])
+    Some(numbers[12])
 }

@@ -2,7 +2,7 @@
 ghost use Rattle.std.specs.Prelude.{◌≡◌};
 ghost use Rattle.library_layout.specs.Layout.{candidate_numbers, wait_numbers, timer_numbers};
 
-use search::{Candidate, Timer, Wait};
+use search::{Candidate, Waiting};
 
 #[derive(Clone, Copy)]
 pub struct CandidateNumbers {
@@ -55,17 +55,17 @@ pub fn number_candidate(candidate: Candidate) -> CandidateNumbers
     }
 }
 
-pub fn number_wait(wait: Wait) -> WaitNumbers
+pub fn number_wait(wait: Option<Waiting>) -> WaitNumbers
     ensures { result ≡ wait_numbers wait }
 {
     match wait {
-        Wait::Free => WaitNumbers {
+        None => WaitNumbers {
             held: 0,
             left: 0,
             age: 0,
             mark: 0,
         },
-        Wait::Due(waiting) => {
+        Some(waiting) => {
             let mark = library_codes::flag_of(waiting.replaced);
             WaitNumbers {
                 held: 1,
@@ -77,11 +77,11 @@ pub fn number_wait(wait: Wait) -> WaitNumbers
     }
 }
 
-pub fn number_timer(timer: Timer) -> TimerNumbers
+pub fn number_timer(timer: Option<u64>) -> TimerNumbers
     ensures { result ≡ timer_numbers timer }
 {
     match timer {
-        Timer::Off => TimerNumbers { held: 0, end: 0 },
-        Timer::Until(end) => TimerNumbers { held: 1, end },
+        None => TimerNumbers { held: 0, end: 0 },
+        Some(end) => TimerNumbers { held: 1, end },
     }
 }

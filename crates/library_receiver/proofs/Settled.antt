@@ -1,4 +1,7 @@
 -- What an export is shown to promise, from what the call on the record promises. Assumes nothing.
+use Rattle.std.specs.Prelude.{Bool, Option, Some, None, Result, Ok, Err}
+use Rattle.demodulator.specs.declared.Offer.{Offer}
+use Rattle.protocol.specs.declared.Refusal.{Refusal}
 use mathlib.Core.Path.{◌≡◌, refl, sym, ap, ◌∙◌}
 use mathlib.Core.Bool.{true, false, not}
 use mathlib.Core.List.{List, []}
@@ -11,17 +14,11 @@ use lib.Ieee.{Float}
 use Rattle.shaping.specs.Rate.{Rate, rate_of, samples_in_lem}
 use Rattle.search.proofs.AgeInPass.{by_test}
 use Rattle.demodulator.specs.declared.SoftDemodulator.{SoftDemodulator}
-use Rattle.demodulator.specs.declared.Heard.{Heard}
-use Rattle.demodulator.specs.declared.Heard.TheVariants.{Refused, Quiet, Offered}
-use Rattle.demodulator.specs.declared.Replied.{Replied}
-use Rattle.demodulator.specs.declared.Replied.TheVariants.{Refused as ReplyRefused, Done}
-use Rattle.demodulator.specs.declared.Carrier.{Carrier}
-use Rattle.demodulator.specs.declared.Carrier.TheVariants.{Refused as CarrierRefused, Detected}
 use Rattle.demodulator.specs.declared.lent.FedLent.{FedLent}
 use Rattle.demodulator.specs.declared.lent.RepliedLent.{RepliedLent}
 use Rattle.demodulator.specs.Record.{assembled}
 use Rattle.demodulator.specs.Fit.{fit_for_reply_lem}
-use Rattle.demodulator.specs.Calls.{Paper, refusal, Left, heard_paper, replied_paper, carrier_paper, answered}
+use Rattle.demodulator.specs.Calls.{Paper, refusal, Left, heard_paper, done_paper, carrier_paper, answered}
 use Rattle.demodulator.specs.Feed.{Stretch, sample_said, sample_next, sample_room, empty_said, fed_into}
 use Rattle.demodulator.specs.Singles.{left_at}
 use Rattle.demodulator.specs.Lent.{FeedLentSays, ReplyLentSays, CarrierLentSays}
@@ -34,30 +31,30 @@ use Rattle.library_receiver.specs.Promises.{Says}
 use Rattle.library_receiver.proofs.RefusalCodes.{paper_refused}
 
 -- ---- what is laid out, by the answer
-heard_laid : (a : Heard) → paper_code (heard_paper a) < 100 → (m : Memory) (d : SoftDemodulator) → laid_out d ≡ laid_after (heard_paper a) m d
-heard_laid (Refused why) l m d = absurd (omega arith)
-heard_laid Quiet l m d = refl
-heard_laid (Offered o) l m d = refl
+heard_laid : (a : Result (Option Offer) Refusal) → paper_code (heard_paper a) < 100 → (m : Memory) (d : SoftDemodulator) → laid_out d ≡ laid_after (heard_paper a) m d
+heard_laid (Err why) l m d = absurd (omega arith)
+heard_laid (Ok None) l m d = refl
+heard_laid (Ok (Some o)) l m d = refl
 
-replied_laid : (a : Replied) → paper_code (replied_paper a) < 100 → (m : Memory) (d : SoftDemodulator) → laid_out d ≡ laid_after (replied_paper a) m d
-replied_laid (ReplyRefused why) l m d = absurd (omega arith)
-replied_laid Done l m d = refl
+replied_laid : (a : Result Unit Refusal) → paper_code (done_paper a) < 100 → (m : Memory) (d : SoftDemodulator) → laid_out d ≡ laid_after (done_paper a) m d
+replied_laid (Err why) l m d = absurd (omega arith)
+replied_laid (Ok _) l m d = refl
 
-carrier_kept : (a : Carrier) (m : Memory) (d : SoftDemodulator) → m ≡ laid_after (carrier_paper a) m d
-carrier_kept (CarrierRefused why) m d = refl
-carrier_kept (Detected there) m d = refl
+carrier_kept : (a : Result Bool Refusal) (m : Memory) (d : SoftDemodulator) → m ≡ laid_after (carrier_paper a) m d
+carrier_kept (Err why) m d = refl
+carrier_kept (Ok there) m d = refl
 
 -- a reply and a query tell nothing
 abbrev Mute : Paper → Type 0
 Mute a = none_lent ≡ lent_as [] (told_after a 0 []) (gain_after a [])
 
-replied_mute : (a : Replied) → Mute (replied_paper a)
-replied_mute (ReplyRefused why) = refl
-replied_mute Done = refl
+replied_mute : (a : Result Unit Refusal) → Mute (done_paper a)
+replied_mute (Err why) = refl
+replied_mute (Ok _) = refl
 
-carrier_mute : (a : Carrier) → Mute (carrier_paper a)
-carrier_mute (CarrierRefused why) = refl
-carrier_mute (Detected there) = refl
+carrier_mute : (a : Result Bool Refusal) → Mute (carrier_paper a)
+carrier_mute (Err why) = refl
+carrier_mute (Ok there) = refl
 
 -- ---- any call
 module _ (m : Memory) where
@@ -132,7 +129,7 @@ module _ (m : Memory) where
     -- ---- a reply
     module _ (accepted : ℕ) (r : RepliedLent)
         (says : ReplyLentSays d.rate m.window m.ring d.filter_cursor d.rx_cursor d.control (reply_of accepted) r)
-        (code : ℕ) (coded : code ≡ paper_code (replied_paper r.answer)) where
+        (code : ℕ) (coded : code ≡ paper_code (done_paper r.answer)) where
       abbrev u : Left
       u = answered (samples_in_lem d.rate) d (reply_of accepted) []
 
@@ -142,7 +139,7 @@ module _ (m : Memory) where
           by_test (λ (x : Left). [] ≡ x.room) (not (fit_for_reply_lem (samples_in_lem d.rate) d)) _ _ (λ e. refl)
           (λ e. by_test (λ (x : Left). [] ≡ x.room) (not d.control.owed) _ _ (λ e. refl) (λ e. refl))
 
-      replied : (after : Memory) → after ≡ laid_after (replied_paper r.answer) m u.demodulator
+      replied : (after : Memory) → after ≡ laid_after (done_paper r.answer) m u.demodulator
           → Says m (replies accepted) (coded_as code none_lent) after
       unfolding called left_at
       replied after leaves =
@@ -153,7 +150,7 @@ module _ (m : Memory) where
 
       pub reply_refused : 100 ≤ code → Says m (replies accepted) (coded_as code none_lent) m
       reply_refused big =
-          let (number, e) = paper_refused (replied_paper r.answer) (rw coded at big) in
+          let (number, e) = paper_refused (done_paper r.answer) (rw coded at big) in
           replied m (sym (ap (λ (a : Paper). laid_after a m u.demodulator) e))
 
       pub reply_moved : code < 100 → (n' : List ℕ) (l' : List Float)
@@ -166,7 +163,7 @@ module _ (m : Memory) where
           replied _ (laid ∙ ap laid_out says.leaves ∙ replied_laid r.answer (rw coded at less) m u.demodulator)
 
     -- ---- the carrier query
-    pub asked : (answer : Carrier) → CarrierLentSays d.rate m.window d.filter_cursor d.rx_cursor d.control answer
+    pub asked : (answer : Result Bool Refusal) → CarrierLentSays d.rate m.window d.filter_cursor d.rx_cursor d.control answer
         → (code : ℕ) → code ≡ paper_code (carrier_paper answer) → Says m asks (coded_as code none_lent) m
     unfolding called left_at
     asked answer says code coded =

@@ -1,5 +1,7 @@
 -- Every call on a record leaves a control that a record can hold, whatever the record: an age stops at 255, a wait is at most 184 symbols.
 -- Assumes nothing.
+use Rattle.std.specs.Prelude.{Option, Some, None}
+use Rattle.search.specs.declared.Waiting.{Waiting}
 use mathlib.Core.Path.{◌≡◌, refl}
 use mathlib.Core.Bool.{not, false}
 use mathlib.Core.List.{List, [], ◌∷◌}
@@ -16,8 +18,6 @@ use Rattle.protocol.specs.declared.SyncBurst.{SyncBurst}
 use Rattle.protocol.specs.declared.SyncBurst.TheVariants.{Frame, Preamble, EndOfTransmission}
 use Rattle.decode.specs.Correlator.{matches}
 use Rattle.search.specs.declared.Candidate.{Candidate}
-use Rattle.search.specs.declared.Wait.{Wait}
-use Rattle.search.specs.declared.Wait.TheVariants.{Free, Due}
 use Rattle.search.specs.declared.Control.{Control}
 use Rattle.search.specs.declared.Turn.{Turn}
 use Rattle.search.specs.declared.Reply.{Reply}
@@ -45,15 +45,15 @@ module _ (p : ℕ) (few : p ≤ 10) where
   unfolding carried
   carried_holds burst v c h = by_test Holdable (matches burst v) _ _ (λ e. record { age = h.age; left = h.left; kept = h.kept }) (λ e. h)
 
-  marked_left : (w : Wait) → left_of w < 65536 → left_of (marked w) < 65536
+  marked_left : (w : Option Waiting) → left_of w < 65536 → left_of (marked w) < 65536
   unfolding marked
-  marked_left Free l = l
-  marked_left (Due w) l = l
+  marked_left None l = l
+  marked_left (Some w) l = l
 
-  marked_kept : (w : Wait) → kept_age w < 256 → kept_age (marked w) < 256
+  marked_kept : (w : Option Waiting) → kept_age w < 256 → kept_age (marked w) < 256
   unfolding marked
-  marked_kept Free l = l
-  marked_kept (Due w) l = l
+  marked_kept None l = l
+  marked_kept (Some w) l = l
 
   matched_holds : {candidate : Candidate} → HeldOrNot candidate → (new : TakenBurst) → new.age ≡ 1 → (c : Control) → Holdable c
       → Holdable (matched (held_in candidate) new c)
@@ -85,11 +85,11 @@ module _ (p : ℕ) (few : p ≤ 10) where
       (carried_holds EndOfTransmission v _ (carried_holds Preamble v c h)))))
 
   -- ---- a sample and a reply
-  turn_holds : (v : ℕ → Float) (w : Wait) (c : Control) → left_of w < 65536 → kept_age w < 256 → Holdable c
+  turn_holds : (v : ℕ → Float) (w : Option Waiting) (c : Control) → left_of w < 65536 → kept_age w < 256 → Holdable c
       → Holdable (control_of (comes_to p v (waited_turn w c)))
   unfolding waited_turn due_turn
-  turn_holds v Free c l k h = searched_holds v c h
-  turn_holds v (Due w) c l k h =
+  turn_holds v None c l k h = searched_holds v c h
+  turn_holds v (Some w) c l k h =
       by_test (λ (t : Turn). Holdable (control_of (comes_to p v t))) (ltb 1 w.left) _ _
       (λ e. record { age = h.age; left = omega arith; kept = k })
       (λ e. due_holds (held_or_not c.candidate))

@@ -1,16 +1,15 @@
 -- There and back: a report comes back from its numbers as it was, and numbers that are a report's come back as they were. Assumes nothing.
+use Rattle.std.specs.Prelude.{Option, Some, None}
 use mathlib.Core.Path.{◌≡◌, refl, sym, ap, ◌∙◌}
-use mathlib.Core.Bool.{Bool, true, false, cond, ◌&&◌}
-use mathlib.Core.List.{List, [], ◌∷◌}
-use Prim.Native.Nat.{ℕ, zero, suc, ◌+◌, ◌<◌}
+use mathlib.Core.Bool.{true}
+use mathlib.Core.List.{List}
+use Prim.Native.Nat.{ℕ, ◌+◌, ◌<◌}
 use native.Mathlib.Omega.{arith}
-use lib.Dec.{eqb, leb}
+use lib.Dec.{leb}
 use lib.ListN.{length, get_or}
 use lib.Seq.{ext_get_or}
-use lib.Ieee.{Float, nan}
+use lib.Ieee.{Float}
 use Rattle.numbers.proofs.Firsts.{firsts_at, length_firsts}
-use Rattle.figures.specs.declared.Gain.{Gain}
-use Rattle.figures.specs.declared.Gain.TheVariants.{Nothing, Of}
 use Rattle.figures.specs.declared.Report.{Report}
 use Rattle.library_report.specs.Layout.{FullTotals, is_report_lem, totals_from_lem, gain_in_lem, report_in_lem, held_number_lem, numbers_of_lem, gain_number_lem, gains_of_lem}
 use Rattle.library_report.proofs.NumberPlaces.{first_number, second_number, held_number}
@@ -31,14 +30,14 @@ totals_back place n totals size same =
     totals_at place n i few ∙ same i few)
 
 -- ---- a gain
-gain_back : (g : Gain) → gain_in_lem (held_number_lem g) (gain_number_lem g) ≡ g
+gain_back : (g : Option Float) → gain_in_lem (held_number_lem g) (gain_number_lem g) ≡ g
 unfolding gain_in_lem
-gain_back Nothing = refl
-gain_back (Of x) = refl
+gain_back None = refl
+gain_back (Some x) = refl
 
-held_few : (g : Gain) → leb (held_number_lem g) 1 ≡ true
-held_few Nothing = refl
-held_few (Of x) = refl
+held_few : (g : Option Float) → leb (held_number_lem g) 1 ≡ true
+held_few None = refl
+held_few (Some x) = refl
 
 -- ---- "the report survives a way through its numbers unchanged"
 module _ (r : Report) where
@@ -54,7 +53,7 @@ module _ (r : Report) where
   flag_3 : get_or (numbers_of_lem r) 51 0 ≡ held_number_lem r.at_24.largest
   flag_3 = held_number r 3 (omega arith)
 
-  held_back : (at : ℕ) (g : Gain) → at ≡ held_number_lem g → gain_in_lem at (gain_number_lem g) ≡ g
+  held_back : (at : ℕ) (g : Option Float) → at ≡ held_number_lem g → gain_in_lem at (gain_number_lem g) ≡ g
   held_back at g e = ap (λ (n : ℕ). gain_in_lem n (gain_number_lem g)) e ∙ gain_back g
 
   pub report_back : FullTotals r → report_in_lem (numbers_of_lem r) (gains_of_lem r) ≡ r

@@ -12,7 +12,7 @@ use Rattle.figures.specs.declared.Report.{Report}
 use Rattle.figures.specs.Totals.{report_fit_lem, summed_at, summed, plus, both, reports_pass}
 use Rattle.figures.specs.Answers.{done, Left, refused, joined, report_of, added, merged}
 use Rattle.library_report.specs.Layout.{FullTotals, is_report_lem}
-use Rattle.library_report.specs.Memory.{Memory, Coded, coded_as, laid_out, report_at, settled_code, settled, memory_added, memory_merged}
+use Rattle.library_report.specs.Memory.{Coded, coded_as, laid_out, report_at, settled_code, settled, memory_added, memory_merged}
 use Rattle.library_report.proofs.Back.{report_back, put_report}
 
 -- ---- the answer and the report after it, laid out

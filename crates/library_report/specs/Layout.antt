@@ -1,11 +1,8 @@
 -- What a report's numbers and gains mean, and the numbers and gains of a report. Assumes nothing.
-use Rattle.std.specs.Prelude.{◌≡◌, Bool, cond, ◌&&◌, List, [], ◌∷◌, ℕ, ◌+◌, ◌-◌, eqb, ltb, leb, length, get_or, Float}
+use Rattle.std.specs.Prelude.{◌≡◌, Bool, cond, ◌&&◌, List, [], ◌∷◌, ℕ, ◌+◌, ◌-◌, eqb, ltb, leb, length, get_or, Float, Option, Some, None}
 use Rattle.std.specs.Float.{binary32, nan}
 use Rattle.std.specs.Float.Ieee.{of_bits}
 use Rattle.numbers.specs.Firsts.{firsts}
-use Rattle.figures.specs.declared.Gain.{Gain}
-use Rattle.figures.specs.declared.Gain.TheVariants.{Nothing, Of}
-use Rattle.figures.specs.declared.Figures.{Figures}
 use Rattle.figures.specs.declared.Report.{Report}
 
 -- what the type of a report says: 24 totals at each rate
@@ -21,8 +18,8 @@ is_report_lem n = leb (get_or n 48 0) 1 && leb (get_or n 49 0) 1 && leb (get_or 
 unfoldable pub totals_from_lem : ℕ → List ℕ → List ℕ
 totals_from_lem place n = firsts (λ (i : ℕ). get_or n (place + i) 0) 24
 
-unfoldable pub gain_in_lem : ℕ → Float → Gain
-gain_in_lem held gain = cond (eqb held 0) Nothing (Of gain)
+unfoldable pub gain_in_lem : ℕ → Float → Option Float
+gain_in_lem held gain = cond (eqb held 0) None (Some gain)
 
 abbrev pub report_in_lem : List ℕ → List Float → Report
 report_in_lem n g = record {
@@ -31,9 +28,9 @@ report_in_lem n g = record {
 }
 
 -- ---- a report's numbers: the totals at 48 kHz, those at 24 kHz, and which gains there are
-abbrev pub held_number_lem : Gain → ℕ
-held_number_lem Nothing = 0
-held_number_lem (Of gain) = 1
+abbrev pub held_number_lem : Option Float → ℕ
+held_number_lem None = 0
+held_number_lem (Some gain) = 1
 
 abbrev pub held_flags : Report → List ℕ
 held_flags r = held_number_lem r.at_48.smallest ∷ held_number_lem r.at_48.largest ∷ held_number_lem r.at_24.smallest ∷ held_number_lem r.at_24.largest ∷ []
@@ -45,9 +42,9 @@ unfoldable pub numbers_of_lem : Report → List ℕ
 numbers_of_lem r = firsts (number_at_lem r.at_48.totals r.at_24.totals (held_flags r)) 52
 
 -- ---- and its gains, 0.0 where there is none
-abbrev pub gain_number_lem : Gain → Float
-gain_number_lem Nothing = of_bits binary32 0
-gain_number_lem (Of gain) = gain
+abbrev pub gain_number_lem : Option Float → Float
+gain_number_lem None = of_bits binary32 0
+gain_number_lem (Some gain) = gain
 
 abbrev pub gains_of_lem : Report → List Float
 gains_of_lem r = gain_number_lem r.at_48.smallest ∷ gain_number_lem r.at_48.largest ∷ gain_number_lem r.at_24.smallest ∷ gain_number_lem r.at_24.largest ∷ []

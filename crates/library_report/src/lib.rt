@@ -8,7 +8,7 @@ ghost use Rattle.figures.specs.Answers.{added_paper};
 ghost use Rattle.library_report.specs.Layout.{is_report_lem, totals_from_lem, gain_in_lem, report_in_lem, held_number_lem, gain_number_lem, number_at_lem, numbers_of_lem, gains_of_lem};
 ghost use Rattle.library_report.specs.Memory.{memory_at, settled_code, settled_memory, M17ReportNewSays, M17ReportAddSays, M17ReportMergeSays};
 
-use figures::{Added, AfterAdd, Figures, Gain, Report};
+use figures::{AfterAdd, Figures, Report};
 
 // Whether each of the four flags is one.
 fn is_report(numbers: &[u64; 52]) -> bool
@@ -22,23 +22,15 @@ fn totals_from(place: usize, numbers: &[u64; 52]) -> [u64; 24]
     ensures { result ≡ totals_from_lem place numbers.now }
 {
     let mut totals = [0u64; 24];
-    let mut i: usize = 0;
-    while i < 24 {
-        let at = place + i;
-        totals[i] = numbers[at];
-        i += 1;
-    }
+    totals.copy_from_slice(&numbers[place..place + 24]);
     totals
 }
 
-fn gain_in(held: u64, gain: f32) -> Gain
+#[tactic(auto, unfolding(crate::specs::Layout::gain_in_lem))]
+fn gain_in(held: u64, gain: f32) -> Option<f32>
     ensures { result ≡ gain_in_lem held gain }
 {
-    if held == 0 {
-        Gain::Nothing
-    } else {
-        Gain::Of(gain)
-    }
+    (held != 0).then_some(gain)
 }
 
 fn report_in(numbers: &[u64; 52], gains: &[f32; 4]) -> Report
@@ -63,22 +55,16 @@ fn report_in(numbers: &[u64; 52], gains: &[f32; 4]) -> Report
     Report { at_48, at_24 }
 }
 
-fn held_number(gain: Gain) -> u64
+fn held_number(gain: Option<f32>) -> u64
     ensures { result ≡ held_number_lem gain }
 {
-    match gain {
-        Gain::Nothing => 0,
-        Gain::Of(_) => 1,
-    }
+    u64::from(gain.is_some())
 }
 
-fn gain_number(gain: Gain) -> f32
+fn gain_number(gain: Option<f32>) -> f32
     ensures { result ≡ gain_number_lem gain }
 {
-    match gain {
-        Gain::Nothing => 0.0,
-        Gain::Of(value) => value,
-    }
+    gain.unwrap_or(0.0)
 }
 
 // The number at a place.
@@ -90,35 +76,25 @@ fn number_at(first: [u64; 24], second: [u64; 24], held: [u64; 4], place: usize) 
         return first[place];
     }
     if place < 48 {
-        let later = place - 24;
-        return second[later];
+        return second[place - 24];
     }
-    let flag = place - 48;
-    held[flag]
+    held[place - 48]
 }
 
 fn numbers_of(report: Report) -> [u64; 52]
     ensures { result ≡ numbers_of_lem report }
 {
-    let at_48 = report.at_48;
-    let at_24 = report.at_24;
-    let first = at_48.totals;
-    let second = at_24.totals;
-    let low_48 = at_48.smallest;
-    let high_48 = at_48.largest;
-    let low_24 = at_24.smallest;
-    let high_24 = at_24.largest;
+    let first = report.at_48;
+    let second = report.at_24;
     let held = [
-        held_number(low_48),
-        held_number(high_48),
-        held_number(low_24),
-        held_number(high_24),
+        held_number(first.smallest),
+        held_number(first.largest),
+        held_number(second.smallest),
+        held_number(second.largest),
     ];
     let mut numbers = [0u64; 52];
-    let mut i: usize = 0;
-    while i < 52 {
-        numbers[i] = number_at(first, second, held, i);
-        i += 1;
+    for (place, number) in numbers.iter_mut().enumerate() {
+        *number = number_at(first.totals, second.totals, held, place);
     }
     numbers
 }
@@ -144,16 +120,13 @@ fn gains_of(report: Report) -> [f32; 4]
 fn settle(after: AfterAdd, numbers: &mut [u64; 52], gains: &mut [f32; 4]) -> u32
     ensures { (result ≡ settled_code (added_paper after.answer)) × (memory_at numbers.new gains.new ≡ settled_memory (added_paper after.answer) after.report (memory_at numbers.old gains.old)) }
 {
-    let answer = after.answer;
-    match answer {
-        Added::Refused(why) => library_codes::refusal_code(why),
-        Added::Done => {
-            let report = after.report;
-            *numbers = numbers_of(report);
-            *gains = gains_of(report);
-            0
-        }
+    if let Err(why) = after.answer {
+        return library_codes::refusal_code(why);
     }
+    let report = after.report;
+    *numbers = numbers_of(report);
+    *gains = gains_of(report);
+    0
 }
 
 // "An empty run gives zeros and no gains."

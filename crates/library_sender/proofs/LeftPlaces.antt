@@ -1,4 +1,6 @@
 -- What a call on a record leaves: a refused read its room, a call without a room none, and all but a frame the store and the window. Assumes nothing.
+use Rattle.std.specs.Prelude.{Result, Ok, Err}
+use Rattle.protocol.specs.declared.Refusal.{Refusal}
 use mathlib.Core.Path.{◌≡◌, refl, ap, ◌∙◌}
 use mathlib.Core.Bool.{not}
 use mathlib.Core.List.{List, []}
@@ -10,11 +12,7 @@ use Rattle.shaping.specs.Rate.{Rate, rate_of}
 use Rattle.protocol.specs.Refusals.{PaperRefusal}
 use Rattle.modulator.specs.declared.SoftModulator.{SoftModulator}
 use Rattle.modulator.specs.declared.ModulatorFrame.{ModulatorFrame}
-use Rattle.modulator.specs.declared.Provided.{Provided}
-use Rattle.modulator.specs.declared.Provided.TheVariants.{Refused as ProvideRefused, Done as Taken}
-use Rattle.modulator.specs.declared.Updated.{Updated}
-use Rattle.modulator.specs.declared.Updated.TheVariants.{Refused as UpdateRefused, Done as Stored}
-use Rattle.modulator.specs.Paper.{Paper, refusal, done, wrote, transmit_end, read_output, idle, get_frame, nothing, provided_paper, updated_paper}
+use Rattle.modulator.specs.Paper.{Paper, refusal, done, wrote, transmit_end, read_output, idle, get_frame, nothing, done_paper}
 use Rattle.modulator.specs.Record.{control_of}
 use Rattle.modulator.specs.Fit.{record_fit_lem}
 use Rattle.modulator.specs.Outcome.{Outcome, only, told, sends, frame_outcome, update_outcome, action_outcome}
@@ -122,10 +120,6 @@ pub same_laid : (d : SoftModulator) (c : Call) → SameArrays d (left d c) → (
 same_laid d c k n laid = λ i. memory_at (k.store i) (k.window i) (laid i)
 
 -- ---- a frame and an update tell no number
-pub provided_tells : (x : Provided) (a : Paper) → provided_paper x ≡ a → 0 ≡ tells a 0
-provided_tells (ProvideRefused why) a e = ap (λ (y : Paper). tells y 0) e
-provided_tells Taken a e = ap (λ (y : Paper). tells y 0) e
-
-pub updated_tells : (x : Updated) (a : Paper) → updated_paper x ≡ a → 0 ≡ tells a 0
-updated_tells (UpdateRefused why) a e = ap (λ (y : Paper). tells y 0) e
-updated_tells Stored a e = ap (λ (y : Paper). tells y 0) e
+pub done_tells : (x : Result Unit Refusal) (a : Paper) → done_paper x ≡ a → 0 ≡ tells a 0
+done_tells (Err why) a e = ap (λ (y : Paper). tells y 0) e
+done_tells (Ok _) a e = ap (λ (y : Paper). tells y 0) e

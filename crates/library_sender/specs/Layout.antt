@@ -1,9 +1,8 @@
 -- What a sender's thirteen numbers mean, and the numbers of a sender. Assumes nothing.
-use Rattle.std.specs.Prelude.{Bool, cond, ◌&&◌, List, [], ◌∷◌, ℕ, leb, eqb, ℤ, get_or, Float}
+use Rattle.modulator.specs.declared.SampleCount.{SampleCount}
+use Rattle.std.specs.Prelude.{Bool, cond, ◌&&◌, List, [], ◌∷◌, ℕ, leb, eqb, ℤ, get_or, Float, Option, Some, None}
 use Rattle.shaping.specs.Rate.{rate_fit}
 use Rattle.protocol.specs.Refusals.{bare}
-use Rattle.modulator.specs.declared.EndReport.{EndReport}
-use Rattle.modulator.specs.declared.EndReport.TheVariants.{Nothing, After}
 use Rattle.modulator.specs.declared.Progress.{Progress}
 use Rattle.modulator.specs.declared.Pending.{Pending}
 use Rattle.modulator.specs.declared.SoftModulator.{SoftModulator}
@@ -19,8 +18,8 @@ unfoldable pub numbers_code : List ℕ → ℕ
 numbers_code n = cond (rate_fit (get_or n 0 0)) (cond (flags_fit n) 0 (refusal_code (bare 1))) (refusal_code (bare 15))
 
 -- ---- from the numbers to the record
-unfoldable pub report_in_lem : List ℕ → EndReport
-report_in_lem n = cond (eqb (get_or n 7 0) 0) Nothing (After (record { 0 = get_or n 8 0 }))
+unfoldable pub report_in_lem : List ℕ → Option SampleCount
+report_in_lem n = cond (eqb (get_or n 7 0) 0) None (Some (record { 0 = get_or n 8 0 }))
 
 abbrev pub progress_in : List ℕ → Progress
 progress_in n = record { next_len = get_or n 2 0; next_read = get_or n 3 0; tx_delay_padding = record { 0 = get_or n 4 0 } }
@@ -40,13 +39,13 @@ sender_in store window n = record {
 }
 
 -- ---- and back
-abbrev pub held_of : EndReport → ℕ
-held_of Nothing = 0
-held_of (After end) = 1
+abbrev pub held_of : Option SampleCount → ℕ
+held_of None = 0
+held_of (Some end) = 1
 
-abbrev pub end_of : EndReport → ℕ
-end_of Nothing = 0
-end_of (After end) = end.0
+abbrev pub end_of : Option SampleCount → ℕ
+end_of None = 0
+end_of (Some end) = end.0
 
 abbrev pub numbers_of_lem : SoftModulator → List ℕ
 numbers_of_lem m =

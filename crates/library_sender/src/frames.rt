@@ -3,7 +3,7 @@ ghost use Rattle.std.specs.Prelude.{◌≡◌};
 ghost use Rattle.library_sender.specs.Memory.{memory_at};
 ghost use Rattle.library_sender.specs.Exports.{traffic_of, Provides, M17SenderNewSays, M17SenderPreambleSays, M17SenderSymbolsSays, M17SenderEndSays, M17SenderNoFrameSays};
 
-use crate::answers::{code_made, code_provided};
+use crate::answers::code_done;
 use crate::layout::{check_numbers, lay_out, read_record};
 use given_symbols::Traffic;
 use modulator::{DelaySteps, ModulatorFrame, SoftModulator};
@@ -18,8 +18,7 @@ pub extern "C" fn m17_sender_new(
     ensures { M17SenderNewSays (memory_at store.old window.old numbers.old) rate result (memory_at store.new window.new numbers.new) }
 {
     let after = SoftModulator::new(rate);
-    let answer = after.answer;
-    let code = code_made(answer);
+    let code = code_done(after.answer);
     if 100 <= code {
         return code;
     }
@@ -43,8 +42,7 @@ fn provide(
     }
     let record = read_record(&*store, &*window, &*numbers);
     let after = record.provide_next_frame(frame, symbols);
-    let answer = after.answer;
-    let code = code_provided(answer);
+    let code = code_done(after.answer);
     if 100 <= code {
         return code;
     }

@@ -5,7 +5,7 @@ ghost use Rattle.library_sender.specs.Layout.{numbers_code, report_in_lem, sende
 ghost use Rattle.library_sender.specs.Memory.{memory_at, laid_out};
 
 use library_codes::flag_of;
-use modulator::{EndReport, OutputBuffer, Pending, Progress, SampleCount, SoftModulator};
+use modulator::{OutputBuffer, Pending, Progress, SampleCount, SoftModulator};
 
 // 0 of numbers that are a sender's; else the code of the refusal.
 pub fn check_numbers(n: &[u64; 13]) -> u32
@@ -22,14 +22,15 @@ pub fn check_numbers(n: &[u64; 13]) -> u32
     0
 }
 
-fn read_report(n: &[u64; 13]) -> EndReport
+#[tactic(auto, unfolding(crate::specs::Layout::report_in_lem))]
+fn read_report(n: &[u64; 13]) -> Option<SampleCount>
     ensures { result ≡ report_in_lem n.now }
 {
     if n[7] == 0 {
-        return EndReport::Nothing;
+        None
+    } else {
+        Some(SampleCount(n[8] as usize))
     }
-    let end = SampleCount(n[8] as usize);
-    EndReport::After(end)
 }
 
 pub fn read_record(store: &[i16; 4000], window: &[f32; 81], n: &[u64; 13]) -> SoftModulator
@@ -71,22 +72,16 @@ pub fn read_record(store: &[i16; 4000], window: &[f32; 81], n: &[u64; 13]) -> So
     }
 }
 
-fn count_reports(report: EndReport) -> u64
+fn count_reports(report: Option<SampleCount>) -> u64
     ensures { result ≡ held_of report }
 {
-    match report {
-        EndReport::Nothing => 0,
-        EndReport::After(_) => 1,
-    }
+    flag_of(report.is_some())
 }
 
-fn find_end(report: EndReport) -> u64
+fn find_end(report: Option<SampleCount>) -> u64
     ensures { result ≡ end_of report }
 {
-    match report {
-        EndReport::Nothing => 0,
-        EndReport::After(end) => end.0 as u64,
-    }
+    report.map_or(0, |end| end.0 as u64)
 }
 
 pub fn write_numbers(m: SoftModulator, n: &mut [u64; 13])

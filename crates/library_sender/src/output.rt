@@ -2,7 +2,7 @@
 ghost use Rattle.library_sender.specs.Memory.{memory_at};
 ghost use Rattle.library_sender.specs.Exports.{M17SenderReadSays, M17SenderUpdateSays, M17SenderRunSays};
 
-use crate::answers::{code_action, code_read, code_updated, tell_action, tell_read};
+use crate::answers::{code_action, code_done, code_read, tell_action, tell_read};
 use crate::layout::{check_numbers, read_record, write_numbers};
 use modulator::SampleCount;
 
@@ -55,8 +55,7 @@ pub extern "C" fn m17_sender_update(
     let held = SampleCount(capacity as usize);
     let delay = SampleCount(latency as usize);
     let after = record.update_output_buffer(in_buffer, held, delay);
-    let answer = after.answer;
-    let code = code_updated(answer);
+    let code = code_done(after.answer);
     if 100 <= code {
         return code;
     }

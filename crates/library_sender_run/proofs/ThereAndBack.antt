@@ -1,4 +1,6 @@
 -- There and back: memory means the record that was laid out in it, and numbers that are a sender's come back as they were. Assumes nothing.
+use Rattle.std.specs.Prelude.{Option, Some, None}
+use Rattle.modulator.specs.declared.SampleCount.{SampleCount}
 use mathlib.Core.Path.{◌≡◌, refl, sym}
 use mathlib.Core.Bool.{Bool, true, false, cond, ◌&&◌}
 use mathlib.Core.List.{List, [], ◌∷◌}
@@ -12,8 +14,6 @@ use lib.Ieee.Bits.{is_true}
 use lib.Ieee.Fits.{and_l, and_r}
 use Rattle.numbers.proofs.Tests.{holds}
 use Rattle.shaping.specs.Rate.{rate_fit}
-use Rattle.modulator.specs.declared.EndReport.{EndReport}
-use Rattle.modulator.specs.declared.EndReport.TheVariants.{Nothing, After}
 use Rattle.modulator.specs.declared.SoftModulator.{SoftModulator}
 use Rattle.library_codes.specs.Codes.{flag_number}
 use Rattle.library_sender.specs.Layout.{flags_fit, report_in_lem, sender_in, held_of, end_of, numbers_of_lem}
@@ -26,13 +26,13 @@ flag_back : (b : Bool) → (eqb (flag_number b) 1 ≡ b) × (leb (flag_number b)
 flag_back true = (refl, refl)
 flag_back false = (refl, refl)
 
-report_back : (e : EndReport) → cond (eqb (held_of e) 0) Nothing (After (record { 0 = end_of e })) ≡ e
-report_back Nothing = refl
-report_back (After end) = refl
+report_back : (e : Option SampleCount) → cond (eqb (held_of e) 0) None (Some (record { 0 = end_of e })) ≡ e
+report_back None = refl
+report_back (Some end) = refl
 
-held_few : (e : EndReport) → leb (held_of e) 1 ≡ true
-held_few Nothing = refl
-held_few (After end) = refl
+held_few : (e : Option SampleCount) → leb (held_of e) 1 ≡ true
+held_few None = refl
+held_few (Some end) = refl
 
 -- whatever the record
 pub record_back : (d : SoftModulator) → record_in (laid_out d) ≡ d
@@ -70,7 +70,7 @@ flag_there zero l = refl
 flag_there (suc zero) l = refl
 flag_there (suc (suc n)) l = absurd (omega arith)
 
-report_there : (held end : ℕ) → held ≤ 1 → (held ≡ 0 → end ≡ 0) → let e = cond (eqb held 0) Nothing (After (record { 0 = end })) in (held_of e ≡ held) × (end_of e ≡ end)
+report_there : (held end : ℕ) → held ≤ 1 → (held ≡ 0 → end ≡ 0) → let e = cond {A = Option SampleCount} (eqb held 0) None (Some (record { 0 = end })) in (held_of e ≡ held) × (end_of e ≡ end)
 report_there zero end l none = (refl, sym (none refl))
 report_there (suc zero) end l none = (refl, refl)
 report_there (suc (suc held)) end l none = absurd (omega arith)

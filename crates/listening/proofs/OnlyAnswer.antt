@@ -1,4 +1,7 @@
 -- Each function's promise fixes its answer: what the paper writes of one it writes of no other. Assumes nothing.
+use Rattle.std.specs.Prelude.{Option, Some, None, Result}
+use Rattle.demodulator.specs.declared.Offer.{Offer}
+use Rattle.protocol.specs.declared.Refusal.{Refusal}
 use mathlib.Core.Path.{◌≡◌, refl}
 use mathlib.Core.Bool.{Bool}
 use mathlib.Core.List.{List, [], ◌∷◌}
@@ -6,26 +9,23 @@ use lib.IntN.{ℤ}
 use Rattle.numbers.proofs.Answer.{same_answer}
 use Rattle.search.specs.declared.Reply.{Reply}
 use Rattle.demodulator.specs.declared.SoftDemodulator.{SoftDemodulator}
-use Rattle.demodulator.specs.declared.Heard.{Heard}
 use Rattle.demodulator.specs.Calls.{heard_paper}
 use Rattle.demodulator.proofs.OnlyAnswer.{once, heard, heard_back}
-use Rattle.listening.specs.declared.Settled.{Settled}
-use Rattle.listening.specs.declared.Settled.TheVariants.{Nothing, By}
 use Rattle.listening.specs.declared.Listened.{Listened}
 use Rattle.listening.specs.Listen.{settled_paper, IsOfferedSays, ListenSays}
 
-pub is_offered_only_answer : (answer : Heard) (r s : Bool) → IsOfferedSays answer r → IsOfferedSays answer s → r ≡ s
+pub is_offered_only_answer : (answer : Result (Option Offer) Refusal) (r s : Bool) → IsOfferedSays answer r → IsOfferedSays answer s → r ≡ s
 is_offered_only_answer answer r s = same_answer
 
 -- ---- what was settled, by the replies on paper
-settled_as : List Reply → Settled
-settled_as [] = Nothing
-settled_as (reply ∷ more) = By reply
+settled_as : List Reply → Option Reply
+settled_as [] = None
+settled_as (reply ∷ more) = Some reply
 
-settled_back : (s : Settled) → settled_as (settled_paper s) ≡ s
+settled_back : (s : Option Reply) → settled_as (settled_paper s) ≡ s
 unfolding settled_as
-settled_back Nothing = refl
-settled_back (By reply) = refl
+settled_back None = refl
+settled_back (Some reply) = refl
 
 pub listen_only_answer : (m : SoftDemodulator) (xs : List ℤ) (r s : Listened) → ListenSays m xs r → ListenSays m xs s → r ≡ s
 listen_only_answer m xs r s p q =

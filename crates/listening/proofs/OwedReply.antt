@@ -1,8 +1,8 @@
 -- By the rules, who listens owes no reply between samples, so each sample goes in until the count is at its end. Assumes nothing.
+use Rattle.std.specs.Prelude.{Some, None, Option}
 use mathlib.Core.Path.{◌≡◌, refl, sym, ap, ◌∙◌}
 use mathlib.Core.Bool.{Bool, true, false, not, cond, true≢false}
 use mathlib.Core.List.{List, [], ◌∷◌, ◌++◌, map}
-use mathlib.Core.Option.{Option, none, some}
 use Prim.Native.Nat.{ℕ, ◌+◌, ◌^◌, ◌≤◌, ◌<◌}
 use native.Mathlib.Omega.{arith}
 use borrow.Author.Tests.{ne_eqb}
@@ -13,8 +13,6 @@ use lib.Ieee.{Float}
 use Rattle.machine.specs.Runs.{run, answers, Each}
 use Rattle.shaping.specs.Rate.{Rate}
 use Rattle.search.specs.declared.Waiting.{Waiting}
-use Rattle.search.specs.declared.Wait.{Wait}
-use Rattle.search.specs.declared.Wait.TheVariants.{Free, Due}
 use Rattle.search.specs.declared.Control.{Control}
 use Rattle.search.specs.declared.Turn.{Turn}
 use Rattle.search.specs.declared.Turn.TheVariants.{Rest}
@@ -45,13 +43,13 @@ module _ (p : ℕ) (v : ℕ → Float) where
 
   due_owes : (o : Option TakenBurst) (w : Waiting) (c : Control) → c.owed ≡ false → Owes (comes_to p v (due_turn o w c))
   unfolding due_turn Owes
-  due_owes none w c e = searched_owed p v c ∙ e
-  due_owes (some t) w c e = refl
+  due_owes None w c e = searched_owed p v c ∙ e
+  due_owes (Some t) w c e = refl
 
-  waited_owes : (wait : Wait) (c : Control) → c.owed ≡ false → Owes (comes_to p v (waited_turn wait c))
+  waited_owes : (wait : Option Waiting) (c : Control) → c.owed ≡ false → Owes (comes_to p v (waited_turn wait c))
   unfolding waited_turn Owes
-  waited_owes Free c e = searched_owed p v c ∙ e
-  waited_owes (Due w) c e = pick_owes (ltb 1 w.left) (Rest _) (due_turn (held_in c.candidate) w (freed c)) e (due_owes (held_in c.candidate) w (freed c) e)
+  waited_owes None c e = searched_owed p v c ∙ e
+  waited_owes (Some w) c e = pick_owes (ltb 1 w.left) (Rest _) (due_turn (held_in c.candidate) w (freed c)) e (due_owes (held_in c.candidate) w (freed c) e)
 
   sampled_owes : (c : Control) → c.owed ≡ false → Owes (sampled p v c)
   unfolding sampled

@@ -1,15 +1,14 @@
 -- What listening to samples up to an offer answers and leaves, on any record. Assumes nothing.
-use Rattle.std.specs.Prelude.{◌≡◌, Bool, true, false, List, [], ◌∷◌, map, ℤ}
+use Rattle.demodulator.specs.declared.Offer.{Offer}
+use Rattle.protocol.specs.declared.Refusal.{Refusal}
+use Rattle.std.specs.Prelude.{◌≡◌, Bool, true, false, List, [], ◌∷◌, map, ℤ, Option, Some, None, Result}
 use Rattle.machine.specs.Runs.{run}
 use Rattle.shaping.specs.Rate.{rate_of}
 use Rattle.search.specs.declared.Reply.{Reply}
 use Rattle.demodulator.specs.declared.SoftDemodulator.{SoftDemodulator}
-use Rattle.demodulator.specs.declared.Heard.{Heard}
 use Rattle.demodulator.specs.Calls.{Paper, refusal, nothing, frame, done, carrier, heard_paper}
 use Rattle.demodulator.specs.Feed.{Stretch, fed_into}
 use Rattle.demodulator.specs.Singles.{blank}
-use Rattle.listening.specs.declared.Settled.{Settled}
-use Rattle.listening.specs.declared.Settled.TheVariants.{Nothing, By}
 use Rattle.listening.specs.declared.Listened.{Listened}
 use Rattle.listening.specs.Listener.{Listed, listed_of, reply_to, own_record}
 use Rattle.listening.specs.Verdict.{verdict}
@@ -36,12 +35,12 @@ left_by_stretch f = run own_record f.state (map reply_to (listed_at_end f))
 abbrev pub replies_in : List Listed → List Reply
 replies_in = map (λ (o : Listed). o.reply)
 
-abbrev pub settled_paper : Settled → List Reply
-settled_paper Nothing = []
-settled_paper (By reply) = reply ∷ []
+abbrev pub settled_paper : Option Reply → List Reply
+settled_paper None = []
+settled_paper (Some reply) = reply ∷ []
 
 -- ---- what the functions promise
-abbrev pub IsOfferedSays : Heard → Bool → Type 0
+abbrev pub IsOfferedSays : Result (Option Offer) Refusal → Bool → Type 0
 IsOfferedSays answer r = r ≡ is_offer (heard_paper answer)
 
 pub record ListenSays (m : SoftDemodulator) (xs : List ℤ) (r : Listened) : Type 0 where

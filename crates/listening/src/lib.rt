@@ -6,47 +6,33 @@ ghost use Rattle.house.specs.Accept.{accepted, symbol_at};
 ghost use Rattle.listening.specs.Verdict.{verdict};
 ghost use Rattle.listening.specs.Listen.{IsOfferedSays, ListenSays};
 
-use demodulator::{Heard, Reply, SoftDemodulator, Timer};
-use protocol::Kind;
-
-// No offer was there, or one, settled by a reply.
-#[derive(Clone, Copy)]
-pub enum Settled {
-    Nothing,
-    By(Reply),
-}
+use demodulator::{Offer, Reply, SoftDemodulator};
+use protocol::{Kind, Refusal};
 
 // What comes of samples up to an offer: `fed` of them went in. `window` has the offer's symbols, or noughts where there is none, so that an
 // offer that is not shown touches nobody's room. `timer` is the carrier timer before the reply, and the record is the one after it.
 #[derive(Clone, Copy)]
 pub struct Listened {
-    pub answer: Heard,
-    pub settled: Settled,
+    pub answer: Result<Option<Offer>, Refusal>,
+    pub settled: Option<Reply>,
     pub fed: usize,
     pub window: [f32; 192],
-    pub timer: Timer,
+    pub timer: Option<u64>,
     pub demodulator: SoftDemodulator,
 }
 
-pub fn is_offered(answer: Heard) -> bool
+#[tactic(auto, unfolding(crate::specs::Listen::is_offer))]
+pub fn is_offered(answer: Result<Option<Offer>, Refusal>) -> bool
     ensures { IsOfferedSays answer result }
 {
-    match answer {
-        Heard::Refused(_) => false,
-        Heard::Quiet => false,
-        Heard::Offered(_) => true,
-    }
+    matches!(answer, Ok(Some(_)))
 }
 
 fn is_accepted(kind: Kind, window: [f32; 192]) -> bool
     ensures { result ≡ accepted kind (symbol_at window) }
 {
     let mut first = [0.0f32; 8];
-    let mut i: usize = 0;
-    while i < 8 {
-        first[i] = window[i];
-        i += 1;
-    }
+    first.copy_from_slice(&window[..8]);
     house::accepts(kind, first)
 }
 
@@ -61,6 +47,7 @@ fn judge(kind: Kind, window: [f32; 192]) -> Reply
 }
 
 // The samples up to the first offer, which is replied to, or up to one that would be refused.
+#[tactic(auto, using(crate::proofs::Settlement::listens_refused, crate::proofs::Settlement::listens_quiet, crate::proofs::Settlement::listens_offered), unfolding(demodulator::specs::Singles::blank))]
 pub fn listen(demodulator: SoftDemodulator, samples: &[i16]) -> Listened
     ensures { ListenSays demodulator samples.now result }
 {
@@ -72,34 +59,23 @@ pub fn listen(demodulator: SoftDemodulator, samples: &[i16]) -> Listened
     let control = left.control;
     let timer = control.dcd;
     match answer {
-        Heard::Refused(_) => Listened {
+        Err(_) | Ok(None) => Listened {
             answer,
-            settled: Settled::Nothing,
+            settled: None,
             fed,
             window,
             timer,
             demodulator: left,
         },
-        Heard::Quiet => Listened {
-            answer,
-            settled: Settled::Nothing,
-            fed,
-            window,
-            timer,
-            demodulator: left,
-        },
-        Heard::Offered(offer) => {
-            let kind = offer.kind;
-            let reply = judge(kind, window);
-            let replied = left.reply(reply);
-            let next = replied.demodulator;
+        Ok(Some(offer)) => {
+            let reply = judge(offer.kind, window);
             Listened {
                 answer,
-                settled: Settled::By(reply),
+                settled: Some(reply),
                 fed,
                 window,
                 timer,
-                demodulator: next,
+                demodulator: left.reply(reply).demodulator,
             }
         }
     }

@@ -8,14 +8,14 @@ ghost use Rattle.look.specs.Marks.{upper, lower, top_of, bottom_of, mark_of, Mar
 ghost use Rattle.look.specs.Rows.{IsInRangeSays, IsFaintSays};
 
 // Whether the correlator takes each value of the row.
+#[tactic(auto, unfolding(numbers::specs::Below::all_below, crate::specs::Rows::row_in_range))]
 pub fn is_in_range(row: &[f32]) -> bool
     ensures { IsInRangeSays row.now result }
 {
     let mut all = true;
-    let mut i: usize = 0;
-    while i < row.len() {
-        all = all & decode::in_range(row[i]);
-        i += 1;
+    // No `all`, which ends early: so the values are compared several at a time.
+    for value in row {
+        all &= decode::in_range(*value);
     }
     all
 }
@@ -24,14 +24,14 @@ pub fn is_in_range(row: &[f32]) -> bool
 const FAINT: f32 = 15.0;
 
 // Whether all values of the row are so small that no burst matches.
+#[tactic(auto, unfolding(numbers::specs::Below::all_below, crate::specs::Rows::row_faint))]
 pub fn is_faint(row: &[f32]) -> bool
     ensures { IsFaintSays row.now result }
 {
     let mut all = true;
-    let mut i: usize = 0;
-    while i < row.len() {
-        all = all & ((row[i] < FAINT) & (-FAINT < row[i]));
-        i += 1;
+    // No `all`, as above.
+    for value in row {
+        all &= (*value < FAINT) & (-FAINT < *value);
     }
     all
 }
@@ -49,6 +49,7 @@ fn lower(a: f32, b: f32) -> f32
     if b < a { b } else { a }
 }
 
+#[tactic(auto, unfolding(crate::specs::Marks::top_of))]
 fn top(v0: f32, v1: f32, v2: f32, v3: f32, v4: f32, v5: f32, v6: f32, v7: f32) -> f32
     ensures { result ≡ top_of (values_of (v0 ∷ v1 ∷ v2 ∷ v3 ∷ v4 ∷ v5 ∷ v6 ∷ v7 ∷ [])) 7 }
 {
@@ -61,6 +62,7 @@ fn top(v0: f32, v1: f32, v2: f32, v3: f32, v4: f32, v5: f32, v6: f32, v7: f32) -
     )
 }
 
+#[tactic(auto, unfolding(crate::specs::Marks::bottom_of))]
 fn bottom(v0: f32, v1: f32, v2: f32, v3: f32, v4: f32, v5: f32, v6: f32, v7: f32) -> f32
     ensures { result ≡ bottom_of (values_of (v0 ∷ v1 ∷ v2 ∷ v3 ∷ v4 ∷ v5 ∷ v6 ∷ v7 ∷ [])) 7 }
 {
@@ -134,9 +136,8 @@ pub fn marks(p: usize, row: &[f32]) -> [u32; 48]
     let s5 = 5 * p;
     let s6 = 6 * p;
     let s7 = 7 * p;
-    let mut k: usize = 0;
-    while k < 48 {
-        let m = mark(
+    for k in 0..48 {
+        found[k] = mark(
             row[k],
             row[k + p],
             row[k + s2],
@@ -146,8 +147,6 @@ pub fn marks(p: usize, row: &[f32]) -> [u32; 48]
             row[k + s6],
             row[k + s7],
         );
-        found[k] = m;
-        k += 1;
     }
     found
 }

@@ -1,4 +1,5 @@
 -- What a call answers and leaves, by the tests that lead there. Assumes nothing.
+use Rattle.std.specs.Prelude.{Some, None}
 use mathlib.Core.Path.{◌≡◌, refl, subst}
 use mathlib.Core.Bool.{Bool, true, false, not, ◌||◌}
 use mathlib.Core.List.{List, []}
@@ -9,7 +10,6 @@ use borrow.Author.Tests.{lt-ltb, le-ltb, leb-true}
 use Rattle.shaping.specs.Rate.{Rate}
 use Rattle.protocol.specs.Refusals.{bare}
 use Rattle.modulator.specs.declared.SampleCount.{SampleCount}
-use Rattle.modulator.specs.declared.EndReport.TheVariants.{Nothing, After}
 use Rattle.modulator.specs.declared.SoftModulator.{SoftModulator}
 use Rattle.modulator.specs.Paper.{refusal, done, transmit_end, read_output, idle, get_frame, nothing}
 use Rattle.modulator.specs.Control.{buffer_of, end_after_lem, updated_pending_lem, reported, idled}
@@ -62,12 +62,12 @@ module _ (R : Rate) (m : SoftModulator) where
   unfolding ran
   run_unfit e = rw e
 
-  pub run_end : (end : SampleCount) → record_fit_lem R.p m ≡ true → m.pending.report_tx_end ≡ After end
+  pub run_end : (end : SampleCount) → record_fit_lem R.p m ≡ true → m.pending.report_tx_end ≡ Some end
       → ran R m ≡ left (transmit_end end.0) (with_pending (reported m.pending) m.buffer m) []
   unfolding ran settled action_by
   run_end end e r = rw (e, r)
 
-  module _ (e : record_fit_lem R.p m ≡ true) (r : m.pending.report_tx_end ≡ Nothing) where
+  module _ (e : record_fit_lem R.p m ≡ true) (r : m.pending.report_tx_end ≡ None) where
     pub run_read : m.progress.next_read < m.progress.next_len → ran R m ≡ left read_output m []
     unfolding ran settled action_by
     run_read l = rw (e, r, lt-ltb m.progress.next_read m.progress.next_len l)

@@ -1,22 +1,22 @@
 -- What a fit record is known to be, clause by clause, over p, the samples in a symbol. Assumes nothing.
+use Rattle.std.specs.Prelude.{Option, Some}
 use mathlib.Core.Path.{◌≡◌, refl, subst}
 use mathlib.Core.Bool.{Bool, true, ◌&&◌}
 use mathlib.Core.List.{List}
 use Prim.Native.Nat.{ℕ, ◌≤◌, ◌<◌}
 use lib.Dec.{T, leb, leb→le, ltb→lt}
-use lib.ListN.{get_or}
+use lib.ListN.{length, get_or, take}
+use lib.Seq.{get_or-take, length-take-le}
 use lib.Ieee.{Float, nan, binary32, of_bits, neg, le}
 use lib.Ieee.Bits.{is_true}
 use lib.Ieee.Fits.{and_l, and_r}
 use Rattle.numbers.specs.Below.{all_below}
 use Rattle.numbers.specs.Within.{Within}
 use Rattle.numbers.proofs.Tests.{holds}
-use Rattle.numbers.proofs.Below.{all_below_lem}
+use Rattle.numbers.proofs.Below.{all_below_lem, all_same}
 use Rattle.numbers.proofs.Bounds.{between}
 use Rattle.shaping.specs.Rate.{rate_fit, tap_count, store_places_lem, padding_limit_lem, end_limit_lem}
 use Rattle.modulator.specs.declared.SampleCount.{SampleCount}
-use Rattle.modulator.specs.declared.EndReport.{EndReport}
-use Rattle.modulator.specs.declared.EndReport.TheVariants.{After}
 use Rattle.modulator.specs.declared.Progress.{Progress}
 use Rattle.modulator.specs.declared.OutputBuffer.{OutputBuffer}
 use Rattle.modulator.specs.declared.SoftModulator.{SoftModulator}
@@ -41,7 +41,7 @@ pub record RecordFacts (p : ℕ) (m : SoftModulator) : Type 0 where
   pub window : (i : ℕ) → i < tap_count p → Within (get_or m.filter_win i nan) 35461
   pub progress : ProgressFacts p m.progress
   pub buffer : BufferFacts m.buffer
-  pub report : (end : SampleCount) → m.pending.report_tx_end ≡ After end → end.0 ≤ end_limit_lem p
+  pub report : (end : SampleCount) → m.pending.report_tx_end ≡ Some end → end.0 ≤ end_limit_lem p
 
 -- ---- each clause
 pub pulse_within : (value : Float) → T (pulse_fit value) → Within value 35461
@@ -81,13 +81,13 @@ buffer_facts b t =
       room = leb→le b.samples_in_buf.0 b.buf_capacity.0 (and_r (fill && capacity && latency) room t);
     }
 
-report_fact : (p : ℕ) (end : SampleCount) → T (report_fit_lem p (After end)) → end.0 ≤ end_limit_lem p
+report_fact : (p : ℕ) (end : SampleCount) → T (report_fit_lem p (Some end)) → end.0 ≤ end_limit_lem p
 report_fact p end t = leb→le end.0 (end_limit_lem p) t
 
 -- window values from -35,461 to 35,461 are those within 35461.0
-pub window_within : (window : List Float) (n : ℕ) → all_below n (λ (i : ℕ). within (of_bits binary32 0x470a_8500) (get_or window i nan)) ≡ all_below n (λ (i : ℕ). pulse_fit (get_or window i nan))
+pub window_within : (window : List Float) (n : ℕ) → n ≤ length window → all_below (length (take n window)) (λ (i : ℕ). within (of_bits binary32 0x470a_8500) (get_or (take n window) i nan)) ≡ all_below n (λ (i : ℕ). pulse_fit (get_or window i nan))
 unfolding pulse_fit of_bits neg
-window_within window n = refl
+window_within window n long = rw (length-take-le n window long) (all_same n _ _ λ i l. rw (get_or-take n window i nan l))
 
 -- ---- all of them
 -- the rate and the five groups of phrases
@@ -137,5 +137,5 @@ record_facts p m e =
       window = λ i l. pulse_within (get_or m.filter_win i nan) (all_below_lem (tap_count p) value g.window i l);
       progress = progress_facts p m.progress g.progress;
       buffer = buffer_facts m.buffer g.buffer;
-      report = λ end r. report_fact p end (subst (λ (o : EndReport). T (report_fit_lem p o)) r g.report);
+      report = λ end r. report_fact p end (subst (λ (o : Option SampleCount). T (report_fit_lem p o)) r g.report);
     }

@@ -1,16 +1,14 @@
 -- What each call answers at a rate, and what it leaves: the record, and the room for samples. Assumes nothing.
-use Rattle.std.specs.Prelude.{◌≡◌, not, cond, List, [], ℕ, ℤ, length, Float}
+use Rattle.protocol.specs.declared.Refusal.{Refusal}
+use Rattle.modulator.specs.declared.After.{After}
+use Rattle.modulator.specs.declared.ModulatorAction.{ModulatorAction}
+use Rattle.std.specs.Prelude.{◌≡◌, not, cond, List, [], ℕ, ℤ, length, Float, Result}
 use Rattle.shaping.specs.Rate.{Rate, rate_fit, rate_of}
 use Rattle.protocol.specs.Refusals.{bare}
 use Rattle.modulator.specs.declared.SampleCount.{SampleCount}
 use Rattle.modulator.specs.declared.SoftModulator.{SoftModulator}
 use Rattle.modulator.specs.declared.ModulatorFrame.{ModulatorFrame}
-use Rattle.modulator.specs.declared.AfterNew.{AfterNew}
-use Rattle.modulator.specs.declared.AfterFrame.{AfterFrame}
-use Rattle.modulator.specs.declared.AfterRead.{AfterRead}
-use Rattle.modulator.specs.declared.AfterUpdate.{AfterUpdate}
-use Rattle.modulator.specs.declared.AfterRun.{AfterRun}
-use Rattle.modulator.specs.Paper.{Paper, refusal, done, wrote, made_paper, provided_paper, read_paper, updated_paper, action_paper}
+use Rattle.modulator.specs.Paper.{Paper, refusal, done, wrote, done_paper, read_paper, action_paper}
 use Rattle.modulator.specs.Control.{written_count, read_on, room_after}
 use Rattle.modulator.specs.Record.{fresh, control_of, stored_sample, with_progress, with_pending, framed}
 use Rattle.modulator.specs.Fit.{record_fit_lem, unfit_number}
@@ -58,23 +56,23 @@ unfoldable pub made : ℕ → Left
 made rate = left (cond (rate_fit rate) done (refusal (bare 15))) (fresh rate) []
 
 -- ---- what the functions promise: each call is at the record's own rate
-pub record NewSays (rate : ℕ) (r : AfterNew) : Type 0 where
-  pub answers : made_paper r.answer ≡ (made rate).answer
+pub record NewSays (rate : ℕ) (r : After Unit) : Type 0 where
+  pub answers : done_paper r.answer ≡ (made rate).answer
   pub leaves : r.modulator ≡ (made rate).modulator
 
-pub record ProvideNextFrameSays (m : SoftModulator) (frame : ModulatorFrame) (symbols : List Float) (r : AfterFrame) : Type 0 where
-  pub answers : provided_paper r.answer ≡ (provided (rate_of m.rate) m frame symbols).answer
+pub record ProvideNextFrameSays (m : SoftModulator) (frame : ModulatorFrame) (symbols : List Float) (r : After Unit) : Type 0 where
+  pub answers : done_paper r.answer ≡ (provided (rate_of m.rate) m frame symbols).answer
   pub leaves : r.modulator ≡ (provided (rate_of m.rate) m frame symbols).modulator
 
-pub record ReadOutputSamplesSays (m : SoftModulator) (room : List ℤ) (r : AfterRead) (after : List ℤ) : Type 0 where
+pub record ReadOutputSamplesSays (m : SoftModulator) (room : List ℤ) (r : After SampleCount) (after : List ℤ) : Type 0 where
   pub answers : read_paper r.answer ≡ (read (rate_of m.rate) m room).answer
   pub leaves : r.modulator ≡ (read (rate_of m.rate) m room).modulator
   pub writes : after ≡ (read (rate_of m.rate) m room).room
 
-pub record UpdateOutputBufferSays (m : SoftModulator) (fill capacity latency : SampleCount) (r : AfterUpdate) : Type 0 where
-  pub answers : updated_paper r.answer ≡ (updated (rate_of m.rate) m fill.0 capacity.0 latency.0).answer
+pub record UpdateOutputBufferSays (m : SoftModulator) (fill capacity latency : SampleCount) (r : After Unit) : Type 0 where
+  pub answers : done_paper r.answer ≡ (updated (rate_of m.rate) m fill.0 capacity.0 latency.0).answer
   pub leaves : r.modulator ≡ (updated (rate_of m.rate) m fill.0 capacity.0 latency.0).modulator
 
-pub record RunSays (m : SoftModulator) (r : AfterRun) : Type 0 where
+pub record RunSays (m : SoftModulator) (r : After ModulatorAction) : Type 0 where
   pub answers : action_paper r.answer ≡ (ran (rate_of m.rate) m).answer
   pub leaves : r.modulator ≡ (ran (rate_of m.rate) m).modulator

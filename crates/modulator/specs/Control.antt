@@ -1,9 +1,8 @@
 -- The sender's control: how far the frame at hand is read, what is pending, and the card's buffer. A record keeps it, and so do the rules over all calls.
 -- Over p, the samples in a symbol. Assumes nothing.
-use Rattle.std.specs.Prelude.{true, false, cond, ◌||◌, List, ◌++◌, ℕ, ◌+◌, ◌-◌, ◌*◌, min, leb, ℤ, pos, length, drop, replicate}
+use Rattle.std.specs.Prelude.{true, false, cond, ◌||◌, List, ◌++◌, ℕ, ◌+◌, ◌-◌, ◌*◌, min, leb, ℤ, pos, length, drop, replicate, Some, None}
 use Rattle.numbers.specs.Firsts.{firsts}
 use Rattle.shaping.specs.Rate.{wish_room_lem}
-use Rattle.modulator.specs.declared.EndReport.TheVariants.{Nothing as NoReport, After}
 use Rattle.modulator.specs.declared.Progress.{Progress}
 use Rattle.modulator.specs.declared.Pending.{Pending}
 use Rattle.modulator.specs.declared.OutputBuffer.{OutputBuffer}
@@ -21,7 +20,7 @@ buffer_of fill capacity latency = record { output_latency = record { 0 = latency
 abbrev pub fresh_control : Control
 fresh_control = record {
   progress = record { next_len = 0; next_read = 0; tx_delay_padding = record { 0 = 0 } };
-  pending = record { update_idle = true; calculate_tx_end = false; report_tx_end = NoReport; try_get_frame = false };
+  pending = record { update_idle = true; calculate_tx_end = false; report_tx_end = None; try_get_frame = false };
   buffer = buffer_of 0 0 0;
 }
 
@@ -78,13 +77,13 @@ abbrev pub updated_pending_lem : ℕ → ℕ → ℕ → ℕ → Pending → Pen
 updated_pending_lem p fill capacity end s = record {
   update_idle = s.update_idle;
   calculate_tx_end = false;
-  report_tx_end = cond s.calculate_tx_end (After (record { 0 = end })) s.report_tx_end;
+  report_tx_end = cond s.calculate_tx_end (Some (record { 0 = end })) s.report_tx_end;
   try_get_frame = leb (wish_room_lem p) (capacity - fill) || s.try_get_frame;
 }
 
 -- "transmit end (once)"
 abbrev pub reported : Pending → Pending
-reported s = record { update_idle = s.update_idle; calculate_tx_end = s.calculate_tx_end; report_tx_end = NoReport; try_get_frame = s.try_get_frame }
+reported s = record { update_idle = s.update_idle; calculate_tx_end = s.calculate_tx_end; report_tx_end = None; try_get_frame = s.try_get_frame }
 
 -- "idle yes (once from a fresh start)"
 abbrev pub idled : Pending → Pending

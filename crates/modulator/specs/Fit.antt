@@ -1,11 +1,10 @@
 -- Document 01's 'Unfit sender', phrase by phrase in its order: a record is fit where its rate is one of the two and no phrase applies. Over p, the samples in a symbol, where a limit is a multiple of it. Assumes nothing.
-use Rattle.std.specs.Prelude.{Bool, true, cond, ◌&&◌, ℕ, ltb, leb, get_or, Float}
+use Rattle.modulator.specs.declared.SampleCount.{SampleCount}
+use Rattle.std.specs.Prelude.{Bool, true, cond, ◌&&◌, ℕ, ltb, leb, get_or, Float, Option, Some, None}
 use Rattle.std.specs.Float.{nan, binary32}
 use Rattle.std.specs.Float.Ieee.{of_bits, le}
 use Rattle.numbers.specs.Below.{all_below}
 use Rattle.shaping.specs.Rate.{rate_fit, tap_count, store_places_lem, padding_limit_lem, end_limit_lem}
-use Rattle.modulator.specs.declared.EndReport.{EndReport}
-use Rattle.modulator.specs.declared.EndReport.TheVariants.{Nothing, After}
 use Rattle.modulator.specs.declared.Progress.{Progress}
 use Rattle.modulator.specs.declared.OutputBuffer.{OutputBuffer}
 use Rattle.modulator.specs.declared.SoftModulator.{SoftModulator}
@@ -33,9 +32,9 @@ abbrev pub buffer_fit_lem : OutputBuffer → Bool
 buffer_fit_lem b = count_fit_lem b.samples_in_buf.0 && count_fit_lem b.buf_capacity.0 && count_fit_lem b.output_latency.0 && leb b.samples_in_buf.0 b.buf_capacity.0
 
 -- "a reported end above" its limit, which request a raises
-abbrev pub report_fit_lem : ℕ → EndReport → Bool
-report_fit_lem p Nothing = true
-report_fit_lem p (After end) = leb end.0 (end_limit_lem p)
+abbrev pub report_fit_lem : ℕ → Option SampleCount → Bool
+report_fit_lem p None = true
+report_fit_lem p (Some end) = leb end.0 (end_limit_lem p)
 
 unfoldable pub record_fit_lem : ℕ → SoftModulator → Bool
 record_fit_lem p m = rate_fit m.rate && cursor_fit p m && window_fit p m && progress_fit_lem p m.progress && buffer_fit_lem m.buffer && report_fit_lem p m.pending.report_tx_end

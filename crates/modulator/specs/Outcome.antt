@@ -1,9 +1,8 @@
 -- What comes of a frame, an update and an action request, by the control: document 01's cases and refusals, once for record and rules. Assumes nothing.
-use Rattle.std.specs.Prelude.{Bool, true, not, cond, ◌||◌, List, ℕ, ltb, Float}
+use Rattle.modulator.specs.declared.SampleCount.{SampleCount}
+use Rattle.std.specs.Prelude.{Bool, true, not, cond, ◌||◌, List, ℕ, ltb, Float, Option, Some, None}
 use Rattle.protocol.specs.Refusals.{bare}
 use Rattle.given_symbols.specs.Offender.{PaperVerdict, refused, fine, judged_as}
-use Rattle.modulator.specs.declared.EndReport.{EndReport}
-use Rattle.modulator.specs.declared.EndReport.TheVariants.{Nothing as NoReport, After}
 use Rattle.modulator.specs.declared.Pending.{Pending}
 use Rattle.modulator.specs.declared.OutputBuffer.{OutputBuffer}
 use Rattle.modulator.specs.declared.ModulatorFrame.{ModulatorFrame}
@@ -48,9 +47,9 @@ update_outcome p fill capacity latency s =
 
 -- ---- the next action
 -- "first that applies: transmit end (once), read output if unread samples are left, idle yes (once from a fresh start), get a frame if wished, nothing"
-unfoldable pub action_by : EndReport → Control → Outcome
-action_by (After end) s = told (transmit_end end.0) (reported s.pending) s.buffer
-action_by NoReport s =
+unfoldable pub action_by : Option SampleCount → Control → Outcome
+action_by (Some end) s = told (transmit_end end.0) (reported s.pending) s.buffer
+action_by None s =
     cond (ltb s.progress.next_read s.progress.next_len) (only read_output)
     (cond s.pending.update_idle (told (idle true) (idled s.pending) s.buffer)
     (cond s.pending.try_get_frame (only get_frame)

@@ -1,16 +1,10 @@
 -- The paper's answers of the sender: a refusal, or the paper's values; and what each answer of its functions is on paper. Assumes nothing.
-use Rattle.std.specs.Prelude.{Bool, ℕ}
+use Rattle.modulator.specs.declared.SampleCount.{SampleCount}
+use Rattle.protocol.specs.declared.Refusal.{Refusal}
+use Rattle.std.specs.Prelude.{Bool, ℕ, Result, Ok, Err}
 use Rattle.protocol.specs.Refusals.{PaperRefusal, on_paper}
-use Rattle.modulator.specs.declared.Made.{Made}
-use Rattle.modulator.specs.declared.Made.TheVariants.{Refused as MakeRefused, Done as Begun}
-use Rattle.modulator.specs.declared.Provided.{Provided}
-use Rattle.modulator.specs.declared.Provided.TheVariants.{Refused as ProvideRefused, Done as Taken}
-use Rattle.modulator.specs.declared.Read.{Read}
-use Rattle.modulator.specs.declared.Read.TheVariants.{Refused as ReadRefused, Wrote}
-use Rattle.modulator.specs.declared.Updated.{Updated}
-use Rattle.modulator.specs.declared.Updated.TheVariants.{Refused as UpdateRefused, Done as Stored}
 use Rattle.modulator.specs.declared.ModulatorAction.{ModulatorAction}
-use Rattle.modulator.specs.declared.ModulatorAction.TheVariants.{Refused as RunRefused, TransmissionWillEnd, ReadOutput, SetIdle, GetNextFrame, Nothing as NoAction}
+use Rattle.modulator.specs.declared.ModulatorAction.TheVariants.{TransmissionWillEnd, ReadOutput, SetIdle, GetNextFrame, Nothing as NoAction}
 
 pub data Paper : Type 0 where
   refusal : PaperRefusal → Paper
@@ -22,26 +16,18 @@ pub data Paper : Type 0 where
   get_frame : Paper
   nothing : Paper
 
-abbrev pub made_paper : Made → Paper
-made_paper (MakeRefused why) = refusal (on_paper why)
-made_paper Begun = done
+abbrev pub done_paper : Result Unit Refusal → Paper
+done_paper (Err why) = refusal (on_paper why)
+done_paper (Ok _) = done
 
-abbrev pub provided_paper : Provided → Paper
-provided_paper (ProvideRefused why) = refusal (on_paper why)
-provided_paper Taken = done
+abbrev pub read_paper : Result SampleCount Refusal → Paper
+read_paper (Err why) = refusal (on_paper why)
+read_paper (Ok n) = wrote n.0
 
-abbrev pub read_paper : Read → Paper
-read_paper (ReadRefused why) = refusal (on_paper why)
-read_paper (Wrote n) = wrote n.0
-
-abbrev pub updated_paper : Updated → Paper
-updated_paper (UpdateRefused why) = refusal (on_paper why)
-updated_paper Stored = done
-
-abbrev pub action_paper : ModulatorAction → Paper
-action_paper (RunRefused why) = refusal (on_paper why)
-action_paper (TransmissionWillEnd n) = transmit_end n.0
-action_paper ReadOutput = read_output
-action_paper (SetIdle state) = idle state
-action_paper GetNextFrame = get_frame
-action_paper NoAction = nothing
+abbrev pub action_paper : Result ModulatorAction Refusal → Paper
+action_paper (Err why) = refusal (on_paper why)
+action_paper (Ok (TransmissionWillEnd n)) = transmit_end n.0
+action_paper (Ok ReadOutput) = read_output
+action_paper (Ok (SetIdle state)) = idle state
+action_paper (Ok GetNextFrame) = get_frame
+action_paper (Ok NoAction) = nothing

@@ -1,17 +1,17 @@
 // Whether a record is one that the rules speak of: its rate is one of the two, and document 01's 'Unfit sender', one function for each group of its phrases.
-ghost use Rattle.std.specs.Prelude.{◌≡◌, ◌≤◌};
+ghost use Rattle.std.specs.Prelude.{◌≡◌};
 ghost use Rattle.shaping.specs.Rate.{samples_in_lem};
 ghost use Rattle.protocol.specs.Refusals.{bare, on_paper};
 ghost use Rattle.modulator.specs.Fit.{progress_fit_lem, count_fit_lem, buffer_fit_lem, report_fit_lem, record_fit_lem, unfit_number};
 
 use super::counts::{end_limit, padding_limit, store_places};
 use super::within::all_within;
-use super::{EndReport, OutputBuffer, Progress, SampleCount, SoftModulator};
+use super::{OutputBuffer, Progress, SampleCount, SoftModulator};
 use protocol::Refusal;
 use pulse::FULL_SYMBOL;
+use shaping::PerSymbol;
 
-fn progress_fit(p: usize, progress: Progress) -> bool
-    requires { p ≤ 10 }
+fn progress_fit(p: PerSymbol, progress: Progress) -> bool
     ensures { result ≡ progress_fit_lem p progress }
 {
     (progress.next_len <= store_places(p))
@@ -35,33 +35,30 @@ fn buffer_fit(buffer: OutputBuffer) -> bool
         & (buffer.samples_in_buf.0 <= buffer.buf_capacity.0)
 }
 
-fn report_fit(p: usize, report: EndReport) -> bool
-    requires { p ≤ 10 }
+fn report_fit(p: PerSymbol, report: Option<SampleCount>) -> bool
     ensures { result ≡ report_fit_lem p report }
 {
     match report {
-        EndReport::Nothing => true,
-        EndReport::After(end) => end.0 <= end_limit(p),
+        None => true,
+        Some(end) => end.0 <= end_limit(p),
     }
 }
 
 pub(crate) fn record_fit(m: SoftModulator) -> bool
     ensures { result ≡ record_fit_lem (samples_in_lem m.rate) m }
 {
-    if !shaping::is_rate(m.rate) {
+    let Some(p) = PerSymbol::of(m.rate) else {
         return false;
-    }
-    let p = shaping::samples_in(m.rate);
-    let places = 8 * p + 1;
+    };
+    let places = 8 * p.samples() + 1;
     let pending = m.pending;
-    let report = pending.report_tx_end;
     let progress = m.progress;
     let buffer = m.buffer;
     (m.filter_cursor < places)
-        & all_within(FULL_SYMBOL, &m.filter_win, places)
+        & all_within(FULL_SYMBOL, &m.filter_win[..places])
         & progress_fit(p, progress)
         & buffer_fit(buffer)
-        & report_fit(p, report)
+        & report_fit(p, pending.report_tx_end)
 }
 
 // What a record that is not fit is refused with: a rate that is none comes before all else.

@@ -9,12 +9,12 @@ ghost use Rattle.modulator.specs.Calls.{NewSays, ProvideNextFrameSays};
 
 use super::fit::{record_fit, unfit_for};
 use super::{
-    AfterFrame, AfterNew, DelaySteps, EndReport, Made, ModulatorFrame, OutputBuffer, Pending,
-    Progress, Provided, SampleCount, SoftModulator,
+    After, DelaySteps, ModulatorFrame, OutputBuffer, Pending, Progress, SampleCount, SoftModulator,
 };
-use given_symbols::{Traffic, Verdict, judge_frame};
+use given_symbols::{Traffic, judge_frame};
 use protocol::Refusal;
 use pulse::push_symbols;
+use shaping::PerSymbol;
 
 // The frame takes the place of what is unread of the last one.
 fn framed(
@@ -65,7 +65,7 @@ fn preamble(m: SoftModulator, traffic: Traffic, tx_delay: DelaySteps) -> SoftMod
 {
     let pending = m.pending;
     let latency = m.buffer.output_latency;
-    let p = shaping::samples_in(m.rate);
+    let p = PerSymbol::of(m.rate).unwrap();
     let delay = tx_delay.in_samples(p);
     let padding = delay.saturating_sub(latency);
     let symbols = preamble_symbols(traffic);
@@ -115,7 +115,7 @@ fn fresh(rate: u32) -> SoftModulator
         pending: Pending {
             update_idle: true,
             calculate_tx_end: false,
-            report_tx_end: EndReport::Nothing,
+            report_tx_end: None,
             try_get_frame: false,
         },
         buffer: OutputBuffer {
@@ -128,29 +128,29 @@ fn fresh(rate: u32) -> SoftModulator
 
 impl SoftModulator {
     // A rate that is none is refused, and its record is refused by every call.
-    pub fn new(rate: u32) -> AfterNew
+    pub fn new(rate: u32) -> After<()>
         ensures { NewSays rate result }
     {
         let modulator = fresh(rate);
         if !shaping::is_rate(rate) {
-            return AfterNew {
-                answer: Made::Refused(Refusal::WrongRate),
+            return After {
+                answer: Err(Refusal::WrongRate),
                 modulator,
             };
         }
-        AfterNew {
-            answer: Made::Done,
+        After {
+            answer: Ok(()),
             modulator,
         }
     }
 
     // The symbols are read for a frame of given symbols alone.
-    pub fn provide_next_frame(self, frame: ModulatorFrame, symbols: &[f32]) -> AfterFrame
+    pub fn provide_next_frame(self, frame: ModulatorFrame, symbols: &[f32]) -> After<()>
         ensures { ProvideNextFrameSays self frame symbols.now result }
     {
         if !record_fit(self) {
-            return AfterFrame {
-                answer: Provided::Refused(unfit_for(self)),
+            return After {
+                answer: Err(unfit_for(self)),
                 modulator: self,
             };
         }
@@ -158,10 +158,9 @@ impl SoftModulator {
             ModulatorFrame::Nothing => without_wish(self),
             ModulatorFrame::Preamble(traffic, tx_delay) => preamble(self, traffic, tx_delay),
             ModulatorFrame::Symbols(traffic) => {
-                let verdict = judge_frame(traffic, symbols);
-                if let Verdict::Refused(why) = verdict {
-                    return AfterFrame {
-                        answer: Provided::Refused(why),
+                if let Err(why) = judge_frame(traffic, symbols) {
+                    return After {
+                        answer: Err(why),
                         modulator: self,
                     };
                 }
@@ -169,8 +168,8 @@ impl SoftModulator {
             }
             ModulatorFrame::EndOfTransmission => end_of_transmission(self),
         };
-        AfterFrame {
-            answer: Provided::Done,
+        After {
+            answer: Ok(()),
             modulator,
         }
     }

@@ -19,13 +19,6 @@ pub struct DelaySteps(pub u8);
 #[derive(Clone, Copy)]
 pub struct SampleCount(pub usize);
 
-// The samples from an update to the end of a transmission, if there is an end to report.
-#[derive(Clone, Copy)]
-pub enum EndReport {
-    Nothing,
-    After(SampleCount),
-}
-
 // How far the transmission at hand has been read out: the samples of its frame, those of them that were read, and the zeros that go out before them.
 #[derive(Clone, Copy)]
 pub struct Progress {
@@ -39,7 +32,7 @@ pub struct Progress {
 pub struct Pending {
     pub update_idle: bool,
     pub calculate_tx_end: bool,
-    pub report_tx_end: EndReport,
+    pub report_tx_end: Option<SampleCount>,
     pub try_get_frame: bool,
 }
 
@@ -63,7 +56,8 @@ pub struct SoftModulator {
     pub buffer: OutputBuffer,
 }
 
-// What is to be sent next. The symbols of a frame stand beside the choice, since an enum holds no array.
+// What is to be sent next. An Option of the three frames would be matched twice where this is matched once. The symbols of a frame stand beside
+// the choice: they are lent, and of any number.
 #[derive(Clone, Copy)]
 pub enum ModulatorFrame {
     Nothing,
@@ -72,34 +66,8 @@ pub enum ModulatorFrame {
     EndOfTransmission,
 }
 
-// What comes of asking for a fresh record.
-#[derive(Clone, Copy)]
-pub enum Made {
-    Refused(Refusal),
-    Done,
-}
-
-#[derive(Clone, Copy)]
-pub enum Provided {
-    Refused(Refusal),
-    Done,
-}
-
-#[derive(Clone, Copy)]
-pub enum Read {
-    Refused(Refusal),
-    Wrote(SampleCount),
-}
-
-#[derive(Clone, Copy)]
-pub enum Updated {
-    Refused(Refusal),
-    Done,
-}
-
 #[derive(Clone, Copy)]
 pub enum ModulatorAction {
-    Refused(Refusal),
     TransmissionWillEnd(SampleCount),
     ReadOutput,
     SetIdle(bool),
@@ -107,33 +75,9 @@ pub enum ModulatorAction {
     Nothing,
 }
 
-// An answer, and the record that the next call is given.
+// A call's answer, or why it is refused, and the record that the next call is given.
 #[derive(Clone, Copy)]
-pub struct AfterNew {
-    pub answer: Made,
-    pub modulator: SoftModulator,
-}
-
-#[derive(Clone, Copy)]
-pub struct AfterFrame {
-    pub answer: Provided,
-    pub modulator: SoftModulator,
-}
-
-#[derive(Clone, Copy)]
-pub struct AfterRead {
-    pub answer: Read,
-    pub modulator: SoftModulator,
-}
-
-#[derive(Clone, Copy)]
-pub struct AfterUpdate {
-    pub answer: Updated,
-    pub modulator: SoftModulator,
-}
-
-#[derive(Clone, Copy)]
-pub struct AfterRun {
-    pub answer: ModulatorAction,
+pub struct After<A> {
+    pub answer: Result<A, Refusal>,
     pub modulator: SoftModulator,
 }

@@ -6,30 +6,17 @@ ghost use Rattle.modulator.specs.Calls.{ReadOutputSamplesSays, UpdateOutputBuffe
 
 use super::counts::wish_room;
 use super::fit::{count_fit, record_fit, unfit_for};
-use super::{
-    AfterRead, AfterUpdate, EndReport, OutputBuffer, Pending, Progress, Read, SampleCount,
-    SoftModulator, Updated,
-};
+use super::{After, OutputBuffer, Pending, Progress, SampleCount, SoftModulator};
 use protocol::Refusal;
-
-// `usize::min`.
-fn fewer(a: usize, b: usize) -> usize
-    ensures { result ≡ min a b }
-{
-    if b < a { b } else { a }
-}
+use shaping::PerSymbol;
 
 // Zeros for as much of the padding as the room holds.
 fn write_padding(padding: SampleCount, room: &mut [i16]) -> usize
     ensures count { result ≡ min (length room.old) padding.0 }
     ensures zeros { room.new ≡ written (λ (i : ℕ). pos 0) result room.old }
 {
-    let end = fewer(room.len(), padding.0);
-    let mut i: usize = 0;
-    while i < end {
-        room[i] = 0;
-        i += 1;
-    }
+    let end = usize::min(room.len(), padding.0);
+    room[..end].fill(0);
     end
 }
 
@@ -39,14 +26,8 @@ fn copy_frame(store: &[i16; 4000], read: usize, len: usize, room: &mut [i16]) ->
     ensures count { result ≡ min (length room.old) (len - read) }
     ensures samples { room.new ≡ written (λ (i : ℕ). get_or store.now (read + i) (pos 0)) result room.old }
 {
-    let end = fewer(room.len(), len - read);
-    let mut i: usize = 0;
-    while i < end {
-        let at = read + i;
-        let sample = store[at];
-        room[i] = sample;
-        i += 1;
-    }
+    let end = usize::min(room.len(), len - read);
+    room[..end].copy_from_slice(&store[read..read + end]);
     end
 }
 
@@ -67,42 +48,36 @@ fn end_after(progress: Progress, fill: SampleCount, latency: SampleCount) -> Sam
 
 // What is pending once the card's counts are known: an end that is owed is reported, and the wish for a frame is raised or stays.
 fn updated_pending(
-    p: usize,
+    p: PerSymbol,
     pending: Pending,
     fill: SampleCount,
     capacity: SampleCount,
     end: SampleCount,
 ) -> Pending
-    requires { p ≤ 10 }
     ensures { result ≡ updated_pending_lem p fill.0 capacity.0 end.0 pending }
 {
-    let report = pending.report_tx_end;
     let room = capacity.saturating_sub(fill);
     let wish = (wish_room(p) <= room.0) | pending.try_get_frame;
-    if pending.calculate_tx_end {
-        return Pending {
-            update_idle: pending.update_idle,
-            calculate_tx_end: false,
-            report_tx_end: EndReport::After(end),
-            try_get_frame: wish,
-        };
-    }
     Pending {
-        update_idle: pending.update_idle,
         calculate_tx_end: false,
-        report_tx_end: report,
+        report_tx_end: if pending.calculate_tx_end {
+            Some(end)
+        } else {
+            pending.report_tx_end
+        },
         try_get_frame: wish,
+        ..pending
     }
 }
 
 impl SoftModulator {
     // Padding first, and then the frame into the rest of the room: the answer is how many places were written.
-    pub fn read_output_samples(mut self, out: &mut [i16]) -> AfterRead
+    pub fn read_output_samples(mut self, out: &mut [i16]) -> After<SampleCount>
         ensures { ReadOutputSamplesSays self out.old result out.new }
     {
         if !record_fit(self) {
-            return AfterRead {
-                answer: Read::Refused(unfit_for(self)),
+            return After {
+                answer: Err(unfit_for(self)),
                 modulator: self,
             };
         }
@@ -124,8 +99,8 @@ impl SoftModulator {
         };
         let total = written + copied;
         self.progress = left;
-        AfterRead {
-            answer: Read::Wrote(SampleCount(total)),
+        After {
+            answer: Ok(SampleCount(total)),
             modulator: self,
         }
     }
@@ -136,31 +111,31 @@ impl SoftModulator {
         samples_to_play: SampleCount,
         capacity: SampleCount,
         output_latency: SampleCount,
-    ) -> AfterUpdate
+    ) -> After<()>
         ensures { UpdateOutputBufferSays self samples_to_play capacity output_latency result }
     {
         if !record_fit(self) {
-            return AfterUpdate {
-                answer: Updated::Refused(unfit_for(self)),
+            return After {
+                answer: Err(unfit_for(self)),
                 modulator: self,
             };
         }
         if !count_fit(samples_to_play) | !count_fit(capacity) | !count_fit(output_latency) {
-            return AfterUpdate {
-                answer: Updated::Refused(Refusal::CountTooLarge),
+            return After {
+                answer: Err(Refusal::CountTooLarge),
                 modulator: self,
             };
         }
         if capacity.0 < samples_to_play.0 {
-            return AfterUpdate {
-                answer: Updated::Refused(Refusal::CapacityBelowFill),
+            return After {
+                answer: Err(Refusal::CapacityBelowFill),
                 modulator: self,
             };
         }
         let pending = self.pending;
         let progress = self.progress;
         let end = end_after(progress, samples_to_play, output_latency);
-        let p = shaping::samples_in(self.rate);
+        let p = PerSymbol::of(self.rate).unwrap();
         let told = updated_pending(p, pending, samples_to_play, capacity, end);
         let buffer = OutputBuffer {
             output_latency,
@@ -169,8 +144,8 @@ impl SoftModulator {
         };
         self.pending = told;
         self.buffer = buffer;
-        AfterUpdate {
-            answer: Updated::Done,
+        After {
+            answer: Ok(()),
             modulator: self,
         }
     }

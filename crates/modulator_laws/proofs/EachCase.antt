@@ -1,4 +1,5 @@
 -- What holds in each case of a call holds of what comes of it, for record and rules alike. Assumes nothing.
+use Rattle.std.specs.Prelude.{Option, Some, None}
 use mathlib.Core.Path.{◌≡◌, refl}
 use mathlib.Core.Bool.{true, false, not}
 use mathlib.Core.List.{List}
@@ -14,8 +15,6 @@ use Rattle.given_symbols.specs.declared.Traffic.{Traffic}
 use Rattle.given_symbols.specs.Offender.{PaperVerdict, refused, fine, symbol_fit, all_fit, earlier, judged_below, headed, head_judged, judged_as}
 use Rattle.given_symbols.proofs.FirstOf.{FirstOf, none, first, first_of}
 use Rattle.modulator.specs.declared.SampleCount.{SampleCount}
-use Rattle.modulator.specs.declared.EndReport.{EndReport}
-use Rattle.modulator.specs.declared.EndReport.TheVariants.{Nothing, After}
 use Rattle.modulator.specs.Paper.{refusal, done, transmit_end, read_output, idle, get_frame, nothing}
 use Rattle.modulator.specs.Frame.{given}
 use Rattle.modulator.specs.Control.{Control, buffer_of, end_after_lem, updated_pending_lem, reported, idled}
@@ -53,19 +52,19 @@ module _ (s : Control) (P : Outcome → Type 0) where
 
   -- the cases of an action request, with what is known in each
   pub record ActionCases : Type 0 where
-    pub told_end : (end : SampleCount) → s.pending.report_tx_end ≡ After end → P (told (transmit_end end.0) (reported s.pending) s.buffer)
-    pub unread : s.pending.report_tx_end ≡ Nothing → s.progress.next_read < s.progress.next_len → P (only read_output)
-    pub idles : s.pending.report_tx_end ≡ Nothing → s.progress.next_len ≤ s.progress.next_read → s.pending.update_idle ≡ true → P (told (idle true) (idled s.pending) s.buffer)
-    pub wishes : s.pending.report_tx_end ≡ Nothing → s.progress.next_len ≤ s.progress.next_read → s.pending.update_idle ≡ false → P (only get_frame)
-    pub rests : s.pending.report_tx_end ≡ Nothing → s.progress.next_len ≤ s.progress.next_read → s.pending.update_idle ≡ false → P (only nothing)
+    pub told_end : (end : SampleCount) → s.pending.report_tx_end ≡ Some end → P (told (transmit_end end.0) (reported s.pending) s.buffer)
+    pub unread : s.pending.report_tx_end ≡ None → s.progress.next_read < s.progress.next_len → P (only read_output)
+    pub idles : s.pending.report_tx_end ≡ None → s.progress.next_len ≤ s.progress.next_read → s.pending.update_idle ≡ true → P (told (idle true) (idled s.pending) s.buffer)
+    pub wishes : s.pending.report_tx_end ≡ None → s.progress.next_len ≤ s.progress.next_read → s.pending.update_idle ≡ false → P (only get_frame)
+    pub rests : s.pending.report_tx_end ≡ None → s.progress.next_len ≤ s.progress.next_read → s.pending.update_idle ≡ false → P (only nothing)
 
   pub each_action : ActionCases → P (action_outcome s)
   unfolding action_by
   each_action k = by_report s.pending.report_tx_end refl
     where
-      by_report : (report : EndReport) → s.pending.report_tx_end ≡ report → P (action_by report s)
-      by_report (After end) r = k.told_end end r
-      by_report Nothing r =
+      by_report : (report : Option SampleCount) → s.pending.report_tx_end ≡ report → P (action_by report s)
+      by_report (Some end) r = k.told_end end r
+      by_report None r =
           picked P (ltb s.progress.next_read s.progress.next_len) _ _ (λ l. k.unread r (ltb-true _ _ l)) λ l.
           let all = ltb-false _ _ l in
           picked P s.pending.update_idle _ _ (λ i. k.idles r all i) λ i.

@@ -1,4 +1,5 @@
 -- Small records that meet what the laws of the sender ask, and what the calls make of them, at 48 kHz. Assumes nothing.
+use Rattle.std.specs.Prelude.{Some, None}
 use mathlib.Core.Path.{◌≡◌, refl}
 use mathlib.Core.Bool.{true, false}
 use mathlib.Core.List.{[], ◌∷◌}
@@ -9,7 +10,6 @@ use lib.Ieee.{of_bits, le}
 use Rattle.numbers.specs.Below.{all_below}
 use Rattle.numbers.specs.Firsts.{firsts}
 use Rattle.shaping.specs.Rate.{at48}
-use Rattle.modulator.specs.declared.EndReport.TheVariants.{Nothing, After}
 use Rattle.modulator.specs.declared.SoftModulator.{SoftModulator}
 use Rattle.modulator.specs.Paper.{wrote, transmit_end, read_output, idle}
 use Rattle.modulator.specs.Control.{handed_out}
@@ -35,7 +35,7 @@ sending = record {
 }
 
 abbrev ending : SoftModulator
-ending = with_pending (record { update_idle = false; calculate_tx_end = false; report_tx_end = After (record { 0 = 600 }); try_get_frame = true }) (fresh 48000).buffer (fresh 48000)
+ending = with_pending (record { update_idle = false; calculate_tx_end = false; report_tx_end = Some (record { 0 = 600 }); try_get_frame = true }) (fresh 48000).buffer (fresh 48000)
 
 abbrev pub astray : SoftModulator
 astray = record {
@@ -99,7 +99,7 @@ unfolding fresh
 run_fresh = rw (run_idle at48 (fresh 48000) fresh_fit refl (lit≤ tt) refl)
 
 -- ---- and the laws at these answers
-ending_once : (ran at48 ending).modulator.pending.report_tx_end ≡ Nothing
+ending_once : (ran at48 ending).modulator.pending.report_tx_end ≡ None
 ending_once = end_once at48 ending 600 run_ending
 
 fresh_once : (ran at48 (fresh 48000)).modulator.pending.update_idle ≡ false

@@ -1,4 +1,5 @@
 -- Each limit of 'Unfit sender', met and passed by one, worked out at both rates. Assumes nothing.
+use Rattle.std.specs.Prelude.{Some}
 use mathlib.Core.Path.{◌≡◌, refl}
 use mathlib.Core.Bool.{Bool, true, false}
 use mathlib.Core.List.{List}
@@ -6,7 +7,6 @@ use Prim.Native.Nat.{ℕ}
 use lib.ListN.{replicate, set}
 use lib.Ieee.{Float, nan, binary32, of_bits, le}
 use Rattle.numbers.specs.Below.{all_below}
-use Rattle.modulator.specs.declared.EndReport.TheVariants.{After}
 use Rattle.modulator.specs.declared.Progress.{Progress}
 use Rattle.modulator.specs.declared.OutputBuffer.{OutputBuffer}
 use Rattle.modulator.specs.declared.SoftModulator.{SoftModulator}
@@ -22,7 +22,7 @@ made_at rate cursor window progress buffer end = record {
   filter_win = window;
   filter_cursor = cursor;
   progress = progress;
-  pending = record { update_idle = true; calculate_tx_end = true; report_tx_end = After (record { 0 = end }); try_get_frame = true };
+  pending = record { update_idle = true; calculate_tx_end = true; report_tx_end = Some (record { 0 = end }); try_get_frame = true };
   buffer = buffer;
 }
 

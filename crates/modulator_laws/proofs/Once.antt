@@ -1,4 +1,5 @@
 -- Words of document 01 as laws: "Room 0 writes 0", "Less room does not lower it", and what is told once. Assumes nothing.
+use Rattle.std.specs.Prelude.{None}
 use mathlib.Core.Path.{◌≡◌, refl}
 use mathlib.Core.Bool.{Bool, true, false, not, ◌||◌}
 use mathlib.Core.List.{[]}
@@ -8,7 +9,6 @@ use native.Mathlib.Omega.{arith}
 use lib.Dec.{leb}
 use Rattle.numbers.specs.Firsts.{firsts}
 use Rattle.shaping.specs.Rate.{Rate, wish_room_lem}
-use Rattle.modulator.specs.declared.EndReport.TheVariants.{Nothing}
 use Rattle.modulator.specs.declared.SoftModulator.{SoftModulator}
 use Rattle.modulator.specs.Paper.{wrote, transmit_end, idle}
 use Rattle.modulator.specs.Control.{zeros_read, samples_read, handed_out}
@@ -41,10 +41,10 @@ module _ (R : Rate) (m : SoftModulator) where
       raised false w e = e
 
   -- "transmit end (once)": the report is cleared once it is told
-  pub end_once : (n : ℕ) → (ran R m).answer ≡ transmit_end n → (ran R m).modulator.pending.report_tx_end ≡ Nothing
+  pub end_once : (n : ℕ) → (ran R m).answer ≡ transmit_end n → (ran R m).modulator.pending.report_tx_end ≡ None
   unfolding ran settled
   end_once n =
-      let Once : Left → Type 0 = λ o. o.answer ≡ transmit_end n → o.modulator.pending.report_tx_end ≡ Nothing in
+      let Once : Left → Type 0 = λ o. o.answer ≡ transmit_end n → o.modulator.pending.report_tx_end ≡ None in
       picked Once (not (record_fit_lem R.p m)) _ _ (λ _ e. cc) λ _.
       each_action (control_of m) (λ (o : Outcome). Once (settled R m o)) (record { told_end = λ end r e. refl; unread = λ r l e. r; idles = λ r l i e. r; wishes = λ r l i e. r; rests = λ r l i e. r })
 

@@ -1,4 +1,6 @@
 -- What comes of a call keeps within the limits of a fit record, where the control that it comes of does. Over p, the samples in a symbol. Assumes nothing.
+use Rattle.std.specs.Prelude.{Option, Some}
+use Rattle.modulator.specs.declared.SampleCount.{SampleCount}
 use mathlib.Core.Path.{◌≡◌, refl, sym, subst}
 use mathlib.Core.Bool.{Bool, true, false, cond}
 use mathlib.Core.List.{List}
@@ -11,8 +13,6 @@ use lib.Ieee.{Float}
 use Rattle.shaping.specs.Rate.{delay_step_lem, padding_limit_lem, end_limit_lem}
 use Rattle.given_symbols.specs.declared.Traffic.{Traffic}
 use Rattle.modulator.specs.declared.DelaySteps.{DelaySteps}
-use Rattle.modulator.specs.declared.EndReport.{EndReport}
-use Rattle.modulator.specs.declared.EndReport.TheVariants.{After}
 use Rattle.modulator.specs.declared.Progress.{Progress}
 use Rattle.modulator.specs.declared.OutputBuffer.{OutputBuffer}
 use Rattle.modulator.specs.declared.ModulatorFrame.{ModulatorFrame}
@@ -68,8 +68,8 @@ buffer_fit : (b : OutputBuffer) → BufferFacts b → T (buffer_fit_lem b)
 buffer_fit b f =
     rw (le-leb b.samples_in_buf.0 16777216 f.fill, le-leb b.buf_capacity.0 16777216 f.capacity, le-leb b.output_latency.0 16777216 f.latency, le-leb b.samples_in_buf.0 b.buf_capacity.0 f.room) tt
 
-report_fit_law : (p fill latency : ℕ) (t : Progress) (owed : Bool) (old : EndReport) → fill ≤ 16777216 → latency ≤ 16777216 → ProgressFacts p t → T (report_fit_lem p old)
-    → T (report_fit_lem p (cond owed (After (record { 0 = end_after_lem fill latency t })) old))
+report_fit_law : (p fill latency : ℕ) (t : Progress) (owed : Bool) (old : Option SampleCount) → fill ≤ 16777216 → latency ≤ 16777216 → ProgressFacts p t → T (report_fit_lem p old)
+    → T (report_fit_lem p (cond owed (Some (record { 0 = end_after_lem fill latency t })) old))
 report_fit_law p fill latency t true old f l h r = rw (le-leb (end_after_lem fill latency t) (end_limit_lem p) (omega arith)) tt
 report_fit_law p fill latency t false old f l h r = r
 

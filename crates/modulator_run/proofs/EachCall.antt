@@ -1,4 +1,5 @@
 -- What holds of a call in each case of the rules holds of every call. Assumes nothing.
+use Rattle.std.specs.Prelude.{Some, None}
 use mathlib.Core.Path.{◌≡◌, refl}
 use mathlib.Core.Bool.{Bool, true, false, ◌&&◌}
 use mathlib.Core.List.{List, []}
@@ -12,7 +13,6 @@ use Rattle.shaping.specs.Rate.{Rate}
 use Rattle.protocol.specs.Refusals.{PaperRefusal, bare, placed}
 use Rattle.given_symbols.specs.declared.Traffic.{Traffic}
 use Rattle.modulator.specs.declared.DelaySteps.{DelaySteps}
-use Rattle.modulator.specs.declared.EndReport.TheVariants.{Nothing as NoReport, After as Reported}
 use Rattle.modulator.specs.declared.SampleCount.{SampleCount}
 use Rattle.modulator.specs.declared.ModulatorFrame.{ModulatorFrame}
 use Rattle.modulator.specs.declared.ModulatorFrame.TheVariants.{Nothing as NoFrame, Preamble, Symbols as GivenSymbols, EndOfTransmission}
@@ -50,12 +50,12 @@ module _ (R : Rate) (s : Sent) (P : Call → After → Type 0) where
     pub stored : (fill capacity latency : ℕ) → stores (update fill capacity latency) ≡ true
         → P (update fill capacity latency)
         (after done [] (with_pending (updated_pending_lem R.p fill capacity (end_after_lem fill latency s.progress) s.pending) (buffer_of fill capacity latency) s))
-    pub told : (end : SampleCount) → s.pending.report_tx_end ≡ Reported end → P ask (after (transmit_end end.0) [] (with_pending (reported s.pending) s.buffer s))
-    pub unread : s.pending.report_tx_end ≡ NoReport → s.progress.next_read < s.progress.next_len → P ask (after read_output [] s)
-    pub idles : s.pending.report_tx_end ≡ NoReport → s.progress.next_len ≤ s.progress.next_read → s.pending.update_idle ≡ true
+    pub told : (end : SampleCount) → s.pending.report_tx_end ≡ Some end → P ask (after (transmit_end end.0) [] (with_pending (reported s.pending) s.buffer s))
+    pub unread : s.pending.report_tx_end ≡ None → s.progress.next_read < s.progress.next_len → P ask (after read_output [] s)
+    pub idles : s.pending.report_tx_end ≡ None → s.progress.next_len ≤ s.progress.next_read → s.pending.update_idle ≡ true
         → P ask (after (idle true) [] (with_pending (idled s.pending) s.buffer s))
-    pub wishes : s.pending.report_tx_end ≡ NoReport → s.progress.next_len ≤ s.progress.next_read → s.pending.update_idle ≡ false → P ask (after get_frame [] s)
-    pub rests : s.pending.report_tx_end ≡ NoReport → s.progress.next_len ≤ s.progress.next_read → s.pending.update_idle ≡ false → P ask (after nothing [] s)
+    pub wishes : s.pending.report_tx_end ≡ None → s.progress.next_len ≤ s.progress.next_read → s.pending.update_idle ≡ false → P ask (after get_frame [] s)
+    pub rests : s.pending.report_tx_end ≡ None → s.progress.next_len ≤ s.progress.next_read → s.pending.update_idle ≡ false → P ask (after nothing [] s)
 
   module _ (k : Cases) where
     each_provided : (frame : ModulatorFrame) (symbols : List Float) → P (provide frame symbols) (settled R s (frame_outcome R.p frame symbols (control_in s)))

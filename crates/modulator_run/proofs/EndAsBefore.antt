@@ -1,5 +1,6 @@
 -- Where no padding is left and nothing is unread, the end that an update reports is document 01's: of every fit record, and
 -- over every list of calls. At every rate. Assumes nothing.
+use Rattle.std.specs.Prelude.{Some}
 use mathlib.Core.Path.{◌≡◌, sym, ap, ◌∙◌}
 use mathlib.Core.Bool.{Bool, true, not}
 use mathlib.Core.List.{List}
@@ -12,7 +13,6 @@ use lib.Ieee.Fits.{and_l, and_r}
 use Rattle.machine.specs.Runs.{Each}
 use Rattle.shaping.specs.Rate.{Rate}
 use Rattle.shaping.proofs.RateFacts.{Facts}
-use Rattle.modulator.specs.declared.EndReport.TheVariants.{After}
 use Rattle.modulator.specs.declared.SoftModulator.{SoftModulator}
 use Rattle.modulator.specs.Paper.{transmit_end}
 use Rattle.modulator.specs.Control.{unread, end_after_lem}
@@ -43,7 +43,7 @@ module _ (R : Rate) (m : SoftModulator) (fit : record_fit_lem R.p m ≡ true) (o
       let small = not-true large (is_true (not large) (and_l (not large) (not (ltb capacity fill)) t)) in
       let enough = ltb-false capacity fill (not-true (ltb capacity fill) (is_true (not (ltb capacity fill)) (and_r (not large) (not (ltb capacity fill)) t))) in
       let old : end_after_lem fill latency m.progress ≡ end_before fill latency = omega arith in
-      let report : (updated R m fill capacity latency).modulator.pending.report_tx_end ≡ After (record { 0 = end_before fill latency }) = rw (update_done R m fill capacity latency fit small enough, owed, old) in
+      let report : (updated R m fill capacity latency).modulator.pending.report_tx_end ≡ Some (record { 0 = end_before fill latency }) = rw (update_done R m fill capacity latency fit small enough, owed, old) in
       ap (λ (l : Left). l.answer) (run_end R (updated R m fill capacity latency).modulator _ (update_keeps R m fit fill capacity latency) report)
 
 -- ---- over every list of calls

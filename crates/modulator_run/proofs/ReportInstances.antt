@@ -1,4 +1,5 @@
 -- Lists of calls, and a record, that meet what the laws of a reported end ask, at 48 kHz. Assumes nothing.
+use Rattle.std.specs.Prelude.{None}
 use mathlib.Core.Path.{◌≡◌, refl}
 use mathlib.Core.Bool.{true, false}
 use mathlib.Core.List.{List, [], ◌∷◌, ◌++◌}
@@ -12,7 +13,6 @@ use Rattle.machine.specs.Runs.{Each}
 use Rattle.shaping.specs.Rate.{at48}
 use Rattle.shaping.proofs.RateFacts.{facts48}
 use Rattle.given_symbols.specs.declared.Traffic.TheVariants.{Ordinary}
-use Rattle.modulator.specs.declared.EndReport.TheVariants.{Nothing as NoReport}
 use Rattle.modulator.specs.declared.SoftModulator.{SoftModulator}
 use Rattle.modulator.specs.declared.ModulatorFrame.TheVariants.{Preamble, EndOfTransmission}
 use Rattle.modulator.specs.Paper.{transmit_end}
@@ -167,7 +167,7 @@ late_as_before = told_as_before at48 facts48 (read_out ++ update 100 3000 50 ∷
 
 -- ---- a made-up record with nothing to read that owes an end
 abbrev owing : SoftModulator
-owing = with_pending (record { update_idle = true; calculate_tx_end = true; report_tx_end = NoReport; try_get_frame = false }) (fresh 48000).buffer (fresh 48000)
+owing = with_pending (record { update_idle = true; calculate_tx_end = true; report_tx_end = None; try_get_frame = false }) (fresh 48000).buffer (fresh 48000)
 
 owing_fit : record_fit_lem 10 owing ≡ true
 unfolding record_fit_lem window_fit pulse_fit all_below fresh of_bits le

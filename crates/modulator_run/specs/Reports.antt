@@ -1,8 +1,7 @@
 -- When an end is owed, with which number it is reported, and when idle is told: the end by the calls alone, idle by the
 -- calls and what the rules then hold. Over p, the samples in a symbol. Assumes nothing.
-use Rattle.std.specs.Prelude.{◌≡◌, List, [], ◌∷◌, ◌++◌, ℕ, ◌+◌, ◌≤◌, T}
+use Rattle.std.specs.Prelude.{◌≡◌, List, [], ◌∷◌, ◌++◌, ℕ, ◌+◌, ◌≤◌, T, None}
 use Rattle.shaping.specs.Rate.{Rate}
-use Rattle.modulator.specs.declared.EndReport.TheVariants.{Nothing as NoReport}
 use Rattle.modulator.specs.Control.{end_report}
 use Rattle.modulator_run.specs.Rules.{Call, update, ask, Sent, sent_all}
 use Rattle.modulator_run.specs.Kinds.{stores, asks, ends, none, Lasting}
@@ -64,7 +63,7 @@ pub record NewReport (p : ℕ) (cs ds : List Call) (n : ℕ) : Type 0 where
 -- ---- idle
 -- no report and no unread frame sample
 pub record Free (s : Sent) : Type 0 where
-  pub no_report_lem : s.pending.report_tx_end ≡ NoReport
+  pub no_report_lem : s.pending.report_tx_end ≡ None
   pub all_read : s.progress.next_len ≤ s.progress.next_read
 
 -- "idle yes (once from a fresh start)": some earlier action request found neither

@@ -1,9 +1,9 @@
 -- None of the calls by which the first receiver's list is made is refused: what is "fed sample by sample" is admitted. Assumes nothing.
+use Rattle.std.specs.Prelude.{Some, None, Option}
 use mathlib.Core.Path.{◌≡◌, refl, sym, ap, ◌∙◌, subst}
 use mathlib.Core.Bool.{Bool, true, false, not, cond}
 use mathlib.Core.Logic.{⊎_elim}
 use mathlib.Core.List.{List, [], ◌∷◌, ◌++◌, map}
-use mathlib.Core.Option.{Option, none, some}
 use Prim.Native.Nat.{ℕ, suc, ◌+◌, ◌^◌, ◌≤◌, ◌<◌}
 use native.Mathlib.Omega.{arith}
 use borrow.Author.Tests.{le-ltb, ne_eqb}
@@ -14,8 +14,6 @@ use lib.Ieee.{Float}
 use Rattle.machine.specs.Runs.{answers, Each}
 use Rattle.shaping.specs.Rate.{Rate, at48, at24, rate_fit}
 use Rattle.shaping.proofs.RateFacts.{Facts, facts48, facts24, two_rates}
-use Rattle.search.specs.declared.Wait.{Wait}
-use Rattle.search.specs.declared.Wait.TheVariants.{Free, Due}
 use Rattle.search.specs.declared.Control.{Control}
 use Rattle.search.specs.declared.Turn.TheVariants.{Rest}
 use Rattle.search.specs.declared.Waiting.{Waiting}
@@ -53,18 +51,18 @@ module _ (p : ℕ) (v : ℕ → Float) (c : Control) where
 
   falls : (h : Option TakenBurst) (w : Waiting) → Leads c (comes_to p v (due_turn h w (freed now)))
   unfolding Leads due_turn
-  falls none w = looks (freed now) refl refl
-  falls (some t) w = (refl, refl)
+  falls None w = looks (freed now) refl refl
+  falls (Some t) w = (refl, refl)
 
   waits : (b : Bool) (w : Waiting) → Leads c (comes_to p v (cond b (Rest (waiting_on (nearer w) now)) (due_turn (held_by now) w (freed now))))
   unfolding Leads
   waits true w = (refl, refl)
   waits false w = falls (held_by now) w
 
-  turns : (wait : Wait) → Leads c (comes_to p v (waited_turn wait now))
+  turns : (wait : Option Waiting) → Leads c (comes_to p v (waited_turn wait now))
   unfolding waited_turn
-  turns Free = looks now refl refl
-  turns (Due w) = waits (ltb 1 w.left) w
+  turns None = looks now refl refl
+  turns (Some w) = waits (ltb 1 w.left) w
 
   leads : Leads c (sampled p v c)
   unfolding sampled

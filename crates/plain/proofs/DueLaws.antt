@@ -1,8 +1,8 @@
 -- The sample at which a wait ends, and the frame that is then due. Assumes nothing.
+use Rattle.std.specs.Prelude.{Some, None}
 use mathlib.Core.Path.{◌≡◌, sym, ap, ◌∙◌, subst}
 use mathlib.Core.Logic.{inl, inr}
 use mathlib.Core.Bool.{true, false}
-use mathlib.Core.Option.{some}
 use Prim.Native.Nat.{ℕ, ◌+◌, ◌-◌, ◌≤◌, ◌<◌}
 use native.Mathlib.Omega.{arith}
 use borrow.Author.Tests.{lt-ltb, le-ltb}
@@ -10,7 +10,6 @@ use lib.Dec.{ltb}
 use Rattle.numbers.proofs.Tests.{lt_or_le}
 use Rattle.search.specs.declared.Waiting.{Waiting}
 use Rattle.search.specs.TakenBurst.{TakenBurst, shown_of}
-use Rattle.plain.specs.declared.due.Next.TheVariants.{Nothing as NoneDue, At}
 use Rattle.plain.specs.Rest.{due_at, due_of}
 
 pub due_next : (k left : ℕ) → left ≤ 1 → due_at k left ≡ k + 1
@@ -26,13 +25,13 @@ due_nearer k left many = elim (lt_or_le left 3) [
   | inr more ↦ due_later (k + 1) (left - 1) (omega arith) ∙ (let e : k + 1 + (left - 1) ≡ k + left = omega arith in e) ∙ sym (due_later k left many)
 ]
 
-pub due_none : (k end : ℕ) (w : Waiting) (u : TakenBurst) (d : ℕ) → d ≡ due_at k w.left → end < d → NoneDue ≡ due_of k end w (some u)
+pub due_none : (k end : ℕ) (w : Waiting) (u : TakenBurst) (d : ℕ) → d ≡ due_at k w.left → end < d → None ≡ due_of k end w (Some u)
 unfolding due_of
 due_none k end w u d e past = let b : ltb end (due_at k w.left) ≡ true = lt-ltb end _ (subst (λ (n : ℕ). end < n) e past) in rw b
 
 pub due_some : (k end : ℕ) (w : Waiting) (u : TakenBurst) (d : ℕ) → d ≡ due_at k w.left → d ≤ end
-    → At (record { shown = shown_of u w.age w.replaced; sample = d }) ≡ due_of k end w (some u)
+    → Some (record { shown = shown_of u w.age w.replaced; sample = d }) ≡ due_of k end w (Some u)
 unfolding due_of
 due_some k end w u d e near =
     let b : ltb end (due_at k w.left) ≡ false = le-ltb end _ (subst (λ (n : ℕ). n ≤ end) e near) in
-    rw b (ap (λ (n : ℕ). At (record { shown = shown_of u w.age w.replaced; sample = n })) e)
+    rw b (ap (λ (n : ℕ). Some (record { shown = shown_of u w.age w.replaced; sample = n })) e)

@@ -1,4 +1,5 @@
 -- The list, offer by offer: what is listed so far, and what is left. Assumes nothing.
+use Rattle.std.specs.Prelude.{Option, Some, None}
 use mathlib.Core.Path.{◌≡◌, refl, sym, ap, ◌∙◌, subst}
 use mathlib.Core.Bool.{Bool, true, false}
 use mathlib.Core.List.{List, [], ◌∷◌, ◌++◌, append-nil, append_assoc, map}
@@ -11,12 +12,9 @@ use lib.Seq.{drop-cons}
 use lib.Ieee.{Float}
 use Rattle.shaping.specs.Rate.{tap_count}
 use Rattle.search.specs.declared.Candidate.TheVariants.{Nothing}
-use Rattle.search.specs.declared.Timer.{Timer}
 use Rattle.search.specs.declared.Reply.{Reply}
 use Rattle.search.specs.Turn.{cleared}
 use Rattle.plain.specs.declared.due.Due.{Due}
-use Rattle.plain.specs.declared.due.Next.{Next}
-use Rattle.plain.specs.declared.due.Next.TheVariants.{Nothing as NoneDue, At}
 use Rattle.plain.specs.List.{Entry}
 use Rattle.plain.specs.SearchPart.{idle_timer}
 use Rattle.plain.specs.Rest.{reply_of, resumes_at, entry_at, look_from, onwards, FindsDue, Finds}
@@ -24,10 +22,10 @@ use Rattle.plain.specs.Listing.{rules_list}
 use Rattle.plain.proofs.SampleStep.{look}
 
 -- what is found is a frame
-pub found_due : (table : List Float) (p : ℕ) (xs : List ℤ) (from : ℕ) (n : Next) → Finds table p xs from n → (d : Due) → n ≡ At d → FindsDue table p xs from d
+pub found_due : (table : List Float) (p : ℕ) (xs : List ℤ) (from : ℕ) (n : Option Due) → Finds table p xs from n → (d : Due) → n ≡ Some d → FindsDue table p xs from d
 found_due table p xs from n f d e = unfold Finds in subst (Finds table p xs from) e f
 
-pub found_within : (table : List Float) (p : ℕ) (xs : List ℤ) (from : ℕ) (n : Next) → Finds table p xs from n → (d : Due) → n ≡ At d → d.sample ≤ length xs
+pub found_within : (table : List Float) (p : ℕ) (xs : List ℤ) (from : ℕ) (n : Option Due) → Finds table p xs from n → (d : Due) → n ≡ Some d → d.sample ≤ length xs
 found_within table p xs from n f d e = (found_due table p xs from n f d e).within
 
 length_zero : {A : Type 0} (l : List A) → length l ≡ 0 → l ≡ []
@@ -42,7 +40,7 @@ module _ (table : List Float) (p : ℕ) (size : length table ≡ tap_count p) (x
   pub record Progress (from count : ℕ) : Type 0 where
     pub listed : List Entry
     pub long : length listed ≡ count
-    pub timer : Timer
+    pub timer : Option ℕ
     pub rest : rules_list table p xs replies ≡ listed ++ look_from table p xs from Nothing timer (left count)
 
   unfoldable pub begun : Progress 1 0
@@ -54,14 +52,14 @@ module _ (table : List Float) (p : ℕ) (size : length table ≡ tap_count p) (x
       drop-cons (map reply_of replies) count (reply_of d) (omega (arith, length-map replies reply_of))
       ∙ rw (get_or-map reply_of replies count d, sym (add-one count)) refl
 
-  pub resumed : (d : ℕ) (t : Timer) (b : Bool) (rs : List Reply)
-      → (t' : Timer) × (onwards table p xs d t (reply_of b ∷ rs) ≡ look_from table p xs (resumes_at b d) Nothing t' rs)
+  pub resumed : (d : ℕ) (t : Option ℕ) (b : Bool) (rs : List Reply)
+      → (t' : Option ℕ) × (onwards table p xs d t (reply_of b ∷ rs) ≡ look_from table p xs (resumes_at b d) Nothing t' rs)
   unfolding onwards
   resumed d t true rs = (cleared (d + 1) t, refl)
   resumed d t false rs = (t, refl)
 
   -- an offer is answered
-  unfoldable pub stepped : (from count : ℕ) (default : Bool) → Progress from count → (n : Next) → Finds table p xs from n → (d : Due) → n ≡ At d
+  unfoldable pub stepped : (from count : ℕ) (default : Bool) → Progress from count → (n : Option Due) → Finds table p xs from n → (d : Due) → n ≡ Some d
       → count < length replies → Progress (resumes_at (get_or replies count default) d.sample) (count + 1)
   stepped from count default q n f d e more =
       let l = (found_due table p xs from n f d e).listed q.timer in
@@ -78,10 +76,10 @@ module _ (table : List Float) (p : ℕ) (size : length table ≡ tap_count p) (x
       }
 
   -- no frame falls due any more
-  none_left : (from : ℕ) (n : Next) → Finds table p xs from n → n ≡ NoneDue → (t : Timer) (rs : List Reply) → look_from table p xs from Nothing t rs ≡ []
+  none_left : (from : ℕ) (n : Option Due) → Finds table p xs from n → n ≡ None → (t : Option ℕ) (rs : List Reply) → look_from table p xs from Nothing t rs ≡ []
   none_left from n f e = unfold Finds in subst (Finds table p xs from) e f
 
-  pub ended : (from count : ℕ) (q : Progress from count) (n : Next) → Finds table p xs from n → n ≡ NoneDue → rules_list table p xs replies ≡ q.listed
+  pub ended : (from count : ℕ) (q : Progress from count) (n : Option Due) → Finds table p xs from n → n ≡ None → rules_list table p xs replies ≡ q.listed
   ended from count q n f e = q.rest ∙ ap (λ (es : List Entry). q.listed ++ es) (none_left from n f e q.timer (left count)) ∙ append-nil q.listed
 
   -- or the list is as long as what is listed
@@ -92,7 +90,7 @@ module _ (table : List Float) (p : ℕ) (size : length table ≡ tap_count p) (x
       q.rest ∙ ap (λ (es : List Entry). q.listed ++ es) none ∙ append-nil q.listed
 
   -- or one does, and has no reply
-  pub unanswered : (from count : ℕ) (q : Progress from count) (n : Next) → Finds table p xs from n → (d : Due) → n ≡ At d → length replies ≤ count
+  pub unanswered : (from count : ℕ) (q : Progress from count) (n : Option Due) → Finds table p xs from n → (d : Due) → n ≡ Some d → length replies ≤ count
       → rules_list table p xs replies ≡ q.listed ++ (entry_at table p xs d ∷ [])
   unfolding onwards
   unanswered from count q n f d e all =
@@ -101,7 +99,7 @@ module _ (table : List Float) (p : ℕ) (size : length table ≡ tap_count p) (x
       q.rest ∙ ap (λ (es : List Entry). q.listed ++ es) (ap (look_from table p xs from Nothing q.timer) none ∙ l.1 [])
 
   -- with one more offer, whether it is answered or not
-  pub longer : (from count : ℕ) → Progress from count → (n : Next) → Finds table p xs from n → (d : Due) → n ≡ At d → count + 1 ≤ length (rules_list table p xs replies)
+  pub longer : (from count : ℕ) → Progress from count → (n : Option Due) → Finds table p xs from n → (d : Due) → n ≡ Some d → count + 1 ≤ length (rules_list table p xs replies)
   longer from count q n f d is =
       let l = (found_due table p xs from n f d is).listed q.timer in
       let e : rules_list table p xs replies ≡ q.listed ++ (entry_at table p xs d ∷ onwards table p xs d.sample l.0 (left count)) =
@@ -109,10 +107,10 @@ module _ (table : List Float) (p : ℕ) (size : length table ≡ tap_count p) (x
       omega (arith, ap length e, length-append q.listed (entry_at table p xs d ∷ onwards table p xs d.sample l.0 (left count)), q.long)
 
   -- and how long the list then is
-  pub counted_all : (from count : ℕ) (q : Progress from count) (n : Next) → Finds table p xs from n → n ≡ NoneDue → count ≡ length (rules_list table p xs replies)
+  pub counted_all : (from count : ℕ) (q : Progress from count) (n : Option Due) → Finds table p xs from n → n ≡ None → count ≡ length (rules_list table p xs replies)
   counted_all from count q n f e = sym (ap length (ended from count q n f e) ∙ q.long)
 
-  pub counted_last : (from count : ℕ) (q : Progress from count) (n : Next) → Finds table p xs from n → (d : Due) → n ≡ At d → length replies ≤ count
+  pub counted_last : (from count : ℕ) (q : Progress from count) (n : Option Due) → Finds table p xs from n → (d : Due) → n ≡ Some d → length replies ≤ count
       → count + 1 ≡ length (rules_list table p xs replies)
   counted_last from count q n f d e all =
       let l : length (q.listed ++ (entry_at table p xs d ∷ [])) ≡ count + 1 = length-append q.listed (entry_at table p xs d ∷ []) ∙ omega (arith, q.long) in

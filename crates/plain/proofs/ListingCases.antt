@@ -1,4 +1,6 @@
 -- What the whole call leaves, case by case. Assumes nothing.
+use Rattle.std.specs.Prelude.{Result, Ok, Err}
+use Rattle.protocol.specs.declared.Refusal.{Refusal}
 use mathlib.Core.Path.{◌≡◌, refl, ap, subst}
 use mathlib.Core.Logic.{⊎_elim}
 use mathlib.Core.Bool.{Bool, true, false, ◌||◌}
@@ -16,8 +18,6 @@ use Rattle.shaping.specs.Rate.{rate_fit, rate_of}
 use Rattle.shaping.proofs.RateFacts.{two_rates}
 use Rattle.protocol.specs.declared.Refusal.TheVariants.{WrongRate, RecordingTooLong, ListRoomTooSmall}
 use Rattle.demodulator_run.proofs.Sixteen.{sixteen_list}
-use Rattle.plain.specs.declared.Listing.{Listing}
-use Rattle.plain.specs.declared.Listing.TheVariants.{Refused, Listed}
 use Rattle.plain.specs.List.{Entry}
 use Rattle.plain.specs.Values.{longest}
 use Rattle.plain.specs.Listing.{rules_list, listed, too_small, shows, listing, Leaves, WritesAll}
@@ -30,7 +30,7 @@ either_true false = refl
 
 module _ (es : List Entry) (numbers : List ℕ) (symbols : List Float) (count : ℕ) (all : count ≡ length es) where
   abbrev None : Type 0
-  None = Leaves (shows es numbers symbols) (Refused ListRoomTooSmall) numbers symbols
+  None = Leaves (shows es numbers symbols) (Err ListRoomTooSmall) numbers symbols
 
   too_small_lem : too_small (length es) numbers symbols ≡ true → None
   unfolding shows
@@ -45,7 +45,7 @@ module _ (es : List Entry) (numbers : List ℕ) (symbols : List Float) (count : 
       too_small_lem (rw b (either_true (ltb (length numbers) (5 * length es))))
 
   pub all_listed : count ≤ length numbers / 5 → count ≤ length symbols / 192 → (numbers' : List ℕ) (symbols' : List Float)
-      → WritesAll es numbers symbols numbers' symbols' → Leaves (shows es numbers symbols) (Listed count) numbers' symbols'
+      → WritesAll es numbers symbols numbers' symbols' → Leaves (shows es numbers symbols) (Ok count) numbers' symbols'
   unfolding shows
   all_listed a b numbers' symbols' w =
       let n : ltb (length numbers) (5 * length es) ≡ false = le-ltb (length numbers) (5 * length es) (omega (arith, all)) in
@@ -54,23 +54,23 @@ module _ (es : List Entry) (numbers : List ℕ) (symbols : List Float) (count : 
 
 -- ---- the rate and the recording
 module _ (rate : ℕ) (xs : List ℤ) (replies : List Bool) (numbers : List ℕ) (symbols : List Float) where
-  abbrev Leaving : Listing → List ℕ → List Float → Type 0
+  abbrev Leaving : Result ℕ Refusal → List ℕ → List Float → Type 0
   Leaving = Leaves (listing rate xs replies numbers symbols)
 
   -- the same of a list by the rules
-  abbrev ByRules : List Float → ℕ → Listing → List ℕ → List Float → Type 0
+  abbrev ByRules : List Float → ℕ → Result ℕ Refusal → List ℕ → List Float → Type 0
   ByRules table p = Leaves (shows (rules_list table p xs replies) numbers symbols)
 
-  pub no_rate : rate_fit rate ≡ false → Leaving (Refused WrongRate) numbers symbols
+  pub no_rate : rate_fit rate ≡ false → Leaving (Err WrongRate) numbers symbols
   unfolding listing
   no_rate e = rw e (record { answers = refl; numbered = refl; written = refl })
 
   module _ (fit : rate_fit rate ≡ true) where
-    pub too_long : longest < length xs → Leaving (Refused RecordingTooLong) numbers symbols
+    pub too_long : longest < length xs → Leaving (Err RecordingTooLong) numbers symbols
     unfolding listing
     too_long long = let b : ltb longest (length xs) ≡ true = lt-ltb _ _ long in rw (fit, b) (record { answers = refl; numbered = refl; written = refl })
 
-    module _ (short : length xs ≤ longest) (sixteen : AllSixteen xs) (table : List Float) (r : Listing) (numbers' : List ℕ) (symbols' : List Float) where
+    module _ (short : length xs ≤ longest) (sixteen : AllSixteen xs) (table : List Float) (r : Result ℕ Refusal) (numbers' : List ℕ) (symbols' : List Float) where
       -- the list by the rules is the first receiver's
       at_rate : ByRules (rate_of rate).taps (rate_of rate).p r numbers' symbols' → Leaving r numbers' symbols'
       unfolding listing

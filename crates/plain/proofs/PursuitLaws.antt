@@ -1,7 +1,7 @@
 -- What the search makes of the candidate and of the wait depends on no timer, and a wait is held only with a candidate. Assumes nothing.
-use mathlib.Core.Path.{◌≡◌, refl, sym, ap, ◌∙◌, subst}
+use Rattle.std.specs.Prelude.{Some, None, Option}
+use mathlib.Core.Path.{◌≡◌, refl, sym, ap, ◌∙◌}
 use mathlib.Core.Bool.{Bool, true, false, cond}
-use mathlib.Core.Option.{Option, none, some, IsSome}
 use Prim.Native.Nat.{ℕ, ◌*◌, ◌<◌}
 use lib.Ieee.{Float, lt}
 use Rattle.protocol.specs.declared.Kind.{Kind}
@@ -9,9 +9,6 @@ use Rattle.protocol.specs.declared.Kind.TheVariants.{Lsf, Bert, Stream, Packet}
 use Rattle.protocol.specs.declared.SyncBurst.{SyncBurst}
 use Rattle.protocol.specs.declared.SyncBurst.TheVariants.{Frame, Preamble, EndOfTransmission}
 use Rattle.decode.specs.Correlator.{correlation, matches}
-use Rattle.search.specs.declared.Wait.TheVariants.{Free}
-use Rattle.search.specs.declared.Timer.{Timer}
-use Rattle.search.specs.declared.Timer.TheVariants.{Until}
 use Rattle.search.specs.declared.Control.{Control}
 use Rattle.search.specs.TakenBurst.{TakenBurst, held_in, held_by, taken}
 use Rattle.search.specs.Search.{same_kind, end_after_lem, carried, matched, missed, tried, passed, searched}
@@ -23,14 +20,14 @@ use Rattle.plain.specs.SearchPart.{idle_timer, control_of, seen}
 module _ (k : ℕ) where
   -- a control with another's pursuit, whatever its timer
   abbrev pub Fits : Control → Control → Type 0
-  Fits c c₀ = (t : Timer) × (c ≡ control_of (seen c₀) k t)
+  Fits c c₀ = (t : Option ℕ) × (c ≡ control_of (seen c₀) k t)
 
   fits_cond : (b : Bool) (c c₀ d d₀ : Control) → Fits c c₀ → Fits d d₀ → Fits (cond b c d) (cond b c₀ d₀)
   fits_cond true c c₀ d d₀ f g = f
   fits_cond false c c₀ d d₀ f g = g
 
   abbrev pub Blind : (Control → Control) → Type 0
-  Blind f = (s : Pursuit) (t : Timer) → Fits (f (control_of s k t)) (f (control_of s k idle_timer))
+  Blind f = (s : Pursuit) (t : Option ℕ) → Fits (f (control_of s k t)) (f (control_of s k idle_timer))
 
   pub seen_through : (f g : Control → Control) → Blind f → Blind g → (s : Pursuit)
       → seen (g (f (control_of s k idle_timer))) ≡ seen (g (control_of (seen (f (control_of s k idle_timer))) k idle_timer))
@@ -42,16 +39,16 @@ module _ (k : ℕ) where
       let h = G s' (F s t).0 in
       (h.0, ap g (F s t).1 ∙ h.1 ∙ ap (λ (q : Pursuit). control_of q k h.0) (sym (seen_through f g F G s)))
 
-  matched_blind : (h : Option TakenBurst) (new : TakenBurst) (s : Pursuit) (t : Timer) → Fits (matched h new (control_of s k t)) (matched h new (control_of s k idle_timer))
+  matched_blind : (h : Option TakenBurst) (new : TakenBurst) (s : Pursuit) (t : Option ℕ) → Fits (matched h new (control_of s k t)) (matched h new (control_of s k idle_timer))
   unfolding matched
-  matched_blind none new s t = (t, refl)
-  matched_blind (some u) new s t = fits_cond (lt u.diff new.diff) _ _ _ _ (t, refl) (t, refl)
+  matched_blind None new s t = (t, refl)
+  matched_blind (Some u) new s t = fits_cond (lt u.diff new.diff) _ _ _ _ (t, refl) (t, refl)
 
-  missed_blind : (p : ℕ) (kind : Kind) (h : Option TakenBurst) (s : Pursuit) (t : Timer)
+  missed_blind : (p : ℕ) (kind : Kind) (h : Option TakenBurst) (s : Pursuit) (t : Option ℕ)
       → Fits (missed p kind h (control_of s k t)) (missed p kind h (control_of s k idle_timer))
   unfolding missed
-  missed_blind p kind none s t = (t, refl)
-  missed_blind p kind (some u) s t = fits_cond (same_kind u.kind kind) _ _ _ _ (Until (end_after_lem k (384 * p)), refl) (t, refl)
+  missed_blind p kind None s t = (t, refl)
+  missed_blind p kind (Some u) s t = fits_cond (same_kind u.kind kind) _ _ _ _ (Some (end_after_lem k (384 * p)), refl) (t, refl)
 
   pub tried_blind : (p : ℕ) (v : ℕ → Float) (kind : Kind) → Blind (tried p v kind)
   unfolding tried
@@ -60,7 +57,7 @@ module _ (k : ℕ) where
 
   carried_blind : (p : ℕ) (burst : SyncBurst) (v : ℕ → Float) → Blind (carried p burst v)
   unfolding carried
-  carried_blind p burst v s t = fits_cond (matches burst v) _ _ _ _ (Until (end_after_lem k (24 * p)), refl) (t, refl)
+  carried_blind p burst v s t = fits_cond (matches burst v) _ _ _ _ (Some (end_after_lem k (24 * p)), refl) (t, refl)
 
   module _ (p : ℕ) (v : ℕ → Float) where
     abbrev early : Control → Control
@@ -96,7 +93,7 @@ module _ (k : ℕ) where
     unfolding carried
     seen_carried burst s = kept (matches burst v)
       where
-        kept : (b : Bool) → seen (cond b (control_of s k (Until (end_after_lem k (24 * p)))) (control_of s k idle_timer)) ≡ s
+        kept : (b : Bool) → seen (cond b (control_of s k (Some (end_after_lem k (24 * p)))) (control_of s k idle_timer)) ≡ s
         kept true = refl
         kept false = refl
 
@@ -128,10 +125,10 @@ search_by_tries k p v w same s a b c r ea eb ec er = four_tries k p v s a b c r 
 
 -- ---- a wait is held only with a candidate
 abbrev pub Sound : Pursuit → Type 0
-Sound s = held_in s.candidate ≡ none → s.wait ≡ Free
+Sound s = held_in s.candidate ≡ None → s.wait ≡ None
 
-pub held_some : (u : TakenBurst) → some u ≡ none → ⊥
-held_some u e = subst IsSome e tt
+pub held_some : (u : TakenBurst) → Some u ≡ None → ⊥
+held_some u e = cc
 
 sound_cond : (b : Bool) (c d : Control) → Sound (seen c) → Sound (seen d) → Sound (seen (cond b c d))
 sound_cond true c d f g = f
@@ -139,13 +136,13 @@ sound_cond false c d f g = g
 
 matched_sound : (h : Option TakenBurst) (new : TakenBurst) (c : Control) → Sound (seen (matched h new c))
 unfolding matched
-matched_sound none new c = λ e. absurd (held_some _ e)
-matched_sound (some u) new c = sound_cond (lt u.diff new.diff) _ _ (λ e. absurd (held_some _ e)) (λ e. absurd (held_some _ e))
+matched_sound None new c = λ e. absurd (held_some _ e)
+matched_sound (Some u) new c = sound_cond (lt u.diff new.diff) _ _ (λ e. absurd (held_some _ e)) (λ e. absurd (held_some _ e))
 
 missed_sound : (p : ℕ) (kind : Kind) (h : Option TakenBurst) (c : Control) → held_by c ≡ h → Sound (seen c) → Sound (seen (missed p kind h c))
 unfolding missed
-missed_sound p kind none c e f = f
-missed_sound p kind (some u) c e f = sound_cond (same_kind u.kind kind) _ _ (λ n. absurd (held_some u (sym e ∙ n))) f
+missed_sound p kind None c e f = f
+missed_sound p kind (Some u) c e f = sound_cond (same_kind u.kind kind) _ _ (λ n. absurd (held_some u (sym e ∙ n))) f
 
 tried_sound : (p : ℕ) (v : ℕ → Float) (kind : Kind) (c : Control) → Sound (seen c) → Sound (seen (tried p v kind c))
 unfolding tried

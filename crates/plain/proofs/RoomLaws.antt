@@ -1,4 +1,5 @@
 -- The list in the lent rooms: an entry after those before it. Assumes nothing.
+use Rattle.std.specs.Prelude.{Option, Some, None}
 use mathlib.Core.Path.{◌≡◌, refl, sym, ap, ◌∙◌, subst}
 use mathlib.Core.Bool.{Bool}
 use mathlib.Core.List.{List, [], ◌∷◌, ◌++◌, append-nil, append_assoc, flat_map}
@@ -16,8 +17,6 @@ use Rattle.machine.proofs.Parts.{given_joined}
 use Rattle.shaping.specs.Rate.{tap_count}
 use Rattle.demodulator.specs.Spans.{symbol_at}
 use Rattle.plain.specs.declared.due.Due.{Due}
-use Rattle.plain.specs.declared.due.Next.{Next}
-use Rattle.plain.specs.declared.due.Next.TheVariants.{Nothing as NoneDue, At}
 use Rattle.plain.specs.List.{Entry}
 use Rattle.plain.specs.Values.{from_whole}
 use Rattle.plain.specs.Rest.{resumes_at, numbers_of_lem, offer_of_due, entry_at, Finds}
@@ -99,11 +98,11 @@ module _ (table : List Float) (p : ℕ) (size : length table ≡ tap_count p) (x
       → WritesAll (rules_list table p xs replies) numbers₀ symbols₀ numbers symbols
   writing_filled from count numbers symbols w full = all_written from count numbers symbols w (filled table p size xs short replies from count w.progress full)
 
-  module _ (from count : ℕ) (numbers : List ℕ) (symbols : List Float) (w : Writing from count numbers symbols) (n : Next) (f : Finds table p xs from n) where
-    pub writing_ended : n ≡ NoneDue → WritesAll (rules_list table p xs replies) numbers₀ symbols₀ numbers symbols
+  module _ (from count : ℕ) (numbers : List ℕ) (symbols : List Float) (w : Writing from count numbers symbols) (n : Option Due) (f : Finds table p xs from n) where
+    pub writing_ended : n ≡ None → WritesAll (rules_list table p xs replies) numbers₀ symbols₀ numbers symbols
     writing_ended e = all_written from count numbers symbols w (ended table p size xs short replies from count w.progress n f e)
 
-    module _ (d : Due) (is : n ≡ At d) (numbers' : List ℕ) (symbols' : List Float) (one : WritesOne count (entry_at table p xs d) numbers symbols numbers' symbols') where
+    module _ (d : Due) (is : n ≡ Some d) (numbers' : List ℕ) (symbols' : List Float) (one : WritesOne count (entry_at table p xs d) numbers symbols numbers' symbols') where
       abbrev es : List Entry
       es = w.progress.listed
 

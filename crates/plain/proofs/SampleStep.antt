@@ -1,4 +1,5 @@
 -- The list by the rules, one sample further. Assumes nothing.
+use Rattle.std.specs.Prelude.{Option}
 use mathlib.Core.Path.{◌≡◌, refl, sym, ap, ◌∙◌}
 use mathlib.Core.Logic.{inl, inr}
 use mathlib.Core.Bool.{false}
@@ -16,7 +17,6 @@ use lib.Ieee.{Float, binary32, of_bits}
 use Rattle.numbers.specs.Firsts.{firsts}
 use Rattle.shaping.specs.Rate.{tap_count}
 use Rattle.search.specs.declared.Candidate.{Candidate}
-use Rattle.search.specs.declared.Timer.{Timer}
 use Rattle.search.specs.declared.Control.{Control}
 use Rattle.search.specs.declared.Shown.{Shown}
 use Rattle.search.specs.declared.Reply.{Reply}
@@ -60,7 +60,7 @@ module _ (table : List Float) (p : ℕ) (size : length table ≡ tap_count p) (x
   none_after k past c rs = rw (drop_of_length-le xs {i = k} past)
 
   -- ---- one sample
-  module _ (k : ℕ) (more : k < length xs) (s : Pursuit) (t : Timer) where
+  module _ (k : ℕ) (more : k < length xs) (s : Pursuit) (t : Option ℕ) where
     abbrev x : ℤ
     x = get_or xs k (pos 0)
 
@@ -111,7 +111,7 @@ module _ (table : List Float) (p : ℕ) (size : length table ≡ tap_count p) (x
         ∙ by_outcome o (admits ∙ ap (settled table p (take (k + 1) xs) blank) e) rs
 
   -- ---- with no wait, the next sample is searched
-  pub look : (k : ℕ) → k ≤ length xs → (candidate : Candidate) (t : Timer) (rs : List Reply)
+  pub look : (k : ℕ) → k ≤ length xs → (candidate : Candidate) (t : Option ℕ) (rs : List Reply)
       → after table p xs k (control_of (free candidate) k t) rs ≡ look_from table p xs (k + 1) candidate (cleared (k + 1) t) rs
   unfolding look_from then_outcome sampled waited_turn
   look k there candidate t rs = elim (eq-or-lt_of_le there) [

@@ -1,13 +1,12 @@
 -- Document 02 g): what the slow engine answers, and what the lent rooms then hold. Assumes nothing.
-use Rattle.std.specs.Prelude.{◌≡◌, Bool, not, cond, ◌||◌, ℕ, ◌+◌, ◌*◌, ◌≤◌, ltb, ℤ, length, take, drop, Float}
+use Rattle.protocol.specs.declared.Refusal.{Refusal}
+use Rattle.std.specs.Prelude.{◌≡◌, Bool, not, cond, ◌||◌, ℕ, ◌+◌, ◌*◌, ◌≤◌, ltb, ℤ, length, take, drop, Float, Result, Ok, Err}
 use mathlib.Core.List.{List, ◌++◌, map, flat_map}
 use Rattle.shaping.specs.Rate.{rate_fit}
 use Rattle.protocol.specs.Refusals.{PaperRefusal, bare, on_paper}
 use Rattle.demodulator.specs.Record.{fresh}
 use Rattle.demodulator_run.specs.Rules.{start, single_rules}
 use Rattle.demodulator_run.specs.Run.{single_receiver}
-use Rattle.plain.specs.declared.Listing.{Listing}
-use Rattle.plain.specs.declared.Listing.TheVariants.{Refused, Listed}
 use Rattle.plain.specs.List.{Entry, list_from}
 use Rattle.plain.specs.Values.{longest}
 use Rattle.plain.specs.Rest.{reply_of, numbers_of_lem}
@@ -32,9 +31,9 @@ pub data Paper : Type 0 where
   refusal : PaperRefusal → Paper
   listed : ℕ → Paper
 
-abbrev pub listing_paper : Listing → Paper
-listing_paper (Refused why) = refusal (on_paper why)
-listing_paper (Listed count) = listed count
+abbrev pub listing_paper : Result ℕ Refusal → Paper
+listing_paper (Err why) = refusal (on_paper why)
+listing_paper (Ok count) = listed count
 
 -- ---- what a call leaves
 pub record Left : Type 0 where
@@ -68,12 +67,12 @@ listing rate xs replies numbers symbols =
     (shows (first_list rate xs replies) numbers symbols))
 
 -- ---- what the functions promise
-pub record Leaves (l : Left) (r : Listing) (numbers : List ℕ) (symbols : List Float) : Type 0 where
+pub record Leaves (l : Left) (r : Result ℕ Refusal) (numbers : List ℕ) (symbols : List Float) : Type 0 where
   pub answers : listing_paper r ≡ l.answer
   pub numbered : numbers ≡ l.numbers
   pub written : symbols ≡ l.symbols
 
-abbrev pub ListOffersSays : ℕ → List ℤ → List Bool → List ℕ → List Float → Listing → List ℕ → List Float → Type 0
+abbrev pub ListOffersSays : ℕ → List ℤ → List Bool → List ℕ → List Float → Result ℕ Refusal → List ℕ → List Float → Type 0
 ListOffersSays rate xs replies numbers symbols = Leaves (listing rate xs replies numbers symbols)
 
 -- ---- what the parts that write ask for and leave

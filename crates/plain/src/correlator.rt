@@ -30,11 +30,9 @@ fn range_of(values: [f32; 8]) -> Range
 {
     let mut max = values[0] + 0.0;
     let mut min = values[0] + 0.0;
-    let mut i: usize = 0;
-    while i < 7 {
-        i += 1;
-        max = numbers::max(max, values[i] + 0.0);
-        min = numbers::min(min, values[i] + 0.0);
+    for value in &values[1..] {
+        max = numbers::max(max, *value + 0.0);
+        min = numbers::min(min, *value + 0.0);
     }
     Range { max, min }
 }
@@ -44,16 +42,13 @@ fn diff_of(signs: [i8; 8], values: [f32; 8], gain: f32, shift: f32) -> f32
     ensures { result ≡ summed (distances signs gain shift (unsigned (values_of values))) }
 {
     let mut diff: f32 = 0.0;
-    let mut i: usize = 0;
-    while i < 8 {
-        let symbol = (values[i] + 0.0 - shift) / gain;
-        let distance = numbers::abs(symbol - (signs[i] as f32));
+    for (value, sign) in values.iter().zip(signs.iter()) {
+        let symbol = (*value + 0.0 - shift) / gain;
+        let distance = numbers::abs(symbol - (*sign as f32));
         if distance > FARTHEST {
-            diff = NO_MATCH;
-            break;
+            return NO_MATCH;
         }
-        diff = diff + distance;
-        i += 1;
+        diff += distance;
     }
     diff
 }

@@ -1,11 +1,13 @@
-// F(k), each time from the recording itself: nothing is kept. Over p, the samples in a symbol, and the table of taps.
-ghost use Rattle.std.specs.Prelude.{◌≡◌, ◌*◌, ◌-◌, ◌≤◌, ◌<◌, length};
+// F(k), each time from the recording itself: nothing is kept.
+ghost use Rattle.std.specs.Prelude.{◌≡◌, ◌*◌, ◌-◌, ◌≤◌, ◌<◌};
 ghost use Rattle.std.specs.Float.{binary32};
 ghost use Rattle.std.specs.Float.Ieee.{of_int};
 ghost use Rattle.numbers.specs.Firsts.{firsts};
 ghost use Rattle.demodulator.specs.Spans.{eight};
 ghost use Rattle.demodulator_run.specs.Filter.{sample_no_lem, filtered};
 ghost use Rattle.plain.specs.Values.{from_whole};
+
+use crate::heard::Heard;
 
 // Samples are numbered from 1. One before the first or after the last is 0.
 fn sample_no(recording: &[i16], number: usize) -> f32
@@ -21,51 +23,42 @@ fn sample_no(recording: &[i16], number: usize) -> f32
     recording[at] as f32
 }
 
-// F(k): from 0.0, tap i times sample k - 8p + i, in order; 0.0 for k below 1.
-fn filtered(p: usize, table: &[f32], recording: &[i16], k: usize) -> f32
-    requires { (p ≤ 10) × (length table.now ≤ 81) × (k ≤ 65536) }
-    ensures { result ≡ filtered table.now p recording.now k }
-{
-    if k == 0 {
-        return 0.0;
+impl Heard<'_> {
+    // F(k): from 0.0, tap i times sample k - 8p + i, in order; 0.0 for k below 1.
+    fn filtered(&self, k: usize) -> f32
+        requires { k ≤ 65536 }
+        ensures { result ≡ filtered self.now.table.now self.now.p self.now.recording.now k }
+    {
+        if k == 0 {
+            return 0.0;
+        }
+        let back = 8 * self.p.samples();
+        let mut sum: f32 = 0.0;
+        for (tap, weight) in self.table.iter().enumerate() {
+            let sample = sample_no(self.recording, numbers::saturating_sub(k + tap, back));
+            sum += *weight * sample;
+        }
+        sum
     }
-    let back = 8 * p;
-    let mut sum: f32 = 0.0;
-    let mut tap: usize = 0;
-    while tap < table.len() {
-        let sample = sample_no(recording, numbers::saturating_sub(k + tap, back));
-        sum = sum + table[tap] * sample;
-        tap += 1;
-    }
-    sum
-}
 
-// F(k - p * symbols): the one product of p and a variable.
-pub(crate) fn symbols_before(
-    p: usize,
-    table: &[f32],
-    recording: &[i16],
-    k: usize,
-    symbols: usize,
-) -> f32
-    requires { (p ≤ 10) × (length table.now ≤ 81) × (k ≤ 65536) × (symbols < 192) }
-    ensures { result ≡ from_whole table.now p recording.now k (p * symbols) }
-{
-    let ago = p * symbols;
-    filtered(p, table, recording, numbers::saturating_sub(k, ago))
-}
-
-// F(k-70), F(k-60), .. F(k).
-pub(crate) fn eight_values(p: usize, table: &[f32], recording: &[i16], k: usize) -> [f32; 8]
-    requires { (p ≤ 10) × (length table.now ≤ 81) × (k ≤ 65536) }
-    ensures { result ≡ firsts (eight p (from_whole table.now p recording.now k)) 8 }
-{
-    let mut values = [0.0f32; 8];
-    let mut i: usize = 0;
-    while i < 8 {
-        let symbols = 7 - i;
-        values[i] = symbols_before(p, table, recording, k, symbols);
-        i += 1;
+    // F(k - p * symbols): the one product of p and a variable.
+    pub(crate) fn symbols_before(&self, k: usize, symbols: usize) -> f32
+        requires { (k ≤ 65536) × (symbols < 192) }
+        ensures { result ≡ from_whole self.now.table.now self.now.p self.now.recording.now k (self.now.p * symbols) }
+    {
+        let ago = self.p.samples() * symbols;
+        self.filtered(numbers::saturating_sub(k, ago))
     }
-    values
+
+    // F(k-70), F(k-60), .. F(k).
+    pub(crate) fn eight_values(&self, k: usize) -> [f32; 8]
+        requires { k ≤ 65536 }
+        ensures { result ≡ firsts (eight self.now.p (from_whole self.now.table.now self.now.p self.now.recording.now k)) 8 }
+    {
+        let mut values = [0.0f32; 8];
+        for (i, value) in values.iter_mut().enumerate() {
+            *value = self.symbols_before(k, 7 - i);
+        }
+        values
+    }
 }

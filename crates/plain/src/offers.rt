@@ -2,14 +2,14 @@
 // search goes on.
 ghost use Rattle.std.specs.Prelude.{◌≡◌, cond, ◌++◌, ◌+◌, ◌≤◌, length, take, drop};
 ghost use Rattle.numbers.specs.Firsts.{written};
-ghost use Rattle.shaping.specs.Rate.{tap_count};
 ghost use Rattle.demodulator.specs.Spans.{symbol_at};
-ghost use Rattle.plain.specs.Values.{from_whole, Usable};
+ghost use Rattle.plain.specs.Values.{from_whole};
 ghost use Rattle.plain.specs.Rest.{resumes_at, numbers_of_lem, offer_of_due, entry_at};
 ghost use Rattle.plain.specs.Listing.{rules_list, shows, Leaves, Roomy, WritesOne, WritesAll};
 
-use crate::due::{Due, Next};
-use crate::{Listing, due, filter, pursuit};
+use crate::due::Due;
+use crate::heard::Heard;
+use crate::pursuit;
 use protocol::Refusal;
 use search::Shown;
 
@@ -21,34 +21,10 @@ fn resume(sample: usize, accepted: bool) -> usize
     if accepted { sample + 1 } else { sample }
 }
 
-// How many offers the list has: one for each reply that is read, and the first that has none.
-fn count_offers(p: usize, table: &[f32], recording: &[i16], replies: &[bool]) -> usize
-    requires { Usable p table.now recording.now }
-    ensures { result ≡ length (rules_list table.now p recording.now replies.now) }
-{
-    let mut from: usize = 1;
-    let mut count: usize = 0;
-    while count < replies.len() {
-        let next = due::next_due(p, table, recording, from);
-        match next {
-            Next::Nothing => return count,
-            Next::At(due) => {
-                from = resume(due.sample, replies[count]);
-            }
-        }
-        count += 1;
-    }
-    let last = due::next_due(p, table, recording, from);
-    match last {
-        Next::Nothing => count,
-        Next::At(_) => count + 1,
-    }
-}
-
 fn mark_of(replaced: bool) -> u64
     ensures { result ≡ cond replaced 1 0 }
 {
-    if replaced { 1 } else { 0 }
+    u64::from(replaced)
 }
 
 // An offer's kind, by its place in the order of trial, its sample, where it was taken, its age and its mark.
@@ -65,101 +41,92 @@ fn write_numbers(due: Due, numbers: &mut [u64])
     numbers[4] = mark_of(shown.replaced);
 }
 
-fn write_symbols(
-    p: usize,
-    table: &[f32],
-    recording: &[i16],
-    shown: Shown,
-    sample: usize,
-    symbols: &mut [f32],
-)
-    requires { (p ≤ 10) × (length table.now ≡ tap_count p) × (sample ≤ 65536) × (192 ≤ length symbols.old) }
-    ensures { symbols.new ≡ written (symbol_at p shown (from_whole table.now p recording.now sample)) 192 symbols.old }
-{
-    let mut i: usize = 0;
-    while i < 192 {
-        let back = 191 - i;
-        symbols[i] = (filter::symbols_before(p, table, recording, sample, back) - shown.shift)
-            / shown.gain;
-        i += 1;
-    }
-}
-
-// Writes an offer after `count` others.
-fn write_entry(
-    p: usize,
-    table: &[f32],
-    recording: &[i16],
-    due: Due,
-    count: usize,
-    numbers: &mut [u64],
-    symbols: &mut [f32],
-)
-    requires { (p ≤ 10) × (length table.now ≡ tap_count p) × (due.sample ≤ 65536) × Roomy (count + 1) numbers.old symbols.old }
-    ensures { WritesOne count (entry_at table.now p recording.now due) numbers.old symbols.old numbers.new symbols.new }
-{
-    let shown = due.shown;
-    let at = 5 * count;
-    let window = 192 * count;
-    write_numbers(due, &mut numbers[at..]);
-    write_symbols(
-        p,
-        table,
-        recording,
-        shown,
-        due.sample,
-        &mut symbols[window..],
-    );
-}
-
-// Writes the list, which has so many offers and for which there is room. After the last of them nothing is searched.
-fn write_offers(
-    p: usize,
-    table: &[f32],
-    recording: &[i16],
-    replies: &[bool],
-    offers: usize,
-    numbers: &mut [u64],
-    symbols: &mut [f32],
-)
-    requires { Usable p table.now recording.now × (offers ≡ length (rules_list table.now p recording.now replies.now)) × Roomy offers numbers.old symbols.old }
-    ensures { WritesAll (rules_list table.now p recording.now replies.now) numbers.old symbols.old numbers.new symbols.new }
-{
-    let mut from: usize = 1;
-    let mut count: usize = 0;
-    while count < offers {
-        let next = due::next_due(p, table, recording, from);
-        let Next::At(due) = next else {
-            return;
-        };
-        write_entry(p, table, recording, due, count, numbers, symbols);
-        if count == replies.len() {
-            return;
+impl Heard<'_> {
+    // How many offers the list has: one for each reply that is read, and the first that has none.
+    fn count_offers(&self, replies: &[bool]) -> usize
+        ensures { result ≡ length (rules_list self.now.table.now self.now.p self.now.recording.now replies.now) }
+    {
+        let mut from: usize = 1;
+        for (count, accepted) in replies.iter().enumerate() {
+            let next = self.next_due(from);
+            match next {
+                None => return count,
+                Some(due) => {
+                    from = resume(due.sample, *accepted);
+                }
+            }
         }
-        from = resume(due.sample, replies[count]);
-        count += 1;
+        let last = self.next_due(from);
+        match last {
+            None => replies.len(),
+            Some(_) => replies.len() + 1,
+        }
     }
-}
 
-// The whole call at p samples in a symbol.
-pub(crate) fn list_at(
-    p: usize,
-    table: &[f32],
-    recording: &[i16],
-    replies: &[bool],
-    numbers: &mut [u64],
-    symbols: &mut [f32],
-) -> Listing
-    requires { Usable p table.now recording.now }
-    ensures { Leaves (shows (rules_list table.now p recording.now replies.now) numbers.old symbols.old) result numbers.new symbols.new }
-{
-    let count = count_offers(p, table, recording, replies);
-    if numbers.len() / 5 < count {
-        return Listing::Refused(Refusal::ListRoomTooSmall);
+    fn write_symbols(&self, shown: Shown, sample: usize, symbols: &mut [f32])
+        requires { (sample ≤ 65536) × (192 ≤ length symbols.old) }
+        ensures { symbols.new ≡ written (symbol_at self.now.p shown (from_whole self.now.table.now self.now.p self.now.recording.now sample)) 192 symbols.old }
+    {
+        for (i, symbol) in symbols[..192].iter_mut().enumerate() {
+            let value = self.symbols_before(sample, 191 - i);
+            *symbol = (value - shown.shift) / shown.gain;
+        }
     }
-    if symbols.len() / 192 < count {
-        return Listing::Refused(Refusal::ListRoomTooSmall);
+
+    // Writes an offer after `count` others.
+    fn write_entry(&self, due: Due, count: usize, numbers: &mut [u64], symbols: &mut [f32])
+        requires { (due.sample ≤ 65536) × Roomy (count + 1) numbers.old symbols.old }
+        ensures { WritesOne count (entry_at self.now.table.now self.now.p self.now.recording.now due) numbers.old symbols.old numbers.new symbols.new }
+    {
+        let shown = due.shown;
+        let at = 5 * count;
+        let window = 192 * count;
+        write_numbers(due, &mut numbers[at..]);
+        self.write_symbols(shown, due.sample, &mut symbols[window..]);
     }
-    write_offers(p, table, recording, replies, count, numbers, symbols);
-    Listing::Listed(count)
+
+    // Writes the list, which has so many offers and for which there is room. After the last of them nothing is searched.
+    fn write_offers(
+        &self,
+        replies: &[bool],
+        offers: usize,
+        numbers: &mut [u64],
+        symbols: &mut [f32],
+    )
+        requires { (offers ≡ length (rules_list self.now.table.now self.now.p self.now.recording.now replies.now)) × Roomy offers numbers.old symbols.old }
+        ensures { WritesAll (rules_list self.now.table.now self.now.p self.now.recording.now replies.now) numbers.old symbols.old numbers.new symbols.new }
+    {
+        let mut from: usize = 1;
+        for count in 0..offers {
+            let next = self.next_due(from);
+            let Some(due) = next else {
+                return;
+            };
+            self.write_entry(due, count, numbers, symbols);
+            if count == replies.len() {
+                return;
+            }
+            from = resume(due.sample, replies[count]);
+        }
+    }
+
+    // The whole call at p samples in a symbol.
+    pub(crate) fn list_at(
+        &self,
+        replies: &[bool],
+        numbers: &mut [u64],
+        symbols: &mut [f32],
+    ) -> Result<usize, Refusal>
+        ensures { Leaves (shows (rules_list self.now.table.now self.now.p self.now.recording.now replies.now) numbers.old symbols.old) result numbers.new symbols.new }
+    {
+        let count = self.count_offers(replies);
+        if numbers.len() / 5 < count {
+            return Err(Refusal::ListRoomTooSmall);
+        }
+        if symbols.len() / 192 < count {
+            return Err(Refusal::ListRoomTooSmall);
+        }
+        self.write_offers(replies, count, numbers, symbols);
+        Ok(count)
+    }
 }

@@ -3,35 +3,31 @@ ghost use Rattle.std.specs.Prelude.{◌≡◌, ◌*◌, ◌-◌, ◌≤◌, leng
 ghost use Rattle.decode.specs.Parts.{values_of};
 ghost use Rattle.search.specs.TakenBurst.{held_in, taken, older};
 ghost use Rattle.search.specs.Search.{rank, matched, missed, tried};
-ghost use Rattle.plain.specs.Values.{Usable};
 ghost use Rattle.plain.specs.SearchPart.{idle_timer, control_of, seen, takes, searched_at};
 
-use crate::{correlator, filter};
+use crate::correlator;
+use crate::heard::Heard;
 use decode::Correlation;
 use protocol::Kind;
-use search::{Candidate, Wait, Waiting};
+use search::{Candidate, Waiting};
+use shaping::PerSymbol;
 
 // The candidate, and the wait for its frame once that is set.
 #[derive(Clone, Copy)]
 pub(crate) struct Pursuit {
     pub candidate: Candidate,
-    pub wait: Wait,
+    pub wait: Option<Waiting>,
 }
 
 // A kind's place in the order of trial.
 pub(crate) fn place_of(kind: Kind) -> u64
     ensures { result ≡ rank kind }
 {
-    match kind {
-        Kind::Lsf => 0,
-        Kind::Bert => 1,
-        Kind::Stream => 2,
-        Kind::Packet => 3,
-    }
+    kind as u64
 }
 
 // Takes a new candidate at sample k. A wait that is held stays, marked.
-fn take(k: usize, wait: Wait, kind: Kind, m: Correlation) -> Pursuit
+fn take(k: usize, wait: Option<Waiting>, kind: Kind, m: Correlation) -> Pursuit
     ensures { result ≡ takes k wait kind m }
 {
     let candidate = Candidate::Held {
@@ -43,10 +39,10 @@ fn take(k: usize, wait: Wait, kind: Kind, m: Correlation) -> Pursuit
         taken_at: k as u64,
     };
     match wait {
-        Wait::Free => Pursuit { candidate, wait },
-        Wait::Due(w) => Pursuit {
+        None => Pursuit { candidate, wait },
+        Some(w) => Pursuit {
             candidate,
-            wait: Wait::Due(Waiting {
+            wait: Some(Waiting {
                 left: w.left,
                 age: w.age,
                 replaced: true,
@@ -59,7 +55,7 @@ fn take(k: usize, wait: Wait, kind: Kind, m: Correlation) -> Pursuit
 fn older(age: u8) -> u8
     ensures { result ≡ older age }
 {
-    if age < 255 { age + 1 } else { age }
+    age.saturating_add(1)
 }
 
 // A match whose diff is above the held candidate's adds one to its age; any other takes a new candidate.
@@ -98,16 +94,14 @@ fn meet(k: usize, pursuit: Pursuit, kind: Kind, m: Correlation) -> Pursuit
 }
 
 // The samples that are left to a frame of 184 symbols after its burst: none where the age has passed them.
-fn rest_of(p: usize, age: u8) -> u16
-    requires { p ≤ 10 }
+fn rest_of(p: PerSymbol, age: u8) -> u16
     ensures { result ≡ 184 * p - age }
 {
-    numbers::saturating_sub(184 * p, age as usize) as u16
+    numbers::saturating_sub(184 * p.samples(), age as usize) as u16
 }
 
 // A kind that does not match, and is the held candidate's, sets the wait.
-fn miss(p: usize, k: usize, pursuit: Pursuit, kind: Kind) -> Pursuit
-    requires { p ≤ 10 }
+fn miss(p: PerSymbol, k: usize, pursuit: Pursuit, kind: Kind) -> Pursuit
     ensures { result ≡ seen (missed p kind (held_in pursuit.candidate) (control_of pursuit k idle_timer)) }
 {
     let candidate = pursuit.candidate;
@@ -124,7 +118,7 @@ fn miss(p: usize, k: usize, pursuit: Pursuit, kind: Kind) -> Pursuit
             let left = rest_of(p, age);
             return Pursuit {
                 candidate,
-                wait: Wait::Due(Waiting {
+                wait: Some(Waiting {
                     left,
                     age,
                     replaced: false,
@@ -136,8 +130,7 @@ fn miss(p: usize, k: usize, pursuit: Pursuit, kind: Kind) -> Pursuit
 }
 
 // A diff below 100.0 is a match.
-fn try_kind(p: usize, k: usize, pursuit: Pursuit, kind: Kind, values: [f32; 8]) -> Pursuit
-    requires { p ≤ 10 }
+fn try_kind(p: PerSymbol, k: usize, pursuit: Pursuit, kind: Kind, values: [f32; 8]) -> Pursuit
     ensures { result ≡ seen (tried p (values_of values) kind (control_of pursuit k idle_timer)) }
 {
     let m = correlator::correlate(kind, values);
@@ -147,24 +140,20 @@ fn try_kind(p: usize, k: usize, pursuit: Pursuit, kind: Kind, values: [f32; 8]) 
     miss(p, k, pursuit, kind)
 }
 
-// Searches sample k, with no wait held.
-pub(crate) fn search_at(
-    p: usize,
-    table: &[f32],
-    recording: &[i16],
-    k: usize,
-    candidate: Candidate,
-) -> Pursuit
-    requires { Usable p table.now recording.now × (k ≤ length recording.now) }
-    ensures { result ≡ searched_at table.now p recording.now k candidate }
-{
-    let values = filter::eight_values(p, table, recording, k);
-    let begun = Pursuit {
-        candidate,
-        wait: Wait::Free,
-    };
-    let after_lsf = try_kind(p, k, begun, Kind::Lsf, values);
-    let after_bert = try_kind(p, k, after_lsf, Kind::Bert, values);
-    let after_stream = try_kind(p, k, after_bert, Kind::Stream, values);
-    try_kind(p, k, after_stream, Kind::Packet, values)
+impl Heard<'_> {
+    // Searches sample k, with no wait held.
+    pub(crate) fn search_at(&self, k: usize, candidate: Candidate) -> Pursuit
+        requires { k ≤ length self.now.recording.now }
+        ensures { result ≡ searched_at self.now.table.now self.now.p self.now.recording.now k candidate }
+    {
+        let values = self.eight_values(k);
+        let begun = Pursuit {
+            candidate,
+            wait: None,
+        };
+        let after_lsf = try_kind(self.p, k, begun, Kind::Lsf, values);
+        let after_bert = try_kind(self.p, k, after_lsf, Kind::Bert, values);
+        let after_stream = try_kind(self.p, k, after_bert, Kind::Stream, values);
+        try_kind(self.p, k, after_stream, Kind::Packet, values)
+    }
 }

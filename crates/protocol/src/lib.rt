@@ -5,7 +5,7 @@ ghost use Rattle.protocol.specs.Bursts.{TargetSays};
 ghost use Rattle.protocol.specs.Refusals.{NumberSays, PlaceSays};
 
 // The kinds of frame, in the order in which the search tries them.
-#[derive(Clone, Copy)]
+#[derive(Clone, Copy, PartialEq, Eq)]
 pub enum Kind {
     Lsf,
     Bert,
@@ -79,7 +79,8 @@ pub enum Refusal {
 }
 
 // What a refusal tells beside its number: nothing, a symbol's place, counted from 0, or a line's number, counted from 1.
-#[derive(Clone, Copy)]
+// An Option of the last two would be matched twice where this is matched once.
+#[derive(Clone, Copy, PartialEq, Eq)]
 pub enum Place {
     Nothing,
     Symbol(usize),
@@ -87,7 +88,7 @@ pub enum Place {
 }
 
 impl Refusal {
-    // The refusal's number in document 01 or 02.
+    // The refusal's number in document 01 or 02, by which `NumberSays` and the exports for C tell it.
     pub fn number(self) -> u32
         ensures { NumberSays self result }
     {

@@ -1,7 +1,7 @@
 -- What `push_symbols` promises, by its cases: all symbols are sent, or all is given back as it was. Assumes nothing.
-use mathlib.Core.Path.{◌≡◌}
+use mathlib.Core.Path.{◌≡◌, refl, sym}
 use mathlib.Core.Logic.{⊎_elim}
-use mathlib.Core.Bool.{true, false, and-false}
+use mathlib.Core.Bool.{Bool, true, false, cond, and-false}
 use mathlib.Core.List.{List}
 use Prim.Native.Nat.{ℕ, ◌*◌, ◌/◌, ◌≤◌, ◌<◌}
 use native.Mathlib.Nat.{mul_comm, div-lt_iff_lt-mul}
@@ -11,10 +11,26 @@ use lib.Dec.{ltb}
 use lib.IntN.{ℤ}
 use lib.ListN.{length}
 use lib.Ieee.{Float}
+use Rattle.std.specs.Prelude.{Some, None}
+use Rattle.std.proofs.lemmas.Option.{cond_some, none-some}
 use Rattle.numbers.proofs.Tests.{lt_or_le}
-use Rattle.shaping.specs.Rate.{rate_fit, samples_in_lem, rate_at, rate_of, tap_count}
+use Rattle.shaping.specs.Rate.{rate_fit, samples_in_lem, rate_at, rate_of, tap_count, PerSymbolOfSays}
 use Rattle.pulse.specs.Pulse.{pulses, listed, line_at, Sent}
 use Rattle.pulse.specs.Promises.{ready, passed, PushSymbolsSays}
+
+-- ---- what the samples in a symbol say of the rate
+pub fit_by : (rate p : ℕ) → PerSymbolOfSays rate (Some p) → rate_fit rate ≡ true
+fit_by rate p says = (cond_some _ _ p (sym says)).0
+
+pub counts_by : (rate p : ℕ) → PerSymbolOfSays rate (Some p) → p ≡ samples_in_lem rate
+counts_by rate p says = sym (cond_some _ _ p (sym says)).1
+
+cond_none : (b : Bool) (n : ℕ) → None ≡ cond b (Some n) None → b ≡ false
+cond_none true n e = absurd (none-some n e)
+cond_none false n e = refl
+
+pub unfit_by : (rate : ℕ) → PerSymbolOfSays rate None → rate_fit rate ≡ false
+unfit_by rate says = cond_none (rate_fit rate) (samples_in_lem rate) says
 
 -- ---- room for n symbols
 module _ (p n room : ℕ) (some : 0 < p) where

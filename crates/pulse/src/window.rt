@@ -1,11 +1,22 @@
 // The window as a ring of 8p + 1 places, and what symbols leave in it: the last nine fill it, so no others are entered.
-ghost use Rattle.std.specs.Prelude.{◌≡◌, ◌+◌, ◌*◌, ◌%◌, ◌≤◌, ◌<◌, length};
+ghost use Rattle.std.specs.Prelude.{◌≡◌, ◌+◌, ◌*◌, ◌%◌, ◌<◌, length};
 ghost use Rattle.shaping.specs.Rate.{Known, tap_count};
 ghost use Rattle.pulse.specs.Pulse.{pulses, listed, pushed, after, line_at};
 
 use crate::FULL_SYMBOL;
+use shaping::PerSymbol;
 
-// The next place of a ring. A division would cost more.
+// The window at a rate: values and a cursor, as callers of `push_symbols` keep them. The first 8p + 1 values are the ring, the oldest at the cursor.
+#[derive(Drop)]
+pub(crate) struct Ring {
+    pub(crate) p: PerSymbol,
+    pub(crate) values: [f32; 81],
+    pub(crate) cursor: usize,
+    ghost known: { Known p },
+    ghost inside: { cursor < tap_count p },
+}
+
+// The next place of a ring, a number since a slice is read by it. A division would cost more.
 pub(crate) fn place_after(at: usize, places: usize) -> usize
     requires { at < places }
     ensures { result ≡ (at + 1) % places }
@@ -14,42 +25,37 @@ pub(crate) fn place_after(at: usize, places: usize) -> usize
     if next == places { 0 } else { next }
 }
 
-// The value takes the place of the window's oldest; the place after it is the oldest then.
-pub(crate) fn push_value(p: usize, window: &mut [f32; 81], cursor: usize, value: f32) -> usize
-    requires { (p ≤ 10) × (cursor < tap_count p) }
-    ensures { line_at window.new result ≡ pushed p (line_at window.old cursor) value }
-{
-    window[cursor] = value;
-    place_after(cursor, 8 * p + 1)
-}
-
-fn enter_symbol(p: usize, window: &mut [f32; 81], cursor: usize, symbol: f32) -> usize
-    requires { (Known p) × (cursor < tap_count p) }
-    ensures { line_at window.new result ≡ after p (pulses p (λ _. symbol)) p (line_at window.old cursor) }
-{
-    let mut value = symbol * FULL_SYMBOL;
-    let mut next = cursor;
-    let mut i: usize = 0;
-    while i < p {
-        next = push_value(p, window, next, value);
-        value = 0.0;
-        i += 1;
+impl Ring {
+    // The value takes the place of the window's oldest; the place after it is the oldest then.
+    pub(crate) fn push(&mut self, value: f32)
+        ensures keeps { self.new.p ≡ self.old.p }
+        ensures pushes { line_at self.new.values self.new.cursor ≡ pushed self.old.p (line_at self.old.values self.old.cursor) value }
+    {
+        self.values[self.cursor] = value;
+        self.cursor = place_after(self.cursor, 8 * self.p.samples() + 1);
     }
-    next
-}
 
-pub(crate) fn fill_window(p: usize, window: &mut [f32; 81], cursor: usize, symbols: &[f32]) -> usize
-    requires { (Known p) × (cursor < tap_count p) × (length window.old ≡ 81) × (p * length symbols.now < 18446744073709551616) }
-    ensures { line_at window.new result ≡ after p (pulses p (listed symbols.now)) (p * length symbols.now) (line_at window.old cursor) }
-{
-    let n = symbols.len();
-    let passed = numbers::saturating_sub(n, 9);
-    let places = 8 * p + 1;
-    let mut next = (cursor + p * passed) % places;
-    let mut i = passed;
-    while i < n {
-        next = enter_symbol(p, window, next, symbols[i]);
-        i += 1;
+    fn enter_symbol(&mut self, symbol: f32)
+        ensures keeps { self.new.p ≡ self.old.p }
+        ensures enters { line_at self.new.values self.new.cursor ≡ after self.old.p (pulses self.old.p (λ _. symbol)) self.old.p (line_at self.old.values self.old.cursor) }
+    {
+        let mut value = symbol * FULL_SYMBOL;
+        for _ in 0..self.p.samples() {
+            self.push(value);
+            value = 0.0;
+        }
     }
-    next
+
+    pub(crate) fn fill(&mut self, symbols: &[f32])
+        requires { self.old.p * length symbols.now < 18446744073709551616 }
+        ensures keeps { self.new.p ≡ self.old.p }
+        ensures enters { line_at self.new.values self.new.cursor ≡ after self.old.p (pulses self.old.p (listed symbols.now)) (self.old.p * length symbols.now) (line_at self.old.values self.old.cursor) }
+    {
+        let passed = symbols.len().saturating_sub(9);
+        let places = 8 * self.p.samples() + 1;
+        self.cursor = (self.cursor + self.p.samples() * passed) % places;
+        for symbol in &symbols[passed..] {
+            self.enter_symbol(*symbol);
+        }
+    }
 }

@@ -1,4 +1,5 @@
 -- The walk over n samples takes those before an awaited frame is due, and no others: so no more need be tried. Assumes nothing.
+use Rattle.std.specs.Prelude.{Option, Some, None}
 use mathlib.Core.Path.{◌≡◌, refl, sym, ap, ◌∙◌}
 use mathlib.Core.Bool.{Bool, true, false}
 use Prim.Native.Nat.{ℕ, zero, suc, ◌+◌, ◌≤◌, ◌<◌}
@@ -7,8 +8,6 @@ use native.Mathlib.Omega.{arith}
 use borrow.Author.Tests.{leb-false}
 use lib.Ieee.{Float}
 use Rattle.search.specs.declared.Waiting.{Waiting}
-use Rattle.search.specs.declared.Wait.{Wait}
-use Rattle.search.specs.declared.Wait.TheVariants.{Free, Due}
 use Rattle.search.specs.declared.Control.{Control}
 use Rattle.search.specs.Turn.{nearer, control_of, sampled}
 use Rattle.search.proofs.SampleByWait.{sampled_rest}
@@ -16,17 +15,17 @@ use Rattle.quiet.specs.Walk.{is_due_lem, goes_on_lem, walked_from, before_due}
 use Rattle.quiet.proofs.GoesOn.{goes}
 use Rattle.quiet.proofs.WalkLaws.{walk_stops}
 
-pub before_due_few : (o : Wait) (n : ℕ) → before_due o n ≤ n
+pub before_due_few : (o : Option Waiting) (n : ℕ) → before_due o n ≤ n
 unfolding before_due
-before_due_few Free n = le_refl n
-before_due_few (Due w) n = omega arith
+before_due_few None n = le_refl n
+before_due_few (Some w) n = omega arith
 
-none_left : (o : Wait) → before_due o 0 ≡ 0
+none_left : (o : Option Waiting) → before_due o 0 ≡ 0
 unfolding before_due
-none_left Free = refl
-none_left (Due w) = omega arith
+none_left None = refl
+none_left (Some w) = omega arith
 
-waits_on : (w : Waiting) (n : ℕ) → 1 < w.left → before_due (Due w) (suc n) ≡ suc (before_due (Due (nearer w)) n)
+waits_on : (w : Waiting) (n : ℕ) → 1 < w.left → before_due (Some w) (suc n) ≡ suc (before_due (Some (nearer w)) n)
 unfolding before_due
 waits_on w n l = omega arith
 
@@ -38,20 +37,20 @@ module _ (p : ℕ) (v : ℕ → ℕ → Float) (i n : ℕ) (c : Control) where
   abbrev Again : Type 0
   Again = walked_from p v (i + 1) n next ≡ walked_from p v (i + 1) (before_due next.wait n) next
 
-  waited : (w : Waiting) → c.wait ≡ Due w → 1 < w.left → goes_on_lem p c ≡ true → Again → walked_from p v i (suc n) c ≡ walked_from p v i (before_due (Due w) (suc n)) c
+  waited : (w : Waiting) → c.wait ≡ Some w → 1 < w.left → goes_on_lem p c ≡ true → Again → walked_from p v i (suc n) c ≡ walked_from p v i (before_due (Some w) (suc n)) c
   unfolding walked_from
   waited w waits l e again =
-      let left : before_due next.wait n ≡ before_due (Due (nearer w)) n = ap (λ (d : Control). before_due d.wait n) (ap control_of (sampled_rest p (v i) c w waits l)) in
+      let left : before_due next.wait n ≡ before_due (Some (nearer w)) n = ap (λ (d : Control). before_due d.wait n) (ap control_of (sampled_rest p (v i) c w waits l)) in
       rw (waits_on w n l) (rw e (again ∙ ap (λ (k : ℕ). walked_from p v (i + 1) k next) left))
 
-  by_test : (w : Waiting) → c.wait ≡ Due w → (t : Bool) → goes_on_lem p c ≡ t → Again → walked_from p v i (suc n) c ≡ walked_from p v i (before_due (Due w) (suc n)) c
+  by_test : (w : Waiting) → c.wait ≡ Some w → (t : Bool) → goes_on_lem p c ≡ t → Again → walked_from p v i (suc n) c ≡ walked_from p v i (before_due (Some w) (suc n)) c
   by_test w waits true e again = waited w waits (leb-false _ _ (ap is_due_lem (sym waits) ∙ (goes p c e).far)) e again
-  by_test w waits false e again = walk_stops p v i (suc n) c e ∙ sym (walk_stops p v i (before_due (Due w) (suc n)) c e)
+  by_test w waits false e again = walk_stops p v i (suc n) c e ∙ sym (walk_stops p v i (before_due (Some w) (suc n)) c e)
 
-  by_wait : (o : Wait) → c.wait ≡ o → Again → walked_from p v i (suc n) c ≡ walked_from p v i (before_due o (suc n)) c
+  by_wait : (o : Option Waiting) → c.wait ≡ o → Again → walked_from p v i (suc n) c ≡ walked_from p v i (before_due o (suc n)) c
   unfolding before_due
-  by_wait Free e again = refl
-  by_wait (Due w) e again = by_test w e (goes_on_lem p c) refl again
+  by_wait None e again = refl
+  by_wait (Some w) e again = by_test w e (goes_on_lem p c) refl again
 
 pub walk_before_due : (p : ℕ) (v : ℕ → ℕ → Float) (i n : ℕ) (c : Control) → walked_from p v i n c ≡ walked_from p v i (before_due c.wait n) c
 walk_before_due p v i zero c = ap (λ (k : ℕ). walked_from p v i k c) (sym (none_left c.wait))

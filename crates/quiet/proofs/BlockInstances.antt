@@ -1,4 +1,5 @@
 -- Small instances of the laws of a block, at 24 kHz: two samples, of which the first carries or none does. Assumes nothing.
+use Rattle.std.specs.Prelude.{None}
 use mathlib.Core.Path.{◌≡◌, refl, sym}
 use mathlib.Core.Bool.{true, false, true≢false, cond}
 use mathlib.Core.List.{List, [], ◌∷◌}
@@ -23,8 +24,6 @@ use Rattle.protocol.specs.Bursts.{signs_of}
 use Rattle.decode.specs.Correlator.{zero_unsigned, highest, lowest, gain_of, shift_of, symbol_of, distance_of, summed, diff_of, correlation, matches, in_range}
 use Rattle.decode.specs.Parts.{values_of}
 use Rattle.search.specs.declared.Candidate.TheVariants.{Nothing}
-use Rattle.search.specs.declared.Wait.TheVariants.{Free}
-use Rattle.search.specs.declared.Timer.TheVariants.{Off}
 use Rattle.search.specs.declared.Control.{Control}
 use Rattle.search.specs.Search.{searched}
 use Rattle.search.specs.Turn.{counted_to}
@@ -99,7 +98,7 @@ set = searched 5 (eight_from 5 row 0) (counted_to 2 heard)
 one_not_none : ◌≡◌ {A = ℕ} 1 0 → ⊥
 one_not_none e = absurd (omega arith)
 
-carrier_ready_meets : (set.wait ≡ Free) × (set.sample + 1 ≤ 2 ^ 63)
+carrier_ready_meets : (set.wait ≡ None) × (set.sample + 1 ≤ 2 ^ 63)
 carrier_ready_meets =
     carrier_ready 5 row 0 2 heard (block 2 (lit≤ tt) (lit≤ tt)) (calm 2 (lit≤ tt)) 1 (last 2 (lit≤ tt) (lit≤ tt)) one_not_none set refl
 
@@ -157,7 +156,7 @@ midway_counts_meets =
 
 -- ---- a block of one, which is the last that can be counted: at its end the control does not go on
 abbrev nearly : Control
-nearly = record { candidate = Nothing; wait = Free; dcd = Off; owed = false; sample = 2 ^ 63 - 1 }
+nearly = record { candidate = Nothing; wait = None; dcd = None; owed = false; sample = 2 ^ 63 - 1 }
 
 nearly_goes : goes_on_lem 5 nearly ≡ true
 unfolding goes_on_lem control_fit_lem candidate_fit_lem wait_fit_lem

@@ -1,4 +1,5 @@
 -- A block of samples by the laws of quiet steps: only counted, or with a timer that the last carrier sets. Assumes nothing.
+use Rattle.std.specs.Prelude.{None}
 use mathlib.Core.Path.{◌≡◌, refl, sym, ap, subst, ◌∙◌}
 use mathlib.Core.Bool.{false}
 use mathlib.Core.List.{List}
@@ -6,7 +7,6 @@ use Prim.Native.Nat.{ℕ, zero, suc, ◌+◌, ◌-◌, ◌^◌, ◌≤◌, ◌<�
 use native.Mathlib.Nat.{le_refl}
 use native.Mathlib.Omega.{arith}
 use lib.Ieee.{Float}
-use Rattle.search.specs.declared.Wait.TheVariants.{Free}
 use Rattle.search.specs.declared.Control.{Control}
 use Rattle.search.specs.Search.{searched}
 use Rattle.search.specs.Turn.{counted_to}
@@ -71,7 +71,7 @@ module _ (p : ℕ) (row : List Float) (at n : ℕ) (c : Control) (block : Block 
       same = is ∙ ap (λ (m : ℕ). searched p (v (at + (j - 1))) (counted_to (c.sample + m) c)) (sym pred) ∙ shape.is
 
       -- what is left can be counted after it
-      pub carrier_ready : (set.wait ≡ Free) × (set.sample + (n - j) ≤ 2 ^ 63)
+      pub carrier_ready : (set.wait ≡ None) × (set.sample + (n - j) ≤ 2 ^ 63)
       carrier_ready = rw same (block.free, omega (arith, pred, last.most, block.count))
 
       pub carrier_last : n - j ≡ 0 → Blocks p row at n c n set

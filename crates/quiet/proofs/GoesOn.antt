@@ -1,4 +1,5 @@
 -- What a control that goes on is known to be, and that it goes on while samples are counted. Assumes nothing.
+use Rattle.std.specs.Prelude.{Option, Some, None}
 use mathlib.Core.Path.{◌≡◌, refl, ap}
 use mathlib.Core.Bool.{Bool, true, false, not, ◌&&◌}
 use Prim.Native.Nat.{ℕ, ◌^◌, ◌≤◌, ◌<◌}
@@ -8,8 +9,6 @@ use lib.Dec.{T, ltb, le→leb, ltb→lt}
 use lib.Ieee.Bits.{is_true, is_false}
 use lib.Ieee.Fits.{and_l, and_r}
 use Rattle.numbers.proofs.Tests.{holds}
-use Rattle.search.specs.declared.Timer.{Timer}
-use Rattle.search.specs.declared.Timer.TheVariants.{Off, Until}
 use Rattle.search.specs.declared.Control.{Control}
 use Rattle.search.specs.Search.{with_timer}
 use Rattle.search.specs.Turn.{cleared, counted_to}
@@ -49,21 +48,21 @@ goes_back p c g = rw (is_true (control_fit_lem p c) g.fit, g.no_reply, lt-ltb c.
 
 -- ---- the timer
 -- cleared at one sample and again at a later one, it is what the later one alone makes of it
-pub cleared_once : (a b : ℕ) (t : Timer) → a ≤ b → cleared b (cleared a t) ≡ cleared b t
+pub cleared_once : (a b : ℕ) (t : Option ℕ) → a ≤ b → cleared b (cleared a t) ≡ cleared b t
 unfolding cleared
-cleared_once a b Off h = refl
-cleared_once a b (Until end) h =
-    by_test (λ (t : Timer). cleared b t ≡ cleared b (Until end)) (ltb end a) Off (Until end) (λ e. past (ltb-true end a e)) (λ e. refl)
+cleared_once a b None h = refl
+cleared_once a b (Some end) h =
+    by_test (λ (t : Option ℕ). cleared b t ≡ cleared b (Some end)) (ltb end a) None (Some end) (λ e. past (ltb-true end a e)) (λ e. refl)
   where
-    past : end < a → cleared b Off ≡ cleared b (Until end)
+    past : end < a → cleared b None ≡ cleared b (Some end)
     past l = unfold cleared in rw (lt-ltb end b (omega arith))
 
 -- ---- counted
 pub counted_once : (a b : ℕ) (c : Control) → a ≤ b → counted_to b (counted_to a c) ≡ counted_to b c
-counted_once a b c h = ap (λ (t : Timer). with_timer t (counted_to b c)) (cleared_once a b c.dcd h)
+counted_once a b c h = ap (λ (t : Option ℕ). with_timer t (counted_to b c)) (cleared_once a b c.dcd h)
 
 -- at any later number and with any timer that is fit
-pub goes_timed : (p n : ℕ) (t : Timer) (c : Control) → Goes p c → c.sample ≤ n → n < 2 ^ 63 → T (timer_fit_lem p t) → Goes p (with_timer t (counted_to n c))
+pub goes_timed : (p n : ℕ) (t : Option ℕ) (c : Control) → Goes p c → c.sample ≤ n → n < 2 ^ 63 → T (timer_fit_lem p t) → Goes p (with_timer t (counted_to n c))
 goes_timed p n t c g later l h =
     let s = clauses p c g.fit in
     record {

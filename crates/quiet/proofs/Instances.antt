@@ -1,4 +1,5 @@
 -- Small instances of the laws of quiet samples, at both rates: what they ask can be met. Assumes nothing.
+use Rattle.std.specs.Prelude.{Some, None}
 use mathlib.Core.Path.{◌≡◌, refl}
 use mathlib.Core.Bool.{true, false}
 use mathlib.Core.List.{List, [], ◌∷◌}
@@ -16,8 +17,6 @@ use Rattle.decode.specs.Correlator.{zero_unsigned, highest, lowest, gain_of, shi
 use Rattle.decode.specs.Parts.{values_of}
 use Rattle.search.specs.declared.Candidate.TheVariants.{Nothing, Held}
 use Rattle.search.specs.declared.Waiting.{Waiting}
-use Rattle.search.specs.declared.Wait.TheVariants.{Free, Due}
-use Rattle.search.specs.declared.Timer.TheVariants.{Off, Until}
 use Rattle.search.specs.declared.Control.{Control}
 use Rattle.search.specs.Search.{searched}
 use Rattle.search.specs.Turn.{cleared, counted_to, waiting_on}
@@ -33,7 +32,7 @@ use Rattle.quiet.proofs.LastTimer.{Set, set_shape, last_timer}
 
 -- ---- three samples of silence after sample 1; the carrier timer ends at the second of them
 abbrev pub heard : Control
-heard = record { candidate = Nothing; wait = Free; dcd = Until 2; owed = false; sample = 1 }
+heard = record { candidate = Nothing; wait = None; dcd = Some 2; owed = false; sample = 1 }
 
 pub heard_48 : Goes 10 heard
 heard_48 = goes 10 heard (unfold goes_on_lem control_fit_lem candidate_fit_lem wait_fit_lem in refl)
@@ -47,8 +46,8 @@ goes_back_meets = goes_back 5 heard heard_24
 goes_counted_meets : Goes 5 (counted_to 4 heard)
 goes_counted_meets = goes_counted 5 4 heard heard_24 (lit≤ tt) (lit< tt)
 
-cleared_once_meets : cleared 4 (cleared 3 (Until 2)) ≡ cleared 4 (Until 2)
-cleared_once_meets = cleared_once 3 4 (Until 2) (lit≤ tt)
+cleared_once_meets : cleared 4 (cleared 3 (Some 2)) ≡ cleared 4 (Some 2)
+cleared_once_meets = cleared_once 3 4 (Some 2) (lit≤ tt)
 
 counted_once_meets : counted_to 4 (counted_to 3 heard) ≡ counted_to 4 heard
 counted_once_meets = counted_once 3 4 heard (lit≤ tt)
@@ -61,7 +60,7 @@ silent = faint_unmatched (λ _. nought) (λ j l. unfold lt of_bits neg in tt)
 
 -- the control after them: the timer is cleared, as it was in the middle
 abbrev unheard : Control
-unheard = record { candidate = Nothing; wait = Free; dcd = Off; owed = false; sample = 4 }
+unheard = record { candidate = Nothing; wait = None; dcd = None; owed = false; sample = 4 }
 
 three_48 : Leads 10 silence 0 3 heard unheard
 unfolding cleared
@@ -84,7 +83,7 @@ waited = record { left = 3; age = 7; replaced = true }
 -- taken at sample 1, with diff 0, gain 16 and shift 0
 abbrev resting : Control
 resting =
-    record { candidate = Held Lsf 7 (of_bits binary32 0) (of_bits binary32 0x4180_0000) (of_bits binary32 0) 1; wait = Due waited; dcd = Until 2; owed = false; sample = 1 }
+    record { candidate = Held Lsf 7 (of_bits binary32 0) (of_bits binary32 0x4180_0000) (of_bits binary32 0) 1; wait = Some waited; dcd = Some 2; owed = false; sample = 1 }
 
 rest_48 : Leads 10 silence 0 2 resting (waiting_on (record { left = 1; age = 7; replaced = true }) (counted_to 3 resting))
 rest_48 =

@@ -1,4 +1,6 @@
 -- A block's marked samples searched one after the other, and those between only counted. Assumes nothing.
+use Rattle.std.specs.Prelude.{Option, Some, None}
+use Rattle.search.specs.declared.Waiting.{Waiting}
 use mathlib.Core.Path.{◌≡◌, refl, sym, ap, subst, ◌∙◌}
 use mathlib.Core.Logic.{inl, inr}
 use mathlib.Core.Bool.{Bool, true, false, true≢false}
@@ -7,8 +9,6 @@ use Prim.Native.Nat.{ℕ, zero, suc, ◌+◌, ◌-◌, ◌≤◌, ◌<◌}
 use native.Mathlib.Nat.{le_refl, lt_irrefl, eq-or-lt_of_le}
 use native.Mathlib.Omega.{arith}
 use lib.Ieee.{Float}
-use Rattle.search.specs.declared.Wait.{Wait}
-use Rattle.search.specs.declared.Wait.TheVariants.{Free, Due}
 use Rattle.search.specs.declared.Control.{Control}
 use Rattle.search.specs.Search.{searched}
 use Rattle.search.specs.Turn.{counted_to}
@@ -23,14 +23,14 @@ use Rattle.quiet.proofs.GoesOn.{goes}
 use Rattle.quiet.proofs.QuietSteps.{quiet_counted, search_some}
 
 -- ---- a free control
-pub free_parts : (w : Wait) (b : Bool) → free_with w b ≡ true → (w ≡ Free) × (b ≡ true)
-free_parts Free b e = (refl, e)
-free_parts (Due w) b e = absurd (true≢false (sym e))
+pub free_parts : (w : Option Waiting) (b : Bool) → free_with w b ≡ true → (w ≡ None) × (b ≡ true)
+free_parts None b e = (refl, e)
+free_parts (Some w) b e = absurd (true≢false (sym e))
 
-pub free_goes : (w : Wait) (b : Bool) → w ≡ Free → b ≡ free_with w b
+pub free_goes : (w : Option Waiting) (b : Bool) → w ≡ None → b ≡ free_with w b
 free_goes w b e = rw e
 
-free_whole : (w : Wait) (b : Bool) → w ≡ Free → b ≡ true → free_with w b ≡ true
+free_whole : (w : Option Waiting) (b : Bool) → w ≡ None → b ≡ true → free_with w b ≡ true
 free_whole w b e h = rw (e, h)
 
 -- ---- the marked ones one after the other: `fed` samples of the n are in the control
@@ -64,7 +64,7 @@ module _ (p : ℕ) (row : List Float) (at n : ℕ) (c : Control) (block : Block 
 
     module _ (free : is_free_lem p now ≡ true) (marks : List ℕ) (marked : Marked p row at n marks) (b : Bool) (holding : b ≡ held now.candidate) (next : ℕ)
         (found : NextMark marks fed n b next) where
-      parts : (now.wait ≡ Free) × (goes_on_lem p now ≡ true)
+      parts : (now.wait ≡ None) × (goes_on_lem p now ≡ true)
       parts = free_parts now.wait (goes_on_lem p now) free
 
       between : b ≡ false → (i : ℕ) → i < next - fed → Unmatched (eight_from p row (at + fed + i))

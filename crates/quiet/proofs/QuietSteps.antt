@@ -1,11 +1,11 @@
 -- n quiet steps in one, of a control that waits for nothing and holds nothing: samples at which no burst matches are only counted, and the
 -- timer is cleared once for all of them. Assumes nothing.
+use Rattle.std.specs.Prelude.{None}
 use mathlib.Core.Path.{◌≡◌, refl, ap, subst, ◌∙◌}
 use mathlib.Core.Bool.{Bool, true, false}
 use Prim.Native.Nat.{ℕ, zero, suc, ◌+◌, ◌^◌, ◌≤◌, ◌<◌}
 use native.Mathlib.Omega.{arith}
 use lib.Ieee.{Float}
-use Rattle.search.specs.declared.Wait.TheVariants.{Free}
 use Rattle.search.specs.declared.Control.{Control}
 use Rattle.search.specs.Search.{searched}
 use Rattle.search.specs.Turn.{control_of, counted_to, counted}
@@ -35,7 +35,7 @@ reached_goes : (p m : ℕ) (c : Control) → Goes p c → c.sample + m < 2 ^ 63 
 reached_goes p zero c g l = g
 reached_goes p (suc m) c g l = goes_counted p (c.sample + suc m) c g (omega arith) l
 
-module _ (p : ℕ) (v : ℕ → ℕ → Float) (c : Control) (g : Goes p c) (free : c.wait ≡ Free) (at : ℕ) where
+module _ (p : ℕ) (v : ℕ → ℕ → Float) (c : Control) (g : Goes p c) (free : c.wait ≡ None) (at : ℕ) where
   -- one more, which is searched
   search_next : (m : ℕ) → c.sample + suc m ≤ 2 ^ 63 → Leads p v at m c (reached m c)
       → Leads p v at (suc m) c (searched p (v (at + m)) (counted_to (c.sample + suc m) c))

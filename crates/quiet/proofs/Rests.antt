@@ -1,4 +1,5 @@
 -- n rests of a wait in one. Assumes nothing.
+use Rattle.std.specs.Prelude.{Option, Some}
 use mathlib.Core.Path.{◌≡◌, refl, ap, subst, ◌∙◌}
 use Prim.Native.Nat.{ℕ, zero, suc, ◌+◌, ◌-◌, ◌*◌, ◌^◌, ◌≤◌, ◌<◌}
 use native.Mathlib.Omega.{arith}
@@ -6,8 +7,6 @@ use borrow.Author.Tests.{lt-ltb, le-leb, lt-leb}
 use lib.Dec.{T}
 use lib.Ieee.{Float}
 use Rattle.search.specs.declared.Waiting.{Waiting}
-use Rattle.search.specs.declared.Wait.{Wait}
-use Rattle.search.specs.declared.Wait.TheVariants.{Due}
 use Rattle.search.specs.declared.Control.{Control}
 use Rattle.search.specs.Turn.{counted_to, counted, nearer, waiting_on, control_of}
 use Rattle.search.specs.Fit.{wait_fit_lem, kept_fit_lem}
@@ -18,18 +17,18 @@ use Rattle.quiet.specs.Parts.{nearer_by, Leads}
 use Rattle.quiet.proofs.Leading.{leads_none, leads_next}
 use Rattle.quiet.proofs.GoesOn.{Goes, goes_back, counted_once, goes_counted}
 
-module _ (p : ℕ) (v : ℕ → ℕ → Float) (c : Control) (g : Goes p c) (w : Waiting) (waits : c.wait ≡ Due w) (at : ℕ) where
+module _ (p : ℕ) (v : ℕ → ℕ → Float) (c : Control) (g : Goes p c) (w : Waiting) (waits : c.wait ≡ Some w) (at : ℕ) where
   abbrev pub rested : ℕ → Control
   rested zero = c
   rested (suc m) = waiting_on (nearer_by (suc m) w) (counted_to (c.sample + suc m) c)
 
-  rested_wait : (m : ℕ) → (rested m).wait ≡ Due (nearer_by m w)
+  rested_wait : (m : ℕ) → (rested m).wait ≡ Some (nearer_by m w)
   rested_wait zero =
       let all : w.left ≡ w.left - 0 = omega arith in
-      waits ∙ ap (λ (n : ℕ). Due (record { left = n; age = w.age; replaced = w.replaced })) all
+      waits ∙ ap (λ (n : ℕ). Some (record { left = n; age = w.age; replaced = w.replaced })) all
   rested_wait (suc m) = refl
 
-  waiting_fit : (m : ℕ) → m < w.left → T (wait_fit_lem p (Due (nearer_by m w)) c.candidate c.owed)
+  waiting_fit : (m : ℕ) → m < w.left → T (wait_fit_lem p (Some (nearer_by m w)) c.candidate c.owed)
   unfolding wait_fit_lem
   waiting_fit m l =
       let f = (control_facts p c g.fit).wait w waits in
@@ -51,7 +50,7 @@ module _ (p : ℕ) (v : ℕ → ℕ → Float) (c : Control) (g : Goes p c) (w :
               wait = waiting_fit (suc m) (omega arith);
               reply = s.reply;
               taken = s.taken;
-              kept = subst (λ (o : Wait). T (kept_fit_lem o)) waits s.kept;
+              kept = subst (λ (o : Option Waiting). T (kept_fit_lem o)) waits s.kept;
             });
         no_reply = h.no_reply;
         count = h.count;

@@ -1,4 +1,5 @@
 -- Small instances of the laws of a row: two samples of silence, at both rates. Assumes nothing.
+use Rattle.std.specs.Prelude.{None}
 use mathlib.Core.Path.{◌≡◌, refl, ◌∙◌}
 use mathlib.Core.Bool.{true, false}
 use mathlib.Core.List.{List, []}
@@ -12,8 +13,6 @@ use Rattle.numbers.specs.Sum.{nought}
 use Rattle.protocol.specs.declared.SyncBurst.TheVariants.{Frame}
 use Rattle.decode.specs.Correlator.{in_range}
 use Rattle.search.specs.declared.Candidate.TheVariants.{Nothing}
-use Rattle.search.specs.declared.Wait.TheVariants.{Free}
-use Rattle.search.specs.declared.Timer.TheVariants.{Off}
 use Rattle.search.specs.declared.Control.{Control}
 use Rattle.search.specs.Turn.{counted_to}
 use Rattle.search.specs.Fit.{candidate_fit_lem, wait_fit_lem, control_fit_lem}
@@ -110,7 +109,7 @@ unfit_row =
 
 -- ---- a control that does not go on: the count has reached its end
 abbrev full : Control
-full = record { candidate = Nothing; wait = Free; dcd = Off; owed = false; sample = 2 ^ 63 }
+full = record { candidate = Nothing; wait = None; dcd = None; owed = false; sample = 2 ^ 63 }
 
 full_stops : goes_on_lem 5 full ≡ false
 unfolding goes_on_lem control_fit_lem candidate_fit_lem wait_fit_lem

@@ -1,14 +1,14 @@
 -- The turn of many samples is the turn of the last. Assumes nothing.
+use Rattle.std.specs.Prelude.{None}
 use mathlib.Core.Path.{◌≡◌}
 use Prim.Native.Nat.{ℕ, ◌<◌}
 use borrow.Author.Tests.{lt-ltb}
 use Rattle.search.specs.declared.Waiting.{Waiting}
-use Rattle.search.specs.declared.Wait.TheVariants.{Free}
 use Rattle.search.specs.declared.Control.{Control}
 use Rattle.search.specs.Turn.{counted_to, nearer, waiting_on, waited_turn, turn_of}
 use Rattle.quiet.specs.Parts.{turn_control}
 
-pub count_turn : (n : ℕ) (c : Control) → c.wait ≡ Free → turn_control (turn_of n c) ≡ counted_to n c
+pub count_turn : (n : ℕ) (c : Control) → c.wait ≡ None → turn_control (turn_of n c) ≡ counted_to n c
 unfolding waited_turn
 count_turn n c e = rw e
 

@@ -1,12 +1,10 @@
 -- What the crate's own functions ask and promise: many samples in one. Assumes nothing.
-use Rattle.std.specs.Prelude.{◌≡◌, Bool, true, false, ◌||◌, List, ℕ, ◌+◌, ◌-◌, ◌*◌, ◌^◌, ◌≤◌, ◌<◌, T, length, get_or, Float}
+use Rattle.std.specs.Prelude.{◌≡◌, Bool, true, false, ◌||◌, List, ℕ, ◌+◌, ◌-◌, ◌*◌, ◌^◌, ◌≤◌, ◌<◌, T, length, get_or, Float, Option, Some, None}
 use Rattle.protocol.specs.declared.Kind.{Kind}
 use Rattle.protocol.specs.declared.SyncBurst.{SyncBurst}
 use Rattle.protocol.specs.declared.SyncBurst.TheVariants.{Frame, Preamble, EndOfTransmission}
 use Rattle.decode.specs.Correlator.{matches, in_range}
 use Rattle.search.specs.declared.Waiting.{Waiting}
-use Rattle.search.specs.declared.Wait.{Wait}
-use Rattle.search.specs.declared.Wait.TheVariants.{Free, Due}
 use Rattle.search.specs.declared.Control.{Control}
 use Rattle.search.specs.declared.Turn.{Turn}
 use Rattle.search.specs.declared.Turn.TheVariants.{Rest, Offer, Look}
@@ -32,9 +30,9 @@ abbrev pub nearer_by : ℕ → Waiting → Waiting
 nearer_by n w = record { left = w.left - n; age = w.age; replaced = w.replaced }
 
 -- a control that goes on and waits for nothing
-abbrev pub free_with : Wait → Bool → Bool
-free_with Free goes = goes
-free_with (Due w) goes = false
+abbrev pub free_with : Option Waiting → Bool → Bool
+free_with None goes = goes
+free_with (Some w) goes = false
 
 abbrev pub is_free_lem : ℕ → Control → Bool
 is_free_lem p c = free_with c.wait (goes_on_lem p c)
@@ -69,7 +67,7 @@ pub record Walks (p : ℕ) (row : List Float) (at left : ℕ) (c : Control) (r :
 pub record Block (p : ℕ) (row : List Float) (at n : ℕ) (c : Control) : Type 0 where
   pub some : 1 ≤ n
   pub few : n ≤ 48
-  pub free : c.wait ≡ Free
+  pub free : c.wait ≡ None
   pub goes : goes_on_lem p c ≡ true
   pub count : c.sample + n ≤ 2 ^ 63
   pub values : InRange p row at n

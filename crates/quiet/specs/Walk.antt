@@ -1,7 +1,6 @@
 -- Quiet samples one after the other, over p, the samples in a symbol: as far as the control goes on. Assumes nothing.
-use Rattle.std.specs.Prelude.{◌≡◌, Bool, false, not, cond, ◌&&◌, List, ℕ, zero, suc, ◌+◌, ◌-◌, ◌*◌, ◌^◌, min, leb, ltb, length, take, Float}
-use Rattle.search.specs.declared.Wait.{Wait}
-use Rattle.search.specs.declared.Wait.TheVariants.{Free, Due}
+use Rattle.search.specs.declared.Waiting.{Waiting}
+use Rattle.std.specs.Prelude.{◌≡◌, Bool, false, not, cond, ◌&&◌, List, ℕ, zero, suc, ◌+◌, ◌-◌, ◌*◌, ◌^◌, min, leb, ltb, length, take, Float, Option, Some, None}
 use Rattle.search.specs.declared.Control.{Control}
 use Rattle.search.specs.Fit.{control_fit_lem}
 use Rattle.search.specs.Turn.{control_of, sampled}
@@ -10,9 +9,9 @@ use Rattle.look.specs.Marks.{eight_from}
 use Rattle.quiet.specs.declared.Walked.{Walked}
 
 -- the frame that is awaited is due at the next sample
-abbrev pub is_due_lem : Wait → Bool
-is_due_lem Free = false
-is_due_lem (Due w) = leb w.left 1
+abbrev pub is_due_lem : Option Waiting → Bool
+is_due_lem None = false
+is_due_lem (Some w) = leb w.left 1
 
 -- The control is no cause to refuse the next sample, neither 1 "record unfit" nor 2 "sample given while a reply is owed" nor 5 "sample given
 -- at count 2^63", and no frame is due at it.
@@ -28,9 +27,9 @@ walked_from p v i zero c = walked_to i c
 walked_from p v i (suc n) c = cond (goes_on_lem p c) (walked_from p v (i + 1) n (control_of (sampled p (v i) c))) (walked_to i c)
 
 -- of n samples, those before the one at which an awaited frame is due: the walk takes no others
-unfoldable pub before_due : Wait → ℕ → ℕ
-before_due Free n = n
-before_due (Due w) n = min (w.left - 1) n
+unfoldable pub before_due : Option Waiting → ℕ → ℕ
+before_due None n = n
+before_due (Some w) n = min (w.left - 1) n
 
 -- the row has the values of seven symbols before the samples, theirs, and the places of a block after them; all but these last are in range.
 -- The rates have 10 samples a symbol at most.

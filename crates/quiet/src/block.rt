@@ -1,16 +1,15 @@
 // A block of at most 48 samples of a control that waits for nothing.
 ghost use Rattle.std.specs.Prelude.{◌≡◌, ◌+◌, ◌*◌, ◌≤◌, ◌<◌, ◌^◌, length};
-ghost use Rattle.search.specs.declared.Wait.TheVariants.{Free};
 ghost use Rattle.search.specs.Search.{searched};
 ghost use Rattle.look.specs.Marks.{eight_from};
 ghost use Rattle.quiet.specs.Parts.{counted_by, is_free_lem, Marked, Calm, Block, Blocks};
 
 use crate::{Walked, count, lanes};
-use search::{Control, Wait};
+use search::Control;
 
 // So many samples are counted, and the last of them, at this place, is searched.
 fn search_last(p: usize, row: &[f32], at: usize, control: Control, n: usize) -> Control
-    requires { (p ≤ 10) × (at + 7 * p < length row.now) × (control.wait ≡ Free) × (control.sample + n ≤ 2 ^ 63) }
+    requires { (p ≤ 10) × (at + 7 * p < length row.now) × (control.wait ≡ None) × (control.sample + n ≤ 2 ^ 63) }
     ensures { result ≡ searched p (eight_from p row.now at) (counted_by n control) }
 {
     let counted = count::count(control, n);
@@ -21,10 +20,9 @@ fn is_free(p: usize, control: Control) -> bool
     requires { p ≤ 10 }
     ensures { result ≡ is_free_lem p control }
 {
-    let wait = control.wait;
-    match wait {
-        Wait::Free => crate::goes_on(p, control),
-        Wait::Due(_) => false,
+    match control.wait {
+        None => crate::goes_on(p, control),
+        Some(_) => false,
     }
 }
 
@@ -67,19 +65,17 @@ fn search_marked(
 {
     let mut now = control;
     let mut fed: usize = 0;
+    // A turn goes on to the next marked sample, so no range gives the next one's place.
     while fed < n {
         if !is_free(p, now) {
             return Walked { fed, control: now };
         }
-        let candidate = now.candidate;
-        let held = search::is_held(candidate);
+        let held = search::is_held(now.candidate);
         let next = lanes::next_marked(marks, fed, n, held);
         if next == n {
-            let rest = n - fed;
-            let counted = count::count(now, rest);
             return Walked {
                 fed: n,
-                control: counted,
+                control: count::count(now, n - fed),
             };
         }
         let place = at + next;
@@ -96,13 +92,11 @@ pub(crate) fn walk_block(p: usize, row: &[f32], at: usize, n: usize, control: Co
     ensures { Blocks p row.now at n control result.fed result.control }
 {
     let end = at + (7 * p + 48);
-    let candidate = control.candidate;
-    let held = search::is_held(candidate);
+    let held = search::is_held(control.candidate);
     if !held && look::is_faint(&row[at..end]) {
-        let counted = count::count(control, n);
         return Walked {
             fed: n,
-            control: counted,
+            control: count::count(control, n),
         };
     }
     let marks = look::marks(p, &row[at..end]);

@@ -1,24 +1,21 @@
 // Samples that are only counted: the turn of the last of them is the turn of all.
 ghost use Rattle.std.specs.Prelude.{◌≡◌, ◌+◌, ◌^◌, ◌≤◌, ◌<◌};
-ghost use Rattle.search.specs.declared.Wait.TheVariants.{Free};
 ghost use Rattle.search.specs.Turn.{waiting_on};
 ghost use Rattle.quiet.specs.Parts.{turn_control, counted_by, nearer_by};
 
-use search::{Control, Turn, Wait, Waiting};
+use search::{Control, Turn, Waiting};
 
 fn control_of(turn: Turn) -> Control
     ensures { result ≡ turn_control turn }
 {
     match turn {
-        Turn::Rest(control) => control,
-        Turn::Offer { shown: _, control } => control,
-        Turn::Look(control) => control,
+        Turn::Rest(control) | Turn::Offer { control, .. } | Turn::Look(control) => control,
     }
 }
 
 // With no wait.
 pub(crate) fn count(control: Control, n: usize) -> Control
-    requires { (control.wait ≡ Free) × (control.sample + n ≤ 2 ^ 63) }
+    requires { (control.wait ≡ None) × (control.sample + n ≤ 2 ^ 63) }
     ensures { result ≡ counted_by n control }
 {
     let number = control.sample + (n as u64);
@@ -33,19 +30,12 @@ pub(crate) fn rest(control: Control, waiting: Waiting, n: usize) -> Control
 {
     let number = control.sample + (n as u64);
     let before = (n - 1) as u16;
-    let left = waiting.left - before;
-    let candidate = control.candidate;
-    let dcd = control.dcd;
     let near = Control {
-        candidate,
-        wait: Wait::Due(Waiting {
-            left,
-            age: waiting.age,
-            replaced: waiting.replaced,
+        wait: Some(Waiting {
+            left: waiting.left - before,
+            ..waiting
         }),
-        dcd,
-        owed: control.owed,
-        sample: control.sample,
+        ..control
     };
     let turn = search::turn_of(near, number);
     control_of(turn)

@@ -14,11 +14,9 @@ pub(crate) fn eight(p: usize, row: &[f32], at: usize) -> [f32; 8]
     ensures { result ≡ firsts (eight_from p row.now at) 8 }
 {
     let mut values = [0.0f32; 8];
-    let mut i: usize = 0;
-    while i < 8 {
+    for (i, value) in values.iter_mut().enumerate() {
         let place = at + p * i;
-        values[i] = row[place];
-        i += 1;
+        *value = row[place];
     }
     values
 }
@@ -34,14 +32,13 @@ fn is_carrier(values: [f32; 8]) -> bool
     (preamble.diff < 100.0) | (end.diff < 100.0)
 }
 
+#[tactic(auto, unfolding(numbers::specs::Below::any_below))]
 pub(crate) fn has_mark(marks: &[u32; 48], least: u32) -> bool
     ensures { result ≡ any_below 48 (λ (k : ℕ). leb least (get_or marks.now k 0)) }
 {
     let mut any = false;
-    let mut k: usize = 0;
-    while k < 48 {
-        any = any | (least <= marks[k]);
-        k += 1;
+    for mark in marks {
+        any |= least <= *mark;
     }
     any
 }
@@ -55,14 +52,10 @@ pub(crate) fn next_marked(marks: &[u32; 48], from: usize, n: usize, held: bool) 
     if held {
         return from;
     }
-    let mut j = from;
-    while j < n {
-        if marks[j] != 0 {
-            return j;
-        }
-        j += 1;
+    match marks[from..n].iter().position(|mark| *mark != 0) {
+        Some(ahead) => from + ahead,
+        None => n,
     }
-    j
 }
 
 // How many samples there are up to the last at which a burst carries, that one among them; 0 where there is none.
@@ -70,16 +63,10 @@ pub(crate) fn last_carrier(p: usize, row: &[f32], marks: &[u32; 48], at: usize, 
     requires { (p ≤ 10) × (n ≤ 48) × (at + (7 * p + 48) ≤ length row.now) × Marked p row.now at n marks.now }
     ensures { LastCarrier p row.now at n result }
 {
-    let mut j = n;
-    while 0 < j {
-        let before = j - 1;
-        if marks[before] != 0 {
-            let place = at + before;
-            if is_carrier(eight(p, row, place)) {
-                return j;
-            }
+    for k in (0..n).rev() {
+        if marks[k] != 0 && is_carrier(eight(p, row, at + k)) {
+            return k + 1;
         }
-        j = before;
     }
     0
 }

@@ -6,7 +6,7 @@ ghost use Rattle.std.specs.Prelude.{◌≡◌, ◌≤◌};
 ghost use Rattle.quiet.specs.Walk.{is_due_lem, goes_on_lem, WalkSays};
 ghost use Rattle.quiet.specs.Parts.{Asked, Walks};
 
-use search::{Control, LAST_COUNT, Wait};
+use search::{Control, LAST_COUNT, Waiting};
 
 mod block;
 mod count;
@@ -19,25 +19,22 @@ pub struct Walked {
     pub control: Control,
 }
 
-fn is_due(wait: Wait) -> bool
+fn is_due(wait: Option<Waiting>) -> bool
     ensures { result ≡ is_due_lem wait }
 {
-    match wait {
-        Wait::Free => false,
-        Wait::Due(w) => w.left <= 1,
-    }
+    wait.is_some_and(|w| w.left <= 1)
 }
 
 // Whether the next sample is quiet whatever it is, but for the values that its search reads.
+#[tactic(auto, unfolding(crate::specs::Walk::goes_on_lem))]
 pub(crate) fn goes_on(p: usize, control: Control) -> bool
     requires { p ≤ 10 }
     ensures { result ≡ goes_on_lem p control }
 {
-    let wait = control.wait;
     search::control_fit(p as u8, control)
         & !control.owed
         & (control.sample < LAST_COUNT)
-        & !is_due(wait)
+        & !is_due(control.wait)
 }
 
 // Some of the next samples, one at least: a wait is gone through in one, and else a block of 48 is searched.
@@ -46,24 +43,15 @@ fn walk_some(p: usize, row: &[f32], at: usize, left: usize, control: Control) ->
     ensures { Walks p row.now at left control result }
 {
     let countable = LAST_COUNT - control.sample;
-    let most = if countable < left as u64 {
-        countable as usize
-    } else {
-        left
-    };
-    let wait = control.wait;
-    match wait {
-        Wait::Free => {
-            let n = if most < 48 { most } else { 48 };
-            block::walk_block(p, row, at, n, control)
-        }
-        Wait::Due(w) => {
+    let most = countable.min(left as u64) as usize;
+    match control.wait {
+        None => block::walk_block(p, row, at, most.min(48), control),
+        Some(w) => {
             let near = (w.left - 1) as usize;
-            let n = if near < most { near } else { most };
-            let rested = count::rest(control, w, n);
+            let n = near.min(most);
             Walked {
                 fed: n,
-                control: rested,
+                control: count::rest(control, w, n),
             }
         }
     }
@@ -91,6 +79,7 @@ pub fn walk(p: usize, row: &[f32], count: usize, control: Control) -> Walked
     }
     let mut now = control;
     let mut fed: usize = 0;
+    // Each turn takes as many samples as it can, so no range gives the next one's place.
     while fed < count {
         if !goes_on(p, now) {
             return Walked { fed, control: now };

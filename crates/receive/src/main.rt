@@ -6,36 +6,23 @@ use house::{Program, Text};
 use receiving::Receiving;
 use std::io::{Read, Write};
 
-// Whether to go on, with what, and what is said if not.
-#[derive(Clone, Copy)]
-struct Turn {
-    more: bool,
-    words: Text,
+// The lines of one read's samples, or what is said if they are the last. `lines` has room for a line of each, so bytes are left over only where
+// a sample is refused.
+fn hear_some(
+    out: &mut impl Write,
     receiving: Receiving,
-}
-
-// The lines of one read's samples. `lines` has room for a line of each, so bytes are left over only where a sample is refused.
-fn hear_some(out: &mut impl Write, receiving: Receiving, bytes: &[u8], lines: &mut [u8]) -> Turn {
+    bytes: &[u8],
+    lines: &mut [u8],
+) -> Result<Receiving, Text> {
     let after = receiving.hear(bytes, lines);
     let length = after.written;
     let consumed = after.consumed;
-    let next = after.receiving;
     let written = out.write_all(&lines[..length]).is_ok();
     let admitted = consumed == bytes.len();
-    Turn {
-        more: written & admitted,
-        words: house::outcome_text(Program::Receive, true, written, admitted),
-        receiving: next,
+    if written & admitted {
+        return Ok(after.receiving);
     }
-}
-
-// What comes of a read that gave no bytes: it failed, or the input has ended.
-fn stopped(receiving: Receiving, fine: bool) -> Turn {
-    Turn {
-        more: false,
-        words: house::outcome_text(Program::Receive, fine, true, true),
-        receiving,
-    }
+    Err(house::outcome_text(Program::Receive, true, written, admitted))
 }
 
 // A read of no bytes is the end of the input.
@@ -44,11 +31,11 @@ fn read_some(
     out: &mut impl Write,
     receiving: Receiving,
     lines: &mut [u8],
-) -> Turn {
+) -> Result<Receiving, Text> {
     let mut bytes = [0u8; 16384];
     match input.read(&mut bytes) {
-        Err(_) => stopped(receiving, false),
-        Ok(0) => stopped(receiving, true),
+        Err(_) => Err(house::outcome_text(Program::Receive, false, true, true)),
+        Ok(0) => Err(house::outcome_text(Program::Receive, true, true, true)),
         Ok(count) => hear_some(out, receiving, &bytes[..count], lines),
     }
 }
@@ -57,17 +44,15 @@ fn read_some(
 fn main(rt: HostRuntime) {
     let mut input = rt.stdin();
     let mut out = rt.stdout();
-    let mut turn = Turn {
-        more: true,
-        words: house::outcome_text(Program::Receive, true, true, true),
-        receiving: Receiving::new(),
-    };
+    let mut receiving = Receiving::new();
     let mut lines = [0u8; 794624];
     for _ in 0..u64::MAX {
-        if !turn.more {
-            break;
+        match read_some(&mut input, &mut out, receiving, &mut lines) {
+            Ok(next) => receiving = next,
+            Err(words) => {
+                telling::tell(&mut rt.stderr(), words);
+                break;
+            }
         }
-        turn = read_some(&mut input, &mut out, turn.receiving, &mut lines);
     }
-    telling::tell(&mut rt.stderr(), turn.words);
 }

@@ -1,5 +1,6 @@
 -- Reads of any sizes, with any room for each, make what one list of the bytes that they consumed makes, from any record.
 -- The other bytes are the rest of the input. Assumes nothing.
+use Rattle.std.specs.Prelude.{Option}
 use mathlib.Core.Path.{◌≡◌, sym, ap, ◌∙◌}
 use mathlib.Core.Bool.{cond}
 use mathlib.Core.List.{List, [], ◌∷◌, ◌++◌, append_assoc, append-nil, flat_map}
@@ -13,7 +14,6 @@ use Rattle.machine.proofs.Parts.{run_joined}
 use Rattle.demodulator.specs.declared.SoftDemodulator.{SoftDemodulator}
 use Rattle.listening.specs.Listener.{listener, own_record}
 use Rattle.listening.specs.Verdict.{verdict}
-use Rattle.receiving.specs.declared.Odd.{Odd}
 use Rattle.receiving.specs.declared.Receiving.{Receiving}
 use Rattle.receiving.specs.Pairs.{samples_of, odd_of, waiting}
 use Rattle.receiving.specs.Text.{lines_of, text_from}
@@ -24,8 +24,8 @@ use Rattle.receiving.proofs.Lines.{text_joined}
 use Rattle.receiving.proofs.ConsumedBytes.{consumed_most, consumed_text, consumed_state, consumed_odd}
 
 -- ---- a cut of the bytes after those that wait
-module _ (odd : Odd) (front back : List ℕ) where
-  abbrev odd_then : Odd
+module _ (odd : Option ℕ) (front back : List ℕ) where
+  abbrev odd_then : Option ℕ
   odd_then = odd_of (waiting odd ++ front)
 
   pub samples_cut : samples_in_lem odd (front ++ back) ≡ samples_in_lem odd front ++ samples_in_lem odd_then back

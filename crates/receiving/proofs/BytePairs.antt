@@ -1,16 +1,18 @@
 -- Bytes in pairs: where a list of bytes is cut makes no difference, if the byte that is left over goes before the rest. Assumes nothing.
+use Rattle.std.specs.Prelude.{Option, Some, None}
 use mathlib.Core.Path.{◌≡◌, refl, sym, ap, ◌∙◌}
 use mathlib.Core.List.{List, [], ◌∷◌, ◌++◌, append_assoc, append-nil}
-use Prim.Native.Nat.{ℕ, suc, ◌+◌, ◌-◌, ◌*◌, ◌≤◌, ◌<◌}
+use Prim.Native.Nat.{ℕ, zero, suc, ◌+◌, ◌-◌, ◌*◌, ◌/◌, ◌≤◌, ◌<◌}
 use native.Mathlib.Omega.{arith}
 use native.Mathlib.Numerals.{add-one}
 use lib.Dec.{lit≤}
 use lib.IntN.{ℤ}
-use lib.ListN.{length, get_or, take, drop, set, length-drop, length-set, drop_of_length-le}
-use lib.Seq.{drop-cons, take-suc-set}
+use lib.ListN.{length, get_or, take, drop, set, length-drop, length-set}
+use lib.Seq.{drop-cons, drop-drop, take-suc-set, get_or-take, get_or-drop}
+use Rattle.std.proofs.Common.{Some}
+use Rattle.std.specs.List.{slice_get}
+use Rattle.std.specs.Simd.{first_chunks}
 use Rattle.house.specs.Samples.{sample_of}
-use Rattle.receiving.specs.declared.Odd.{Odd}
-use Rattle.receiving.specs.declared.Odd.TheVariants.{Nothing, Held}
 use Rattle.receiving.specs.declared.pairs.Paired.{Paired}
 use Rattle.receiving.specs.Pairs.{samples_of, odd_of, waiting}
 use Rattle.receiving.specs.Parts.{PairsWhole, PairsUp}
@@ -30,21 +32,21 @@ odd_joined (b ∷ []) ys = refl
 odd_joined (low ∷ high ∷ xs) ys = odd_joined xs ys
 
 -- ---- a byte that waits alone
-pub no_samples : (odd : Odd) → samples_of (waiting odd ++ []) ≡ []
+pub no_samples : (odd : Option ℕ) → samples_of (waiting odd ++ []) ≡ []
 unfolding samples_of
-no_samples Nothing = refl
-no_samples (Held b) = refl
+no_samples None = refl
+no_samples (Some b) = refl
 
-pub odd_alone : (odd : Odd) → odd_of (waiting odd ++ []) ≡ odd
+pub odd_alone : (odd : Option ℕ) → odd_of (waiting odd ++ []) ≡ odd
 unfolding odd_of
-odd_alone Nothing = refl
-odd_alone (Held b) = refl
+odd_alone None = refl
+odd_alone (Some b) = refl
 
-pub one_waits : (odd : Odd) → length (waiting odd) ≤ 1
-one_waits Nothing = lit≤ tt
-one_waits (Held b) = lit≤ tt
+pub one_waits : (odd : Option ℕ) → length (waiting odd) ≤ 1
+one_waits None = lit≤ tt
+one_waits (Some b) = lit≤ tt
 
-pub nothing_more : (odd : Odd) (bytes : List ℕ) (room : List ℤ) → length bytes ≡ 0
+pub nothing_more : (odd : Option ℕ) (bytes : List ℕ) (room : List ℤ) → length bytes ≡ 0
     → PairsUp odd bytes room (record { count = 0; odd = odd }) room
 nothing_more odd [] room none = record { same_room = refl; count = omega arith; samples = sym (no_samples odd); left_over = sym (odd_alone odd) }
 nothing_more odd (b ∷ bytes) room none = absurd (omega arith)
@@ -84,7 +86,7 @@ module _ (bytes : List ℕ) (room : List ℤ) where
         }
 
     -- where no byte is left, or one
-    pub pairs_end : i ≤ length room → (odd : Odd) → drop (2 * i) bytes ≡ waiting odd ++ []
+    pub pairs_end : i ≤ length room → (odd : Option ℕ) → drop (2 * i) bytes ≡ waiting odd ++ []
         → PairsWhole bytes room (record { count = i; odd = odd }) samples
     pairs_end fits odd end = record {
       same_room = p.same_room;
@@ -96,10 +98,30 @@ module _ (bytes : List ℕ) (room : List ℤ) where
       left_over = sym (odd_alone odd) ∙ sym (ap odd_of end) ∙ p.left_over;
     }
 
-pub one_left : (bytes : List ℕ) (k : ℕ) → k < length bytes → length bytes ≤ k + 1 → drop k bytes ≡ get_or bytes k 0 ∷ []
-one_left bytes k some few =
-    let past : length bytes ≤ suc k = omega arith in
-    drop-cons bytes k 0 some ∙ ap (λ (l : List ℕ). get_or bytes k 0 ∷ l) (drop_of_length-le bytes past)
+-- ---- the pairs as the code cuts them, and the byte after them
+pair_of : (k i : ℕ) (xs : List ℕ) → i < k → get_or (first_chunks 2 k xs) i [] ≡ take 2 (drop (2 * i) xs)
+pair_of zero i xs h = absurd (omega arith)
+pair_of (suc k) zero xs h = refl
+pair_of (suc k) (suc i) xs h =
+    let more : 2 + 2 * i ≡ 2 * suc i = omega arith in
+    pair_of k i (drop 2 xs) (omega arith) ∙ ap (take 2) (drop-drop (2 * i) 2 xs ∙ ap (λ (m : ℕ). drop m xs) more)
+
+module _ (pairs : List (List ℕ)) (bytes : List ℕ) (i : ℕ) (cut : pairs ≡ first_chunks 2 (length bytes / 2) bytes) (within : i < length bytes / 2) where
+  pair_at : get_or pairs i [] ≡ take 2 (drop (2 * i) bytes)
+  pair_at = ap (λ (l : List (List ℕ)). get_or l i []) cut ∙ pair_of (length bytes / 2) i bytes within
+
+  pub low_read : get_or (get_or pairs i []) 0 0 ≡ get_or bytes (2 * i) 0
+  low_read =
+      let here : 2 * i + 0 ≡ 2 * i = omega arith in
+      ap (λ (l : List ℕ). get_or l 0 0) pair_at ∙ get_or-take 2 (drop (2 * i) bytes) 0 0 (omega arith) ∙ get_or-drop (2 * i) bytes 0 0 ∙ ap (λ (k : ℕ). get_or bytes k 0) here
+
+  pub high_read : get_or (get_or pairs i []) 1 0 ≡ get_or bytes (2 * i + 1) 0
+  high_read = ap (λ (l : List ℕ). get_or l 1 0) pair_at ∙ get_or-take 2 (drop (2 * i) bytes) 1 0 (omega arith) ∙ get_or-drop (2 * i) bytes 1 0
+
+pub one_kept : (rest : List ℕ) (b : ℕ) → length rest ≤ 1 → Some b ≡ slice_get rest 0 → rest ≡ b ∷ []
+one_kept [] b few e = cc
+one_kept (x ∷ []) b few e = cc
+one_kept (x ∷ y ∷ rest) b few e = absurd (omega arith)
 
 -- ---- a byte that waits: with the first byte it is sample x, and whole samples follow
 module _ (bytes : List ℕ) (room : List ℤ) (x : ℤ) (some : 1 ≤ length bytes) (fits : length bytes ≤ 2 * length room) where
@@ -111,7 +133,7 @@ module _ (bytes : List ℕ) (room : List ℤ) (x : ℤ) (some : 1 ≤ length byt
 
 first_known : (low : ℕ) (bytes : List ℕ) (room part : List ℤ) (r : Paired) → 1 ≤ length bytes → 1 ≤ length room
     → PairsWhole (drop 1 bytes) (drop 1 (set room 0 (sample_of low (get_or bytes 0 0)))) r part
-    → PairsUp (Held low) bytes room (record { count = r.count + 1; odd = r.odd }) (take 1 (set room 0 (sample_of low (get_or bytes 0 0))) ++ part)
+    → PairsUp (Some low) bytes room (record { count = r.count + 1; odd = r.odd }) (take 1 (set room 0 (sample_of low (get_or bytes 0 0))) ++ part)
 unfolding samples_of odd_of
 first_known low [] room part r some fits p = absurd (omega arith)
 first_known low (b ∷ bytes) [] part r some fits p = absurd (omega arith)
@@ -124,7 +146,7 @@ first_known low (b ∷ bytes) (y ∷ room) part r some fits p = record {
 
 pub pairs_held : (low : ℕ) (bytes : List ℕ) (room part : List ℤ) (r : Paired) (x : ℤ) → x ≡ sample_of low (get_or bytes 0 0)
     → 1 ≤ length bytes → length bytes ≤ 2 * length room → PairsWhole (tail bytes 1) (tail (set room 0 x) 1) r part
-    → PairsUp (Held low) bytes room (record { count = r.count + 1; odd = r.odd })
+    → PairsUp (Some low) bytes room (record { count = r.count + 1; odd = r.odd })
     (take 1 (set room 0 x) ++ (part ++ drop (length (set room 0 x) - 1) (drop 1 (set room 0 x))))
 pairs_held low bytes room part r x e some fits p =
     let q : PairsWhole (drop 1 bytes) (drop 1 (set room 0 x)) r part = rw (tail_is bytes 1, tail_is (set room 0 x) 1) at p in

@@ -1,4 +1,5 @@
 -- The bytes that a call consumes are those of the samples that went in: a call is as one that is given just these. Assumes nothing.
+use Rattle.std.specs.Prelude.{Option, Some, None}
 use mathlib.Core.Path.{◌≡◌, refl, sym, ap, ◌∙◌}
 use mathlib.Core.Logic.{inl, inr}
 use mathlib.Core.Bool.{cond}
@@ -19,8 +20,6 @@ use Rattle.demodulator.specs.Singles.{Single, Said}
 use Rattle.house.specs.Samples.{sample_of}
 use Rattle.listening.specs.Listener.{listener}
 use Rattle.listening.specs.Verdict.{verdict}
-use Rattle.receiving.specs.declared.Odd.{Odd}
-use Rattle.receiving.specs.declared.Odd.TheVariants.{Nothing, Held}
 use Rattle.receiving.specs.Pairs.{samples_of, odd_of, waiting}
 use Rattle.receiving.specs.Text.{text_from, go_in, batch_of, told_to}
 use Rattle.receiving.specs.Hear.{samples_in_lem, Intake, intake_of}
@@ -38,7 +37,7 @@ samples_take (suc n) [] = rw (two_more n)
 samples_take (suc n) (b ∷ []) = rw (two_more n)
 samples_take (suc n) (low ∷ high ∷ bytes) = rw (two_more n) (ap (λ (l : List ℤ). sample_of low high ∷ l) (samples_take n bytes))
 
-odd_take : (n : ℕ) (bytes : List ℕ) → n ≤ length (samples_of bytes) → odd_of (take (2 * n) bytes) ≡ Nothing
+odd_take : (n : ℕ) (bytes : List ℕ) → n ≤ length (samples_of bytes) → odd_of (take (2 * n) bytes) ≡ None
 unfolding samples_of odd_of
 odd_take zero bytes l = refl
 odd_take (suc n) [] l = absurd (omega arith)
@@ -46,15 +45,15 @@ odd_take (suc n) (b ∷ []) l = absurd (omega arith)
 odd_take (suc n) (low ∷ high ∷ bytes) l = rw (two_more n) (odd_take n bytes (omega arith))
 
 -- ---- a part of the samples that were given
-part_front : (odd : Odd) (bytes : List ℕ) (n : ℕ) → 0 < n → waiting odd ++ take (2 * n - length (waiting odd)) bytes ≡ take (2 * n) (waiting odd ++ bytes)
-part_front Nothing bytes n l =
+part_front : (odd : Option ℕ) (bytes : List ℕ) (n : ℕ) → 0 < n → waiting odd ++ take (2 * n - length (waiting odd)) bytes ≡ take (2 * n) (waiting odd ++ bytes)
+part_front None bytes n l =
     let same : 2 * n - 0 ≡ 2 * n = omega arith in
     rw same
-part_front (Held b) bytes n l =
+part_front (Some b) bytes n l =
     let one : 2 * n ≡ suc (2 * n - 1) = omega arith in
     sym (ap (λ (k : ℕ). take k (b ∷ bytes)) one)
 
-module _ (odd : Odd) (bytes : List ℕ) (n : ℕ) where
+module _ (odd : Option ℕ) (bytes : List ℕ) (n : ℕ) where
   abbrev part : List ℕ
   part = waiting odd ++ take (2 * n - length (waiting odd)) bytes
 
@@ -68,7 +67,7 @@ module _ (odd : Odd) (bytes : List ℕ) (n : ℕ) where
         | inr p ↦ ap samples_of (part_front odd bytes n p) ∙ samples_take n (waiting odd ++ bytes)
       ]
 
-  pub part_odd : n ≤ length (samples_in_lem odd bytes) → odd_of part ≡ cond (eqb n 0) odd Nothing
+  pub part_odd : n ≤ length (samples_in_lem odd bytes) → odd_of part ≡ cond (eqb n 0) odd None
   part_odd l =
       elim (eq-zero-or-pos n) [
         | inl z ↦ rw (none_of_it z, eq-eqb n 0 z) (odd_alone odd)
@@ -82,7 +81,7 @@ samples_long (b ∷ []) = lit≤ tt
 samples_long (low ∷ high ∷ bytes) = omega (arith, samples_long bytes)
 
 -- ---- a call
-module _ {S : Type 0} (m : Machine S Single Said) (empty : S → Paper) (s : S) (odd : Odd) (bytes : List ℕ) (places : ℕ) where
+module _ {S : Type 0} (m : Machine S Single Said) (empty : S → Paper) (s : S) (odd : Option ℕ) (bytes : List ℕ) (places : ℕ) where
   abbrev xs : List ℤ
   xs = samples_in_lem odd bytes
 

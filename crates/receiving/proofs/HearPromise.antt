@@ -1,8 +1,11 @@
 -- What `hear` promises, from what its parts promise. Assumes nothing.
+use Rattle.std.specs.Prelude.{Option, Result, Ok, Err}
+use Rattle.protocol.specs.declared.Refusal.{Refusal}
 use mathlib.Core.Path.{◌≡◌, refl, sym, ap, ◌∙◌}
 use mathlib.Core.Logic.{◌⊎◌, inl, inr}
 use mathlib.Core.Bool.{true, false, not, true≢false}
 use mathlib.Core.List.{List, [], ◌++◌}
+use Rattle.std.specs.Result.{is_ok}
 use Prim.Native.Nat.{ℕ, ◌-◌, ◌*◌, ◌≤◌, ◌<◌}
 use native.Mathlib.Omega.{arith}
 use borrow.Author.Tests.{eq-eqb, ne_eqb, lt-ltb, ltb-true, ltb-false}
@@ -15,14 +18,11 @@ use Rattle.demodulator.specs.declared.SoftDemodulator.{SoftDemodulator}
 use Rattle.demodulator.specs.Calls.{is_refusal}
 use Rattle.demodulator_laws.proofs.SampleFits.{either}
 use Rattle.listening.specs.Listener.{own_record}
-use Rattle.receiving.specs.declared.Odd.{Odd}
 use Rattle.receiving.specs.declared.Receiving.{Receiving}
-use Rattle.receiving.specs.declared.Receipt.{Receipt}
-use Rattle.receiving.specs.declared.Receipt.TheVariants.{Refused, Admitted}
 use Rattle.receiving.specs.declared.AfterBytes.{AfterBytes}
 use Rattle.receiving.specs.declared.pairs.Paired.{Paired}
 use Rattle.receiving.specs.declared.pairs.Part.{Part}
-use Rattle.receiving.specs.declared.windows.AfterSamples.{AfterSamples}
+use Rattle.receiving.specs.declared.windows.Heard.{Heard}
 use Rattle.receiving.specs.Pairs.{odd_of, waiting}
 use Rattle.receiving.specs.Text.{Batch, batch_of}
 use Rattle.receiving.specs.Hear.{most_samples, looked, samples_in_lem, consumed_of, intake_of, empty_told, record_intake, receipt_paper, HearSays}
@@ -54,8 +54,32 @@ module _ (bytes : List ℕ) (places : ℕ) where
   looked_long : length (looked bytes places) ≡ looks_at (length bytes) places
   looked_long = sym (ap length looked_is) ∙ length-take-le (looks_at (length bytes) places) bytes looks_most
 
+-- as many bytes as are looked at, and the samples that they are paired to
+module _ (bytes : List ℕ) (places n : ℕ) (is : n ≡ looks_at (length bytes) places) where
+  pub seen_few : n ≤ 2 * most_samples
+  seen_few = rw is (looks_few bytes places)
+
+  pub seen_long : length (take n bytes) ≡ n
+  seen_long = length-take-le n bytes (rw is (looks_most bytes places))
+
+  seen_is : take n bytes ≡ looked bytes places
+  seen_is = ap (λ (k : ℕ). take k bytes) is ∙ looked_is bytes places
+
+  pub looked_all : n ≡ length (looked bytes places)
+  looked_all = sym seen_long ∙ ap length seen_is
+
+  pub paired_looked : {odd : Option ℕ} {room samples : List ℤ} {p : Paired} → PairsUp odd (take n bytes) room p samples → PairsUp odd (looked bytes places) room p samples
+  paired_looked paired = rw seen_is at paired
+
+module _ {odd : Option ℕ} {bytes : List ℕ} {room samples : List ℤ} {p : Paired} (paired : PairsUp odd bytes room p samples) where
+  pub count_fits : p.count ≤ length samples
+  count_fits = omega (arith, paired.same_room, paired.count)
+
+  pub samples_long : length (take p.count samples) ≡ p.count
+  samples_long = length-take-le p.count samples count_fits
+
 -- without room for a line there is no sample
-pub no_room_none : (odd : Odd) (bytes : List ℕ) (places : ℕ) → places < 97 → samples_in_lem odd (looked bytes places) ≡ []
+pub no_room_none : (odd : Option ℕ) (bytes : List ℕ) (places : ℕ) → places < 97 → samples_in_lem odd (looked bytes places) ≡ []
 no_room_none odd bytes places l = rw (lt-ltb places 97 l) (no_samples odd)
 
 pub by_room : (places : ℕ) (xs : List ℤ) → 1 ≤ length xs → (places < 97 → xs ≡ []) → 97 ≤ places
@@ -66,11 +90,15 @@ by_room places xs some none =
     ]
 
 -- ---- the promise
-refusal_told : (a : Receipt) → is_refusal (receipt_paper a) ≡ not (is_admitted_lem a)
-refusal_told (Refused why) = refl
-refusal_told Admitted = refl
+pub admitted_ok : (a : Result Unit Refusal) → is_admitted_lem a ≡ is_ok a
+admitted_ok (Err why) = refl
+admitted_ok (Ok _) = refl
 
-module _ (r : Receiving) (bytes lines : List ℕ) (room samples : List ℤ) (p : Paired) (a : AfterSamples) (after : List ℕ)
+refusal_told : (a : Result Unit Refusal) → is_refusal (receipt_paper a) ≡ not (is_admitted_lem a)
+refusal_told (Err why) = refl
+refusal_told (Ok _) = refl
+
+module _ (r : Receiving) (bytes lines : List ℕ) (room samples : List ℤ) (p : Paired) (a : Heard (Result Unit Refusal)) (after : List ℕ)
     (paired : PairsUp r.odd (looked bytes (length lines)) room p samples)
     (hears : HearsAll r.demodulator (take p.count samples) lines a after) where
   abbrev m : SoftDemodulator
@@ -92,7 +120,7 @@ module _ (r : Receiving) (bytes lines : List ℕ) (room samples : List ℤ) (p :
   unfolding batch_of
   fed_most = rw all.feeds (most own_record empty_told m r.odd seen (length lines))
 
-  in_words : (consumed : ℕ) (odd : Odd) → consumed ≡ consumed_of r.odd seen (record_told m xs) a.fed → odd ≡ odd_of (waiting r.odd ++ take consumed seen)
+  in_words : (consumed : ℕ) (odd : Option ℕ) → consumed ≡ consumed_of r.odd seen (record_told m xs) a.fed → odd ≡ odd_of (waiting r.odd ++ take consumed seen)
       → HearSays r bytes lines (record { answer = a.answer; consumed = consumed; written = a.written; receiving = record { demodulator = a.demodulator; odd = odd } }) after
   unfolding intake_of
   in_words consumed odd e f =

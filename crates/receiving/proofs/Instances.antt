@@ -1,4 +1,5 @@
 -- Small instances of what the laws ask. Assumes nothing.
+use Rattle.std.specs.Prelude.{Some}
 use mathlib.Core.Path.{◌≡◌, refl}
 use mathlib.Core.Logic.{inl, inr}
 use mathlib.Core.List.{List, [], ◌∷◌, ◌++◌, flat_map}
@@ -17,7 +18,6 @@ use Rattle.listening.specs.Listener.{listener, offers, own_record}
 use Rattle.listening.specs.Verdict.{verdict}
 use Rattle.listening.specs.Rules.{rules_at}
 use Rattle.listening.proofs.Agreement.{same_offers}
-use Rattle.receiving.specs.declared.Odd.TheVariants.{Held}
 use Rattle.receiving.specs.Pairs.{samples_of, odd_of}
 use Rattle.receiving.specs.Hear.{looked}
 use Rattle.receiving.specs.Caller.{Bytes, Read, Short, fresh_caller, input, given, intake_at, caller_after, text_of, consumed_by}
@@ -45,7 +45,7 @@ low_first_lem : samples_of (input cut) ≡ pos 0x1234 ∷ negsuc 1 ∷ []
 unfolding cut flat_map samples_of sample_of number_of
 low_first_lem = refl
 
-last_odd : odd_of (input cut) ≡ Held 0x07
+last_odd : odd_of (input cut) ≡ Some 0x07
 unfolding cut flat_map odd_of
 last_odd = refl
 

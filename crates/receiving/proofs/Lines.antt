@@ -1,15 +1,14 @@
 -- Lines in a room: how long they are, and what a tail that is lent comes back as. Assumes nothing.
-use mathlib.Core.Path.{◌≡◌, sym, ap, ◌∙◌}
+use mathlib.Core.Path.{◌≡◌, ap, ◌∙◌}
 use mathlib.Core.List.{List, [], ◌∷◌, ◌++◌, append-nil, flat_map}
-use Prim.Native.Nat.{ℕ, ◌-◌, ◌≤◌, ◌<◌}
+use Prim.Native.Nat.{ℕ, ◌-◌, ◌≤◌}
 use native.Mathlib.Omega.{arith}
 use lib.Dec.{lit≤}
 use lib.IntN.{ℤ}
-use lib.ListN.{length, get_or, take, drop, length-append, length-drop, drop_of_length-le}
-use lib.Seq.{ext_get_or, take_all}
+use lib.ListN.{length, take, drop, length-append, length-drop, drop_of_length-le}
+use lib.Seq.{take_all}
 use lib.Ieee.{Float}
-use Rattle.numbers.specs.Firsts.{firsts}
-use Rattle.numbers.proofs.Firsts.{length_firsts, firsts_at}
+use Rattle.numbers.proofs.Firsts.{length_firsts}
 use Rattle.machine.specs.Runs.{Machine, run}
 use Rattle.machine.proofs.Parts.{given_joined}
 use Rattle.search.specs.declared.Reply.{Reply}
@@ -52,12 +51,6 @@ line_short (refusal number) window = lit≤ tt
 line_short nothing window = lit≤ tt
 line_short done window = lit≤ tt
 line_short (carrier there) window = lit≤ tt
-
--- ---- a list by its places
-pub whole : (l : List ℕ) (n : ℕ) → length l ≡ n → firsts (λ (i : ℕ). get_or l i 0) n ≡ l
-whole l n e =
-    let f : ℕ → ℕ = λ (i : ℕ). get_or l i 0 in
-    ext_get_or 0 (firsts f n) l (length_firsts f n ∙ sym e) (λ i k. let b : i < n = rw length_firsts at k in firsts_at f n i 0 b)
 
 -- ---- the tail of a room from a place on, as it is lent
 abbrev pub tail : {A : Type 0} → List A → ℕ → List A

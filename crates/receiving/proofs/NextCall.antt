@@ -1,4 +1,5 @@
 -- The next call after any reads since a fresh start: it is answered as the rules say, and leaves what they say. Assumes nothing.
+use Rattle.std.specs.Prelude.{Option}
 use mathlib.Core.Path.{◌≡◌, sym, ap, subst, ◌∙◌}
 use mathlib.Core.Bool.{true, cond}
 use mathlib.Core.List.{List, [], ◌∷◌, ◌++◌, append_assoc}
@@ -29,7 +30,6 @@ use Rattle.listening.specs.Listener.{listener, own_record}
 use Rattle.listening.specs.Verdict.{verdict}
 use Rattle.listening.proofs.Agreement.{listens, offers_agree}
 use Rattle.listening.proofs.OwedReply.{NotRefused, untroubled, between_start}
-use Rattle.receiving.specs.declared.Odd.{Odd}
 use Rattle.receiving.specs.declared.Receiving.{Receiving}
 use Rattle.receiving.specs.Pairs.{samples_of, odd_of, waiting}
 use Rattle.receiving.specs.Text.{lines_of, text_from, go_in, batch_of, told_to}
@@ -66,7 +66,7 @@ pub record SameIntake (f : Intake SoftDemodulator) (g : Intake History) : Type 0
   pub odd : f.odd ≡ g.odd
   pub represents : Represents at48 f.state g.state
 
-same_intake : (m : SoftDemodulator) (h : History) (odd : Odd) (bytes : List ℕ) (places : ℕ) → Stands at48 facts48 m h
+same_intake : (m : SoftDemodulator) (h : History) (odd : Option ℕ) (bytes : List ℕ) (places : ℕ) → Stands at48 facts48 m h
     → SixteenBits (samples_in_lem odd bytes)
     → SameIntake (intake_of own_record empty_told m odd bytes places) (rules_intake h odd bytes places)
 unfolding intake_of batch_of
@@ -93,7 +93,7 @@ module _ (reads : List Read) (r : Read) (b : Bytes (input reads ++ r.bytes)) whe
   abbrev before : List ℕ
   before = consumed_by fresh_caller reads
 
-  abbrev odd : Odd
+  abbrev odd : Option ℕ
   odd = c.receiving.odd
 
   abbrev seen : List ℕ
@@ -122,7 +122,7 @@ module _ (reads : List Read) (r : Read) (b : Bytes (input reads ++ r.bytes)) whe
       let all-cut : before ++ given c r ≡ input reads ++ r.bytes = sym (append_assoc before c.unused r.bytes) ∙ ap (λ (l : List ℕ). l ++ r.bytes) (any_reads reads fresh_caller).cut in
       ap samples_of (sym all-cut)
       ∙ samples_joined before (given c r)
-      ∙ ap (λ (o : Odd). xs ++ samples_in_lem o (given c r)) (sym made_odd)
+      ∙ ap (λ (o : Option ℕ). xs ++ samples_in_lem o (given c r)) (sym made_odd)
       ∙ ap (λ (l : List ℕ). xs ++ samples_in_lem odd l) (sym (take-append-drop (cond (ltb r.places 97) 0 (2 * most_samples)) (given c r)))
       ∙ ap (λ (l : List ℤ). xs ++ l) (samples_cut odd seen unseen)
 

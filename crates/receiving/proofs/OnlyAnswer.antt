@@ -1,4 +1,6 @@
 -- Each promise fixes the answer, the record and the lent room. That there is one on every input is the function's own proof. Assumes nothing.
+use Rattle.std.specs.Prelude.{Result, Ok, Err}
+use Rattle.protocol.specs.declared.Refusal.{Refusal}
 use mathlib.Core.Path.{◌≡◌, refl, ap}
 use mathlib.Core.List.{List}
 use Prim.Native.Nat.{ℕ}
@@ -7,22 +9,20 @@ use Rattle.protocol.proofs.Numbers.{numbered, numbered_back}
 use Rattle.demodulator.specs.Calls.{Paper, refusal, nothing, frame, done, carrier}
 use Rattle.demodulator.proofs.OnlyAnswer.{once}
 use Rattle.receiving.specs.declared.Receiving.{Receiving}
-use Rattle.receiving.specs.declared.Receipt.{Receipt}
-use Rattle.receiving.specs.declared.Receipt.TheVariants.{Refused, Admitted}
 use Rattle.receiving.specs.declared.AfterBytes.{AfterBytes}
 use Rattle.receiving.specs.Hear.{receipt_paper, NewSays, HearSays}
 
-receipt_of : Paper → Receipt
-receipt_of (refusal number) = Refused (numbered number)
-receipt_of nothing = Admitted
-receipt_of (frame o) = Admitted
-receipt_of done = Admitted
-receipt_of (carrier there) = Admitted
+receipt_of : Paper → Result Unit Refusal
+receipt_of (refusal number) = Err (numbered number)
+receipt_of nothing = Ok tt
+receipt_of (frame o) = Ok tt
+receipt_of done = Ok tt
+receipt_of (carrier there) = Ok tt
 
-receipt_of_back : (r : Receipt) → receipt_of (receipt_paper r) ≡ r
+receipt_of_back : (r : Result Unit Refusal) → receipt_of (receipt_paper r) ≡ r
 unfolding receipt_of
-receipt_of_back (Refused why) = ap Refused (numbered_back why)
-receipt_of_back Admitted = refl
+receipt_of_back (Err why) = ap Err (numbered_back why)
+receipt_of_back (Ok _) = refl
 
 pub new_only_answer : (r s : Receiving) → NewSays r → NewSays s → r ≡ s
 new_only_answer r s = same_answer

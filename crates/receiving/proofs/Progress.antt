@@ -1,5 +1,7 @@
 -- All samples, stretch by stretch: what is written so far is at the front of the room, and the other samples go on from there.
 -- Assumes nothing.
+use Rattle.std.specs.Prelude.{Option, Result, Ok}
+use Rattle.protocol.specs.declared.Refusal.{Refusal}
 use mathlib.Core.Path.{◌≡◌, refl, sym, ap, ◌∙◌}
 use mathlib.Core.Logic.{inl, inr}
 use mathlib.Core.Bool.{true, false, cond, false≢true}
@@ -14,6 +16,7 @@ use lib.ListN.{length, take, drop, length-append, length-drop, take-append-drop,
 use lib.Seq.{take_at, drop_at, drop-drop, length-take-le}
 use Rattle.machine.specs.Runs.{answers}
 use Rattle.shaping.specs.Rate.{rate_of}
+use Rattle.demodulator.specs.declared.Offer.{Offer}
 use Rattle.demodulator.specs.declared.SoftDemodulator.{SoftDemodulator}
 use Rattle.demodulator.specs.Calls.{Paper, refusal, nothing, frame, done, carrier, heard_paper}
 use Rattle.demodulator.specs.Feed.{fed_into, Stretch as FedStretch}
@@ -21,9 +24,7 @@ use Rattle.demodulator.specs.Singles.{blank}
 use Rattle.demodulator.proofs.FeedSteps.{fed_some}
 use Rattle.listening.specs.Listener.{own_record}
 use Rattle.listening.specs.Listen.{is_offer, left_by_stretch}
-use Rattle.receiving.specs.declared.Receipt.{Receipt}
-use Rattle.receiving.specs.declared.Receipt.TheVariants.{Admitted}
-use Rattle.receiving.specs.declared.windows.Stretch.{Stretch}
+use Rattle.receiving.specs.declared.windows.Heard.{Heard}
 use Rattle.receiving.specs.Text.{go_in, Batch, refusal_in}
 use Rattle.receiving.specs.Hear.{receipt_paper}
 use Rattle.receiving.specs.Parts.{refused_after, in_front, line_of_stretch, HearsStretch, record_told, record_batch, HearsAll}
@@ -67,7 +68,7 @@ module _ (m₀ : SoftDemodulator) (xs : List ℤ) (lines₀ : List ℕ) where
       record { batch = rw (whole, none_yet); told = refl }
 
   -- where no more samples go in
-  ends : (answer : Receipt) (lines : List ℕ) (m : SoftDemodulator) (fed written : ℕ) → SoFar xs lines₀ lines fed written → record_batch m₀ xs (length lines₀) ≡ ahead fed (take written lines) (none m) → receipt_paper answer ≡ record_told m₀ xs
+  ends : (answer : Result Unit Refusal) (lines : List ℕ) (m : SoftDemodulator) (fed written : ℕ) → SoFar xs lines₀ lines fed written → record_batch m₀ xs (length lines₀) ≡ ahead fed (take written lines) (none m) → receipt_paper answer ≡ record_told m₀ xs
       → HearsAll m₀ xs lines₀ (record { answer = answer; fed = fed; written = written; demodulator = m }) lines
   ends answer lines m fed written s all tells =
       let front : List ℕ = take written lines in
@@ -89,7 +90,7 @@ module _ (m₀ : SoftDemodulator) (xs : List ℤ) (lines₀ : List ℕ) where
     left = length lines₀ - written
 
     -- the samples are all in, or there is no room for a line
-    pub hears_out : 1 ≤ fed → (fed < length xs → left < 97) → HearsAll m₀ xs lines₀ (record { answer = Admitted; fed = fed; written = written; demodulator = m }) lines
+    pub hears_out : 1 ≤ fed → (fed < length xs → left < 97) → HearsAll m₀ xs lines₀ (record { answer = Ok tt; fed = fed; written = written; demodulator = m }) lines
     hears_out some out =
         let no_more : record_batch m ys left ≡ none m =
         elim (eq-or-lt_of_le s.at_most) [
@@ -99,7 +100,7 @@ module _ (m₀ : SoftDemodulator) (xs : List ℤ) (lines₀ : List ℕ) where
           | inr more ↦ batch_none own_record m ys left (cramped_in _ left (out more))
         ] in
         let quiet : record_told m₀ xs ≡ nothing = t.told ∙ rw (ne_eqb fed 0 (λ z. omega arith)) in
-        ends Admitted lines m fed written s (t.batch ∙ ap (ahead fed (take written lines)) no_more) (sym quiet)
+        ends (Ok tt) lines m fed written s (t.batch ∙ ap (ahead fed (take written lines)) no_more) (sym quiet)
 
     module _ (more : fed < length xs) (enough : 97 ≤ left) where
       abbrev f : FedStretch SoftDemodulator
@@ -157,7 +158,7 @@ module _ (m₀ : SoftDemodulator) (xs : List ℤ) (lines₀ : List ℕ) where
       told_here = t.told ∙ ap (λ (p : Paper). cond (eqb fed 0) p nothing) (g.told (omega (arith, some)))
 
       -- ---- the code's stretch
-      module _ (r : Stretch) (after : List ℕ) (says : HearsStretch m ys (drop written lines) r after) where
+      module _ (r : Heard (Result (Option Offer) Refusal)) (after : List ℕ) (says : HearsStretch m ys (drop written lines) r after) where
         -- the room, once its tail is back
         abbrev back : List ℕ
         back = take written lines ++ (after ++ drop (length lines - written) (drop written lines))
@@ -185,7 +186,7 @@ module _ (m₀ : SoftDemodulator) (xs : List ℤ) (lines₀ : List ℕ) where
                 told = told_here ∙ quiet ∙ sym (rw (ne_eqb (fed + f.fed) 0 (λ z. omega (arith, g.moves is_offer_lem))));
               })
 
-        pub hears_to_here : (answer : Receipt) → is_offer (heard_paper r.answer) ≡ false → receipt_paper answer ≡ refused_after fed (heard_paper r.answer)
+        pub hears_to_here : (answer : Result Unit Refusal) → is_offer (heard_paper r.answer) ≡ false → receipt_paper answer ≡ refused_after fed (heard_paper r.answer)
             → HearsAll m₀ xs lines₀ (record { answer = answer; fed = fed + r.fed; written = written + r.written; demodulator = r.demodulator }) back
         hears_to_here answer offered tells =
             let no_offer : is_offer f.answer ≡ false = ap is_offer (sym says.answers) ∙ offered in

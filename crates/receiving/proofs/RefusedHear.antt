@@ -1,5 +1,6 @@
 -- A refused call with bytes changes nothing and consumes nothing; any other consumes a byte at least, where there is one and room
 -- for a line. At a rate that is none every call is refused. Assumes nothing.
+use Rattle.std.specs.Prelude.{Option, Err}
 use mathlib.Core.Path.{◌≡◌, sym, ap, ◌∙◌}
 use mathlib.Core.Bool.{false}
 use mathlib.Core.List.{List, [], ◌∷◌, flat_map}
@@ -22,9 +23,7 @@ use Rattle.demodulator.specs.Singles.{Single, Said, blank}
 use Rattle.demodulator.proofs.CallCases.{sample_other_rate}
 use Rattle.listening.specs.Listener.{listener, own_record}
 use Rattle.listening.specs.Verdict.{verdict}
-use Rattle.receiving.specs.declared.Odd.{Odd}
 use Rattle.receiving.specs.declared.Receiving.{Receiving}
-use Rattle.receiving.specs.declared.Receipt.TheVariants.{Refused}
 use Rattle.receiving.specs.declared.AfterBytes.{AfterBytes}
 use Rattle.receiving.specs.Text.{lines_of, go_in, batch_of, told_to}
 use Rattle.receiving.specs.Hear.{looked, samples_in_lem, Intake, intake_of, empty_told, record_intake, receipt_paper, HearSays}
@@ -35,7 +34,7 @@ use Rattle.receiving.proofs.FedStretch.{told_at}
 use Rattle.receiving.proofs.ConsumedBytes.{most}
 
 -- ---- of any receiver
-module _ {S : Type 0} (m : Machine S Single Said) (empty : S → Paper) (s : S) (odd : Odd) (bytes : List ℕ) (places : ℕ) where
+module _ {S : Type 0} (m : Machine S Single Said) (empty : S → Paper) (s : S) (odd : Option ℕ) (bytes : List ℕ) (places : ℕ) where
   abbrev said : List Said
   said = answers (listener m verdict) s (samples_in_lem odd bytes)
 
@@ -73,7 +72,7 @@ refused_hear r bytes lines a after number says told =
     record { consumes = says.consumes ∙ rw e; writes_none = says.counts ∙ rw e; leaves = says.leaves ∙ rw e; room = says.writes ∙ rw e }
 
 -- and there is such an answer wherever the call is refused
-pub refused_says : (r : Receiving) (bytes lines : List ℕ) (why : Refusal) → (record_intake r bytes (length lines)).answer ≡ refusal (on_paper why) → HearSays r bytes lines (record { answer = Refused why; consumed = 0; written = 0; receiving = r }) lines
+pub refused_says : (r : Receiving) (bytes lines : List ℕ) (why : Refusal) → (record_intake r bytes (length lines)).answer ≡ refusal (on_paper why) → HearSays r bytes lines (record { answer = Err why; consumed = 0; written = 0; receiving = r }) lines
 refused_says r bytes lines why e =
     let same = refused_intake own_record empty_told r.demodulator r.odd (looked bytes (length lines)) (length lines) (on_paper why) e in
     record { answers = rw same; consumes = rw same; counts = rw same; leaves = rw same; writes = rw same }

@@ -1,4 +1,6 @@
 -- A stretch with its line, and a call that gives no sample, as the code settles them. Assumes nothing.
+use Rattle.std.specs.Prelude.{Option, Some, None, Result}
+use Rattle.protocol.specs.declared.Refusal.{Refusal}
 use mathlib.Core.Path.{◌≡◌, refl, ap, ◌∙◌}
 use mathlib.Core.Bool.{Bool, true, false, cond, false≢true, true≢false}
 use mathlib.Core.List.{List, [], ◌∷◌, ◌++◌, append-nil, flat_map}
@@ -17,13 +19,10 @@ use Rattle.demodulator.specs.Fit.{unfit_number, record_fit_lem}
 use Rattle.demodulator.specs.Calls.{Paper, refusal, nothing, frame, done, carrier}
 use Rattle.demodulator.specs.Feed.{fed}
 use Rattle.house.specs.Line.{line_of}
-use Rattle.listening.specs.declared.Settled.{Settled}
-use Rattle.listening.specs.declared.Settled.TheVariants.{Nothing, By}
 use Rattle.listening.specs.declared.Listened.{Listened}
 use Rattle.listening.specs.Listener.{listed_of}
 use Rattle.listening.specs.Verdict.{verdict}
 use Rattle.listening.specs.Listen.{stretch_of, replies_in, ListenSays}
-use Rattle.receiving.specs.declared.Receipt.{Receipt}
 use Rattle.receiving.specs.Text.{if_accepted, lines_of, go_in, batch_of, refusal_in, told_to}
 use Rattle.receiving.specs.Hear.{receipt_paper}
 use Rattle.receiving.specs.Parts.{in_front, is_accepted_lem, line_for, PutsLine, line_of_stretch, HearsStretch, HearsAll}
@@ -31,19 +30,19 @@ use Rattle.receiving.proofs.Lines.{length_line}
 
 -- ---- an offer: its line by what it was settled with
 module _ (window : List Float) where
-  line_accepted : (s : Settled) → is_accepted_lem s ≡ true → line_for s window ≡ line_of window
+  line_accepted : (s : Option Reply) → is_accepted_lem s ≡ true → line_for s window ≡ line_of window
   unfolding if_accepted flat_map
-  line_accepted Nothing e = absurd (false≢true e)
-  line_accepted (By Accepted) e = append-nil (line_of window)
-  line_accepted (By Rejected) e = absurd (false≢true e)
+  line_accepted None e = absurd (false≢true e)
+  line_accepted (Some Accepted) e = append-nil (line_of window)
+  line_accepted (Some Rejected) e = absurd (false≢true e)
 
-  line_none : (s : Settled) → is_accepted_lem s ≡ false → line_for s window ≡ []
+  line_none : (s : Option Reply) → is_accepted_lem s ≡ false → line_for s window ≡ []
   unfolding if_accepted flat_map
-  line_none Nothing e = refl
-  line_none (By Accepted) e = absurd (true≢false e)
-  line_none (By Rejected) e = refl
+  line_none None e = refl
+  line_none (Some Accepted) e = absurd (true≢false e)
+  line_none (Some Rejected) e = refl
 
-  module _ (s : Settled) (room : List ℕ) where
+  module _ (s : Option Reply) (room : List ℕ) where
     pub puts_accepted : (after : List ℕ) → is_accepted_lem s ≡ true → after ≡ line_of window ++ drop 97 room → PutsLine s window room 97 after
     puts_accepted after good w = record {
       counts = rw (line_accepted s good, length_line window) refl;
@@ -82,7 +81,7 @@ by_fitness : (b : Bool) (number : ℕ) → refusal_in (cond b nothing (refusal (
 by_fitness true number = refl
 by_fitness false number = refl
 
-pub hears_nothing : (m : SoftDemodulator) (xs : List ℤ) (lines : List ℕ) (answer : Receipt) → length xs ≡ 0
+pub hears_nothing : (m : SoftDemodulator) (xs : List ℤ) (lines : List ℕ) (answer : Result Unit Refusal) → length xs ≡ 0
     → receipt_paper answer ≡ refusal_in (stretch_of m xs).answer
     → HearsAll m xs lines (record { answer = answer; fed = 0; written = 0; demodulator = m }) lines
 unfolding fed batch_of run answers go_in lines_of flat_map told_to

@@ -1,5 +1,6 @@
 -- Reads as the program has them, from any record: each is consumed whole, or the next sample is refused, and so would any other be.
 -- Either way the text is that of the whole input. Assumes nothing.
+use Rattle.std.specs.Prelude.{Option}
 use mathlib.Core.Path.{◌≡◌, refl, sym, ap, subst, ◌∙◌}
 use mathlib.Core.Logic.{◌⊎◌, inl, inr}
 use mathlib.Core.Bool.{Bool, true, false, cond, false≢true}
@@ -21,7 +22,6 @@ use Rattle.demodulator_laws.proofs.SampleFits.{either}
 use Rattle.demodulator_laws.proofs.SampleComes.{silent, offering, stuck, comes}
 use Rattle.listening.specs.Listener.{own_record}
 use Rattle.listening.proofs.FirstSample.{left_by_sample, after_reply, RefusesAll, Stuck, run_stuck}
-use Rattle.receiving.specs.declared.Odd.{Odd}
 use Rattle.receiving.specs.declared.Receiving.{Receiving}
 use Rattle.receiving.specs.Pairs.{waiting}
 use Rattle.receiving.specs.Text.{go_in, Batch, told_to}
@@ -70,7 +70,7 @@ unfit_told m [] none = by_fitness (record_fit_lem (rate_of m.rate).p m)
     by_fitness false e = refl
 unfit_told m (x ∷ xs) none = absurd (omega arith)
 
-module _ (m : SoftDemodulator) (odd : Odd) (bytes : List ℕ) (places : ℕ) (enough : 97 * length (samples_in_lem odd bytes) ≤ places) where
+module _ (m : SoftDemodulator) (odd : Option ℕ) (bytes : List ℕ) (places : ℕ) (enough : 97 * length (samples_in_lem odd bytes) ≤ places) where
   call_whole : ((intake_of own_record empty_told m odd bytes places).consumed ≡ length bytes)
       ⊎ Stuck (intake_of own_record empty_told m odd bytes places).state
   unfolding intake_of
@@ -89,7 +89,7 @@ module _ (m : SoftDemodulator) (odd : Odd) (bytes : List ℕ) (places : ℕ) (en
       ]
 
 -- ---- a read as the program has it
-pub few_samples : (odd : Odd) (bytes : List ℕ) → length bytes ≤ 2 * most_samples → 97 * length (samples_in_lem odd bytes) ≤ 97 * most_samples
+pub few_samples : (odd : Option ℕ) (bytes : List ℕ) → length bytes ≤ 2 * most_samples → 97 * length (samples_in_lem odd bytes) ≤ 97 * most_samples
 few_samples odd bytes l = omega (arith, samples_long (waiting odd ++ bytes), length-append (waiting odd) bytes, one_waits odd)
 
 pub looked_all : (bytes : List ℕ) (places : ℕ) → length bytes ≤ 2 * most_samples → 97 ≤ places → looked bytes places ≡ bytes

@@ -1,5 +1,6 @@
 -- A call with bytes, said once for any receiver: what it answers, how many bytes it consumes, and what it leaves. Assumes nothing.
-use Rattle.std.specs.Prelude.{◌≡◌, cond, List, ◌++◌, ℕ, ◌-◌, ◌*◌, eqb, ltb, ℤ, length, take, drop}
+use Rattle.protocol.specs.declared.Refusal.{Refusal}
+use Rattle.std.specs.Prelude.{◌≡◌, cond, List, ◌++◌, ℕ, ◌-◌, ◌*◌, eqb, ltb, ℤ, length, take, drop, Option, None, Result, Ok, Err}
 use Rattle.machine.specs.Runs.{Machine, answers}
 use Rattle.shaping.specs.Rate.{rate_of}
 use Rattle.protocol.specs.Refusals.{on_paper}
@@ -10,11 +11,7 @@ use Rattle.demodulator.specs.Feed.{empty_said}
 use Rattle.demodulator.specs.Singles.{Single, Said}
 use Rattle.listening.specs.Listener.{listener, own_record}
 use Rattle.listening.specs.Verdict.{verdict}
-use Rattle.receiving.specs.declared.Odd.{Odd}
-use Rattle.receiving.specs.declared.Odd.TheVariants.{Nothing}
 use Rattle.receiving.specs.declared.Receiving.{Receiving}
-use Rattle.receiving.specs.declared.Receipt.{Receipt}
-use Rattle.receiving.specs.declared.Receipt.TheVariants.{Refused, Admitted}
 use Rattle.receiving.specs.declared.AfterBytes.{AfterBytes}
 use Rattle.receiving.specs.Pairs.{samples_of, odd_of, waiting}
 use Rattle.receiving.specs.Text.{Batch, batch_of, told_to}
@@ -29,12 +26,12 @@ abbrev pub looked : List ℕ → ℕ → List ℕ
 looked bytes places = take (cond (ltb places 97) 0 (2 * most_samples)) bytes
 
 -- "Receive reads i16 samples, low byte first": the byte that waits and these
-abbrev pub samples_in_lem : Odd → List ℕ → List ℤ
+abbrev pub samples_in_lem : Option ℕ → List ℕ → List ℤ
 samples_in_lem odd bytes = samples_of (waiting odd ++ bytes)
 
 -- of the bytes that were looked at a call consumes those of the `n` samples that went in, and an odd one after them if all went in;
 -- the byte that waits was consumed before; a refused call consumes none
-abbrev pub consumed_of : Odd → List ℕ → Paper → ℕ → ℕ
+abbrev pub consumed_of : Option ℕ → List ℕ → Paper → ℕ → ℕ
 consumed_of odd bytes told n = cond (is_refusal told) 0 (cond (eqb n (length (samples_in_lem odd bytes))) (length bytes) (2 * n - length (waiting odd)))
 
 -- ---- what a call leaves: `text` is what is written to the front of the room
@@ -43,10 +40,10 @@ pub record Intake (S : Type 0) : Type 0 where
   pub consumed : ℕ
   pub text : List ℕ
   pub state : S
-  pub odd : Odd
+  pub odd : Option ℕ
 
 -- the call's own bytes are those that it looks at; `empty` is what a call with no sample is answered with
-unfoldable pub intake_of : {S : Type 0} → Machine S Single Said → (S → Paper) → S → Odd → List ℕ → ℕ → Intake S
+unfoldable pub intake_of : {S : Type 0} → Machine S Single Said → (S → Paper) → S → Option ℕ → List ℕ → ℕ → Intake S
 intake_of {S} m empty s odd bytes places =
     let xs : List ℤ = samples_in_lem odd bytes in
     let told : Paper = told_to (empty s) (answers (listener m verdict) s xs) in
@@ -69,11 +66,11 @@ record_intake r bytes places = intake_of own_record empty_told r.demodulator r.o
 
 -- document 02 k): "The two programs .. stay at 48 kHz"
 abbrev pub fresh_receiving : Receiving
-fresh_receiving = record { demodulator = fresh 48000; odd = Nothing }
+fresh_receiving = record { demodulator = fresh 48000; odd = None }
 
-abbrev pub receipt_paper : Receipt → Paper
-receipt_paper (Refused why) = refusal (on_paper why)
-receipt_paper Admitted = nothing
+abbrev pub receipt_paper : Result Unit Refusal → Paper
+receipt_paper (Err why) = refusal (on_paper why)
+receipt_paper (Ok _) = nothing
 
 -- ---- what the functions promise
 abbrev pub NewSays : Receiving → Type 0

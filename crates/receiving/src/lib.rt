@@ -3,7 +3,7 @@
 
 ghost use Rattle.std.specs.Prelude.{◌≡◌};
 ghost use Rattle.receiving.specs.Hear.{NewSays, HearSays};
-ghost use Rattle.receiving.specs.Parts.{is_admitted_lem, looks_at};
+ghost use Rattle.receiving.specs.Parts.{looks_at};
 
 use demodulator::SoftDemodulator;
 use protocol::Refusal;
@@ -11,31 +11,17 @@ use protocol::Refusal;
 mod pairs;
 mod windows;
 
-// The last byte that was consumed, if it still waits for the second of its sample.
-#[derive(Clone, Copy)]
-pub enum Odd {
-    Nothing,
-    Held(u8),
-}
-
 #[derive(Clone, Copy)]
 pub struct Receiving {
     pub demodulator: SoftDemodulator,
-    pub odd: Odd,
-}
-
-// What bytes are answered with: the refusal of the first sample, or of the record where there is none.
-#[derive(Clone, Copy)]
-pub enum Receipt {
-    Refused(Refusal),
-    Admitted,
+    pub odd: Option<u8>,
 }
 
 // The first `consumed` of the bytes count as given, and the caller gives the others again.
 // The first `written` places of the lent room are the lines.
 #[derive(Clone, Copy)]
 pub struct AfterBytes {
-    pub answer: Receipt,
+    pub answer: Result<(), Refusal>,
     pub consumed: usize,
     pub written: usize,
     pub receiving: Receiving,
@@ -44,25 +30,14 @@ pub struct AfterBytes {
 // The most bytes that a call looks at. With a byte that waits they are 8,192 samples.
 const MOST_BYTES: usize = 16384;
 
-fn is_admitted(answer: Receipt) -> bool
-    ensures { result ≡ is_admitted_lem answer }
-{
-    match answer {
-        Receipt::Refused(_) => false,
-        Receipt::Admitted => true,
-    }
-}
-
 // How many bytes a call looks at. Without room for a line no sample can go in.
 fn look_at(bytes: usize, places: usize) -> usize
     ensures { result ≡ looks_at bytes places }
 {
     if places < windows::LINE {
         0
-    } else if bytes < MOST_BYTES {
-        bytes
     } else {
-        MOST_BYTES
+        bytes.min(MOST_BYTES)
     }
 }
 
@@ -74,7 +49,7 @@ impl Receiving {
         let demodulator = begun.demodulator;
         Receiving {
             demodulator,
-            odd: Odd::Nothing,
+            odd: None,
         }
     }
 
@@ -92,7 +67,7 @@ impl Receiving {
         let heard = windows::hear_samples(demodulator, &samples[..count], lines);
         let answer = heard.answer;
         let next = heard.demodulator;
-        if is_admitted(answer) && heard.fed == count {
+        if answer.is_ok() && heard.fed == count {
             let left_over = paired.odd;
             return AfterBytes {
                 answer,

@@ -3,13 +3,11 @@ ghost use Rattle.std.specs.Prelude.{◌*◌, ◌+◌, ◌≤◌, length};
 ghost use Rattle.receiving.specs.Hear.{most_samples};
 ghost use Rattle.receiving.specs.Parts.{PairsWhole, PairsUp, ConsumesPart};
 
-use crate::Odd;
-
 // How many samples there are, and the byte that is left over.
 #[derive(Clone, Copy)]
 pub(crate) struct Paired {
     pub count: usize,
-    pub odd: Odd,
+    pub odd: Option<u8>,
 }
 
 // Whole samples from the first byte on.
@@ -17,37 +15,28 @@ fn pair_whole(bytes: &[u8], samples: &mut [i16]) -> Paired
     requires { length bytes.now ≤ 2 * length samples.old + 1 }
     ensures { PairsWhole bytes.now samples.old result samples.new }
 {
-    let count = bytes.len() / 2;
-    let mut i: usize = 0;
-    while i < count {
-        let first = 2 * i;
-        let second = first + 1;
-        let sample = house::i16_of_bytes(bytes[first], bytes[second]);
-        samples[i] = sample;
-        i += 1;
+    let (pairs, rest) = bytes.as_chunks::<2>();
+    for (i, pair) in pairs.iter().enumerate() {
+        samples[i] = house::i16_of_bytes(pair[0], pair[1]);
     }
-    let end = 2 * count;
-    if end < bytes.len() {
-        let last = bytes[end];
-        return Paired {
+    let count = pairs.len();
+    match rest.first() {
+        Some(last) => Paired {
             count,
-            odd: Odd::Held(last),
-        };
-    }
-    Paired {
-        count,
-        odd: Odd::Nothing,
+            odd: Some(*last),
+        },
+        None => Paired { count, odd: None },
     }
 }
 
 // A byte that waits makes a sample with the first byte.
-pub(crate) fn pair_up(odd: Odd, bytes: &[u8], samples: &mut [i16]) -> Paired
+pub(crate) fn pair_up(odd: Option<u8>, bytes: &[u8], samples: &mut [i16]) -> Paired
     requires { length bytes.now ≤ 2 * length samples.old }
     ensures { PairsUp odd bytes.now samples.old result samples.new }
 {
     match odd {
-        Odd::Nothing => pair_whole(bytes, samples),
-        Odd::Held(low) => {
+        None => pair_whole(bytes, samples),
+        Some(low) => {
             if bytes.len() == 0 {
                 return Paired { count: 0, odd };
             }
@@ -68,10 +57,10 @@ pub(crate) fn pair_up(odd: Odd, bytes: &[u8], samples: &mut [i16]) -> Paired
 #[derive(Clone, Copy)]
 pub(crate) struct Part {
     pub consumed: usize,
-    pub odd: Odd,
+    pub odd: Option<u8>,
 }
 
-pub(crate) fn measure_part(odd: Odd, fed: usize) -> Part
+pub(crate) fn measure_part(odd: Option<u8>, fed: usize) -> Part
     requires { fed ≤ most_samples }
     ensures { ConsumesPart odd fed result }
 {
@@ -79,15 +68,9 @@ pub(crate) fn measure_part(odd: Odd, fed: usize) -> Part
         return Part { consumed: 0, odd };
     }
     let both = 2 * fed;
-    let but_one = both - 1;
-    match odd {
-        Odd::Nothing => Part {
-            consumed: both,
-            odd: Odd::Nothing,
-        },
-        Odd::Held(_) => Part {
-            consumed: but_one,
-            odd: Odd::Nothing,
-        },
+    let consumed = if odd.is_some() { both - 1 } else { both };
+    Part {
+        consumed,
+        odd: None,
     }
 }

@@ -5,56 +5,35 @@ ghost use Rattle.demodulator.specs.Calls.{heard_paper};
 ghost use Rattle.receiving.specs.Hear.{receipt_paper};
 ghost use Rattle.receiving.specs.Parts.{refused_after, is_accepted_lem, PutsLine, Roomy, HearsStretch, HearsAll};
 
-use crate::Receipt;
-use demodulator::{Heard, Reply, SoftDemodulator};
-use listening::Settled;
+use demodulator::{Offer, Reply, SoftDemodulator};
+use protocol::Refusal;
 
 // A line and its line feed.
 pub(crate) const LINE: usize = 97;
 
-// What comes of a stretch of samples, the last of which may bring an offer.
+// What comes of samples, of which `fed` went in: of a stretch, the last of which may bring an offer, or of all that a call gives.
 #[derive(Clone, Copy)]
-pub(crate) struct Stretch {
-    pub answer: Heard,
-    pub fed: usize,
-    pub written: usize,
-    pub demodulator: SoftDemodulator,
-}
-
-// `fed` counts the samples that went in.
-#[derive(Clone, Copy)]
-pub(crate) struct AfterSamples {
-    pub answer: Receipt,
+pub(crate) struct Heard<A> {
+    pub answer: A,
     pub fed: usize,
     pub written: usize,
     pub demodulator: SoftDemodulator,
 }
 
 // Once samples went in, a refusal is left to the call that gives the rest.
-fn give_receipt(answer: Heard, fed: usize) -> Receipt
+fn give_receipt(answer: Result<Option<Offer>, Refusal>, fed: usize) -> Result<(), Refusal>
     ensures { receipt_paper result ≡ refused_after fed (heard_paper answer) }
 {
     match answer {
-        Heard::Refused(why) => if fed == 0 {
-            Receipt::Refused(why)
-        } else {
-            Receipt::Admitted
-        },
-        Heard::Quiet => Receipt::Admitted,
-        Heard::Offered(_) => Receipt::Admitted,
+        Err(why) if fed == 0 => Err(why),
+        _ => Ok(()),
     }
 }
 
-fn is_accepted(settled: Settled) -> bool
+fn is_accepted(settled: Option<Reply>) -> bool
     ensures { result ≡ is_accepted_lem settled }
 {
-    match settled {
-        Settled::Nothing => false,
-        Settled::By(reply) => match reply {
-            Reply::Accepted => true,
-            Reply::Rejected => false,
-        },
-    }
+    matches!(settled, Some(Reply::Accepted))
 }
 
 fn put_line(window: [f32; 192], room: &mut [u8])
@@ -62,15 +41,11 @@ fn put_line(window: [f32; 192], room: &mut [u8])
     ensures { room.new ≡ line_of window ++ drop 97 room.old }
 {
     let line = house::symbols_line(window);
-    let mut i: usize = 0;
-    while i < LINE {
-        room[i] = line[i];
-        i += 1;
-    }
+    room[..LINE].copy_from_slice(&line);
 }
 
 // The line of a window that was accepted, and how many places it takes.
-fn put_settled(settled: Settled, window: [f32; 192], room: &mut [u8]) -> usize
+fn put_settled(settled: Option<Reply>, window: [f32; 192], room: &mut [u8]) -> usize
     requires { 97 ≤ length room.old }
     ensures { PutsLine settled window room.old result room.new }
 {
@@ -82,7 +57,11 @@ fn put_settled(settled: Settled, window: [f32; 192], room: &mut [u8]) -> usize
 }
 
 // The samples up to the first offer, which is settled, or up to one that would be refused.
-fn hear_stretch(demodulator: SoftDemodulator, samples: &[i16], room: &mut [u8]) -> Stretch
+fn hear_stretch(
+    demodulator: SoftDemodulator,
+    samples: &[i16],
+    room: &mut [u8],
+) -> Heard<Result<Option<Offer>, Refusal>>
     requires { 97 ≤ length room.old }
     ensures { HearsStretch demodulator samples.now room.old result room.new }
 {
@@ -92,7 +71,7 @@ fn hear_stretch(demodulator: SoftDemodulator, samples: &[i16], room: &mut [u8]) 
     let written = put_settled(settled, window, room);
     let answer = heard.answer;
     let left = heard.demodulator;
-    Stretch {
+    Heard {
         answer,
         fed: heard.fed,
         written,
@@ -105,14 +84,14 @@ pub(crate) fn hear_samples(
     demodulator: SoftDemodulator,
     samples: &[i16],
     lines: &mut [u8],
-) -> AfterSamples
+) -> Heard<Result<(), Refusal>>
     requires { Roomy samples.now lines.old }
     ensures { HearsAll demodulator samples.now lines.old result lines.new }
 {
     if samples.len() == 0 {
         let heard = listening::listen(demodulator, samples);
         let answer = heard.answer;
-        return AfterSamples {
+        return Heard {
             answer: give_receipt(answer, 0),
             fed: 0,
             written: 0,
@@ -122,6 +101,7 @@ pub(crate) fn hear_samples(
     let mut left = demodulator;
     let mut fed: usize = 0;
     let mut written: usize = 0;
+    // A turn takes the samples up to an offer, so no range gives the next one's place.
     while fed < samples.len() && LINE <= lines.len() - written {
         let heard = hear_stretch(left, &samples[fed..], &mut lines[written..]);
         let answer = heard.answer;
@@ -130,7 +110,7 @@ pub(crate) fn hear_samples(
         written += heard.written;
         fed += heard.fed;
         if !listening::is_offered(answer) {
-            return AfterSamples {
+            return Heard {
                 answer: told,
                 fed,
                 written,
@@ -138,8 +118,8 @@ pub(crate) fn hear_samples(
             };
         }
     }
-    AfterSamples {
-        answer: Receipt::Admitted,
+    Heard {
+        answer: Ok(()),
         fed,
         written,
         demodulator: left,

@@ -1,8 +1,8 @@
 -- The first offer from a sample on: those before it are passed over, and later numbers shift it. Assumes nothing.
+use Rattle.std.specs.Prelude.{Option, Some}
 use mathlib.Core.Path.{◌≡◌, refl}
 use mathlib.Core.Bool.{Bool, true, false, cond}
 use mathlib.Core.List.{List, [], ◌∷◌, ◌++◌, map}
-use mathlib.Core.Option.{Option, some}
 use Prim.Native.Nat.{ℕ, ◌+◌, ◌-◌, ◌^◌, ◌≤◌, ◌<◌}
 use native.Mathlib.Omega.{arith}
 use borrow.Author.Tests.{lt-ltb, le-ltb, ltb-true, ltb-false}
@@ -46,7 +46,7 @@ before_later s a d l = go (ltb s (a - d)) refl
     go false e = let u = ltb-false s (a - d) e in le-ltb (s + d) a (omega arith)
 
 found_later : (d : ℕ) (t : Bool) (x y : Option Listed) (o : Listed) → x ≡ later_found d y
-    → cond t x (some (later_listed d o)) ≡ later_found d (cond t y (some o))
+    → cond t x (Some (later_listed d o)) ≡ later_found d (cond t y (Some o))
 unfolding later_found
 found_later d true x y o e = e
 found_later d false x y o e = refl

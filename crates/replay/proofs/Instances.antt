@@ -1,4 +1,5 @@
 -- What the theorems ask is met: a recording with a pause, at each rate, and calls that are refused. Assumes nothing.
+use Rattle.std.specs.Prelude.{Err}
 use mathlib.Core.Path.{◌≡◌, refl, ◌∙◌}
 use mathlib.Core.List.{List, [], ◌∷◌, ◌++◌}
 use Prim.Native.Nat.{ℕ, ◌+◌, ◌^◌, ◌≤◌}
@@ -10,7 +11,6 @@ use lib.Ieee.{Float, binary32, of_bits}
 use Rattle.shaping.specs.Rate.{at48, at24}
 use Rattle.shaping.proofs.RateFacts.{facts48, facts24}
 use Rattle.protocol.specs.declared.Refusal.TheVariants.{RoomTooSmall, WrongRate, NoSuchSample}
-use Rattle.replay.specs.declared.Opened.TheVariants.{Refused}
 use Rattle.replay.specs.FullRun.{all_offers, first_from, later_found}
 use Rattle.replay.specs.Pauses.{PauseAt}
 use Rattle.replay.specs.Open.{OpenSays}
@@ -48,14 +48,14 @@ module _ (after : List ℤ) where
 abbrev room_of : ℕ → List Float
 room_of n = replicate n (of_bits binary32 0)
 
-refused_15 : OpenSays 44100 [] 0 (room_of 191) (Refused WrongRate) (room_of 191)
+refused_15 : OpenSays 44100 [] 0 (room_of 191) (Err WrongRate) (room_of 191)
 refused_15 = opens_15 44100 [] 0 (room_of 191) refl
 
-refused_4 : OpenSays 48000 [] 0 (room_of 191) (Refused RoomTooSmall) (room_of 191)
+refused_4 : OpenSays 48000 [] 0 (room_of 191) (Err RoomTooSmall) (room_of 191)
 refused_4 = opens_4 48000 [] 0 (room_of 191) refl (lit< tt)
 
-refused_14 : OpenSays 48000 [] 0 (room_of 192) (Refused NoSuchSample) (room_of 192)
+refused_14 : OpenSays 48000 [] 0 (room_of 192) (Err NoSuchSample) (room_of 192)
 refused_14 = opens_14_at_0 48000 [] 0 (room_of 192) refl (lit≤ tt) (lit≤ tt) refl
 
-refused_14_beyond : OpenSays 24000 (pos 0 ∷ []) 2 (room_of 192) (Refused NoSuchSample) (room_of 192)
+refused_14_beyond : OpenSays 24000 (pos 0 ∷ []) 2 (room_of 192) (Err NoSuchSample) (room_of 192)
 refused_14_beyond = opens_14_beyond 24000 (pos 0 ∷ []) 2 (room_of 192) refl (lit≤ tt) (lit≤ tt) (lit< tt)

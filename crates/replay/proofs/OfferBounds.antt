@@ -1,8 +1,8 @@
 -- An offer is due, and its candidate was taken, no later than the sample that brings it. By the rules, for samples of 16 bits. Assumes nothing.
+use Rattle.std.specs.Prelude.{Option, Some, None}
 use mathlib.Core.Path.{◌≡◌, subst}
 use mathlib.Core.Bool.{Bool, true, false, cond}
 use mathlib.Core.List.{List, [], ◌∷◌, ◌++◌}
-use mathlib.Core.Option.{some}
 use Prim.Native.Nat.{ℕ, ◌+◌, ◌^◌, ◌≤◌}
 use native.Mathlib.Omega.{arith}
 use lib.Dec.{T, ltb, leb, leb→le}
@@ -17,8 +17,6 @@ use Rattle.shaping.specs.Rate.{Rate}
 use Rattle.shaping.proofs.RateFacts.{Facts}
 use Rattle.search.specs.declared.Candidate.{Candidate}
 use Rattle.search.specs.declared.Waiting.{Waiting}
-use Rattle.search.specs.declared.Wait.{Wait}
-use Rattle.search.specs.declared.Wait.TheVariants.{Free, Due}
 use Rattle.search.specs.declared.Control.{Control}
 use Rattle.search.specs.declared.Turn.{Turn}
 use Rattle.search.specs.TakenBurst.{held_in}
@@ -56,10 +54,10 @@ module _ (p : ℕ) (v : ℕ → Float) (n : ℕ) where
   due_taken not_held t w c = tt
   due_taken (is_held u) t w c = leb→le u.taken_at n (and_r (leb 1 u.taken_at) (leb u.taken_at n) t)
 
-  waited_taken : (wait : Wait) (c : Control) → T (taken_fit_lem n c.candidate) → TakenBy (comes_to p v (waited_turn wait c))
+  waited_taken : (wait : Option Waiting) (c : Control) → T (taken_fit_lem n c.candidate) → TakenBy (comes_to p v (waited_turn wait c))
   unfolding waited_turn
-  waited_taken Free c t = tt
-  waited_taken (Due w) c t =
+  waited_taken None c t = tt
+  waited_taken (Some w) c t =
       by_test (λ (o : Turn). TakenBy (comes_to p v o)) (ltb 1 w.left) _ _ (λ _. tt) (λ _. due_taken (held_or_not c.candidate) t w (freed c))
 
   sampled_taken : (c : Control) → T (taken_fit_lem n c.candidate) → TakenBy (sampled p v c)
@@ -86,11 +84,11 @@ module _ (R : Rate) (F : Facts R) where
       (λ n k l o b. let u = b.due in let w = b.taken in record { due = omega arith; taken = omega arith })
       xs g start (fresh_at R, stands_start R F) 0 between_start (omega arith)
 
-pub found_bounded : (a n : ℕ) (os : List Listed) → Each (Bounded n) os → (o : Listed) → first_from a os ≡ some o → Bounded n o
+pub found_bounded : (a n : ℕ) (os : List Listed) → Each (Bounded n) os → (o : Listed) → first_from a os ≡ Some o → Bounded n o
 unfolding first_from Each
 found_bounded a n [] e o f = let z : ◌≡◌ {A = ℕ} 0 1 = cc in absurd (omega arith)
 found_bounded a n (p ∷ os) e o f = go (ltb p.due.sample a) f (λ g. found_bounded a n os e.1 o g)
   where
-    go : (t : Bool) → cond t (first_from a os) (some p) ≡ some o → (first_from a os ≡ some o → Bounded n o) → Bounded n o
+    go : (t : Bool) → cond t (first_from a os) (Some p) ≡ Some o → (first_from a os ≡ Some o → Bounded n o) → Bounded n o
     go true f rest = rest f
     go false f rest = let same : p ≡ o = cc in subst (Bounded n) same e.0

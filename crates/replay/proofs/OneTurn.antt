@@ -1,19 +1,17 @@
 -- One turn of listening to the part: its offer is found, or it is passed over and the rest goes on. Over the record. Assumes nothing.
+use Rattle.std.specs.Prelude.{Option, Some, None}
 use mathlib.Core.Path.{◌≡◌, refl, sym, ap, ◌∙◌}
 use mathlib.Core.Bool.{Bool, true, false, cond, false≢true, true≢false}
 use mathlib.Core.List.{List, [], ◌++◌, flat_map}
-use mathlib.Core.Option.{some}
-use Prim.Native.Nat.{ℕ, ◌≤◌, ◌<◌}
+use Prim.Native.Nat.{ℕ, ◌≤◌}
 use native.Mathlib.Omega.{arith}
-use borrow.Author.Tests.{lt-ltb, le-ltb}
 use lib.Dec.{ltb}
 use lib.IntN.{ℤ}
 use lib.ListN.{length, drop, drop_of_length-le}
 use lib.Ieee.{Float}
+use Rattle.std.specs.Option.{is_some}
 use Rattle.machine.specs.Runs.{answers}
 use Rattle.demodulator.specs.declared.SoftDemodulator.{SoftDemodulator}
-use Rattle.demodulator.specs.declared.Heard.{Heard}
-use Rattle.demodulator.specs.declared.Heard.TheVariants.{Offered}
 use Rattle.demodulator.specs.declared.Offer.{Offer}
 use Rattle.demodulator.specs.Calls.{Paper, refusal, nothing, frame, done, carrier, heard_paper}
 use Rattle.demodulator.specs.Feed.{Stretch}
@@ -23,22 +21,25 @@ use Rattle.listening.specs.Verdict.{verdict}
 use Rattle.listening.specs.Listen.{is_offer, stretch_of, left_by_stretch, ListenSays}
 use Rattle.listening.proofs.FirstSample.{record_offers}
 use Rattle.listening.proofs.Stretches.{goes, offers_on, listed_none}
-use Rattle.replay.specs.declared.part.Found.TheVariants.{Nothing, At}
 use Rattle.replay.specs.FullRun.{first_from}
 use Rattle.replay.specs.Part.{is_found_lem, found_from, none_due, finding, found_in}
+
+pub found_some : (found : Option Offer) → is_found_lem found ≡ is_some found
+found_some None = refl
+found_some (Some o) = refl
 
 -- ---- by the answer; `rest` are the offers after it
 module _ (a : ℕ) (room : List Float) (rest : List Listed) where
   abbrev due : Offer → Listed
   due o = record { due = o; symbols = room; reply = verdict o.kind room }
 
-  offer_found : (o : Offer) (b : Bool) → is_found_lem (cond b Nothing (At o)) ≡ true
-      → found_in (cond b Nothing (At o)) room ≡ finding (cond b (first_from a rest) (some (due o)))
+  offer_found : (o : Offer) (b : Bool) → is_found_lem (cond b None (Some o)) ≡ true
+      → found_in (cond b None (Some o)) room ≡ finding (cond b (first_from a rest) (Some (due o)))
   unfolding finding
   offer_found o true e = absurd (false≢true e)
   offer_found o false e = refl
 
-  offer_passed : (o : Offer) (b : Bool) → is_found_lem (cond b Nothing (At o)) ≡ false → cond b (first_from a rest) (some (due o)) ≡ first_from a rest
+  offer_passed : (o : Offer) (b : Bool) → is_found_lem (cond b None (Some o)) ≡ false → cond b (first_from a rest) (Some (due o)) ≡ first_from a rest
   offer_passed o true e = refl
   offer_passed o false e = absurd (true≢false e)
 
@@ -86,16 +87,6 @@ module _ (a : ℕ) (m : SoftDemodulator) (xs : List ℤ) (some_left : 1 ≤ leng
 
   pub turn_moves : is_offer (heard_paper r.answer) ≡ true → 1 ≤ r.fed
   turn_moves o = let e = L.feeds in omega (arith, (goes m xs some_left).moves (rw L.answers at o))
-
--- ---- an offer's sample
-module _ (a : ℕ) (o : Offer) (answer : Heard) (e : answer ≡ Offered o) where
-  pub found_before : o.sample < a → Nothing ≡ found_from a (heard_paper answer)
-  unfolding found_from
-  found_before l = rw (e, lt-ltb o.sample a l)
-
-  pub found_after : a ≤ o.sample → At o ≡ found_from a (heard_paper answer)
-  unfolding found_from
-  found_after l = rw (e, le-ltb o.sample a l)
 
 -- ---- no sample is left
 pub none_left : (a : ℕ) (m : SoftDemodulator) (xs : List ℤ) (n : ℕ) → length xs ≤ n → finding (first_from a (record_offers m (drop n xs))) ≡ none_due

@@ -1,12 +1,10 @@
 -- Document 02 i): what opening a replay answers, and what the room then holds. The full run decides, and no pause is named. Assumes nothing.
-use Rattle.std.specs.Prelude.{◌≡◌, not, cond, ◌||◌, List, ◌++◌, ℕ, ◌^◌, eqb, ltb, ℤ, length, drop, Float}
-use Rattle.std.proofs.Math.Option.{Option, none, some}
+use Rattle.protocol.specs.declared.Refusal.{Refusal}
+use Rattle.std.specs.Prelude.{◌≡◌, not, cond, ◌||◌, List, ◌++◌, ℕ, ◌^◌, eqb, ltb, ℤ, length, drop, Float, Some, None, Result, Ok, Err, Option}
 use Rattle.shaping.specs.Rate.{rate_fit, rate_of}
 use Rattle.protocol.specs.Refusals.{PaperRefusal, bare, on_paper}
 use Rattle.demodulator.specs.declared.Offer.{Offer}
 use Rattle.listening.specs.Listener.{Listed}
-use Rattle.replay.specs.declared.Opened.{Opened}
-use Rattle.replay.specs.declared.Opened.TheVariants.{Refused, Nothing, Found}
 use Rattle.replay.specs.FullRun.{all_offers, first_from}
 
 -- ---- the answer on paper
@@ -15,10 +13,10 @@ pub data Paper : Type 0 where
   no_offer : Paper
   offered : Offer → Paper
 
-abbrev pub opened_paper : Opened → Paper
-opened_paper (Refused why) = refusal (on_paper why)
-opened_paper Nothing = no_offer
-opened_paper (Found o) = offered o
+abbrev pub opened_paper : Result (Option Offer) Refusal → Paper
+opened_paper (Err why) = refusal (on_paper why)
+opened_paper (Ok None) = no_offer
+opened_paper (Ok (Some o)) = offered o
 
 -- ---- what the call leaves
 pub record Left : Type 0 where
@@ -31,8 +29,8 @@ refused number room = record { answer = refusal (bare number); room = room }
 -- "with kind, symbols and its number in the recording, or that there is none"; "The room is written only with that offer", its first 192
 -- places only
 unfoldable pub shows : Option Listed → List Float → Left
-shows none room = record { answer = no_offer; room = room }
-shows (some o) room = record { answer = offered o.due; room = o.symbols ++ drop 192 room }
+shows None room = record { answer = no_offer; room = room }
+shows (Some o) room = record { answer = offered o.due; room = o.symbols ++ drop 192 room }
 
 -- k): "15, any rate but the two, checked first". i): "4 for the room, as before; 5, a recording above 2^63 samples; 14, sample number 0
 -- or beyond the recording's end"
@@ -45,6 +43,6 @@ opened rate xs a room =
     (shows (first_from a (all_offers (rate_of rate) xs)) room))))
 
 -- ---- what the function promises
-pub record OpenSays (rate : ℕ) (xs : List ℤ) (a : ℕ) (room : List Float) (r : Opened) (after : List Float) : Type 0 where
+pub record OpenSays (rate : ℕ) (xs : List ℤ) (a : ℕ) (room : List Float) (r : Result (Option Offer) Refusal) (after : List Float) : Type 0 where
   pub answers : opened_paper r ≡ (opened rate xs a room).answer
   pub writes : after ≡ (opened rate xs a room).room

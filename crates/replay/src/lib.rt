@@ -6,20 +6,10 @@ ghost use Rattle.silence.specs.Later.{later_offer};
 ghost use Rattle.replay.specs.Open.{OpenSays};
 
 use demodulator::Offer;
-use part::Found as InPart;
 use protocol::Refusal;
 
 mod part;
 mod pause;
-
-// What opening is answered with: no offer is due from the sample on, or the first one, numbered in the recording. Its symbols are in the
-// caller's room.
-#[derive(Clone, Copy)]
-pub enum Opened {
-    Refused(Refusal),
-    Nothing,
-    Found(Offer),
-}
 
 // The pause that clears the receiver, for each sample in a symbol: 4,000 zeros at 48 kHz, 2,000 at 24 kHz.
 const PAUSE: usize = 400;
@@ -28,11 +18,7 @@ fn write_window(window: [f32; 192], room: &mut [f32])
     requires { 192 ≤ length room.old }
     ensures { room.new ≡ window ++ drop 192 room.old }
 {
-    let mut i: usize = 0;
-    while i < 192 {
-        room[i] = window[i];
-        i += 1;
-    }
+    room[..192].copy_from_slice(&window);
 }
 
 // An offer of the part that begins after `start` samples, numbered in the recording.
@@ -55,24 +41,29 @@ fn number_in_whole(offer: Offer, start: usize) -> Offer
 
 // The first offer due at sample `sample` of the recording or after it. A fresh receiver hears the part after the last pause that ends before that
 // sample, and is answered by the receive program's rule.
-pub fn open(rate: u32, recording: &[i16], sample: u64, room: &mut [f32]) -> Opened
+pub fn open(
+    rate: u32,
+    recording: &[i16],
+    sample: u64,
+    room: &mut [f32],
+) -> Result<Option<Offer>, Refusal>
     ensures { OpenSays rate recording.now sample room.old result room.new }
 {
     if !shaping::is_rate(rate) {
-        return Opened::Refused(Refusal::WrongRate);
+        return Err(Refusal::WrongRate);
     }
     if room.len() < 192 {
-        return Opened::Refused(Refusal::RoomTooSmall);
+        return Err(Refusal::RoomTooSmall);
     }
     // No slice is so long; the document has the refusal.
     if 9223372036854775808 < recording.len() {
-        return Opened::Refused(Refusal::CountAtItsEnd);
+        return Err(Refusal::CountAtItsEnd);
     }
     if sample == 0 {
-        return Opened::Refused(Refusal::NoSuchSample);
+        return Err(Refusal::NoSuchSample);
     }
     if (recording.len() as u64) < sample {
-        return Opened::Refused(Refusal::NoSuchSample);
+        return Err(Refusal::NoSuchSample);
     }
     numbers::all_sixteen(recording);
     let before = sample as usize - 1;
@@ -80,13 +71,9 @@ pub fn open(rate: u32, recording: &[i16], sample: u64, room: &mut [f32]) -> Open
     let start = pause::find_pause(recording, span, before);
     let asked = sample - start as u64;
     let first = part::find_offer(rate, &recording[start..], asked);
-    let found = first.found;
-    let window = first.window;
-    match found {
-        InPart::Nothing => Opened::Nothing,
-        InPart::At(offer) => {
-            write_window(window, room);
-            Opened::Found(number_in_whole(offer, start))
-        }
-    }
+    let Some(offer) = first.found else {
+        return Ok(None);
+    };
+    write_window(first.window, room);
+    Ok(Some(number_in_whole(offer, start)))
 }

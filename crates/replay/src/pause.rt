@@ -7,14 +7,10 @@ fn find_sound(samples: &[i16], from: usize, end: usize) -> usize
     requires { (from ≤ end) × (end ≤ length samples.now) }
     ensures { FirstSound samples.now from end result }
 {
-    let mut i = from;
-    while i < end {
-        if samples[i] != 0 {
-            return i;
-        }
-        i += 1;
+    match samples[from..end].iter().position(|sample| *sample != 0) {
+        Some(zeros) => from + zeros,
+        None => end,
     }
-    end
 }
 
 // How many samples there are up to the end of the last stretch of `span` zeros, of those that end with `most` samples or fewer; 0 where
@@ -25,6 +21,7 @@ pub(crate) fn find_pause(samples: &[i16], span: usize, most: usize) -> usize
     ensures { LastPause span samples.now most result }
 {
     let mut end = most;
+    // A turn goes back to the sample that it found, so no range gives the next end.
     while span <= end {
         let from = end - span;
         let at = find_sound(samples, from, end);

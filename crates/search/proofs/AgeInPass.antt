@@ -1,7 +1,7 @@
 -- What a pass over the four kinds leaves alone, and that it raises an age by one at most: at most one of the kinds matches eight values in range. Assumes nothing.
+use Rattle.std.specs.Prelude.{Option, None, Some}
 use mathlib.Core.Path.{◌≡◌, refl, ap, ◌∙◌}
 use mathlib.Core.Bool.{Bool, true, false, cond}
-use mathlib.Core.Option.{Option, none, some}
 use Prim.Native.Nat.{ℕ, ◌+◌, ◌^◌, ◌≤◌, ◌<◌}
 use native.Mathlib.Nat.{le_refl}
 use native.Mathlib.Omega.{arith}
@@ -41,8 +41,8 @@ pub record Missed (c d : Control) : Type 0 where
 
 pub missed_keeps : (p : ℕ) (kind : Kind) (held : Option TakenBurst) (c : Control) → Missed c (missed p kind held c)
 unfolding missed
-missed_keeps p kind none c = record { candidate = refl; owed = refl; sample = refl }
-missed_keeps p kind (some t) c =
+missed_keeps p kind None c = record { candidate = refl; owed = refl; sample = refl }
+missed_keeps p kind (Some t) c =
     by_test (Missed c) (same_kind t.kind kind) _ _ (λ e. record { candidate = refl; owed = refl; sample = refl }) (λ e. record { candidate = refl; owed = refl; sample = refl })
 
 pub record Hit (c d : Control) : Type 0 where
@@ -51,8 +51,8 @@ pub record Hit (c d : Control) : Type 0 where
 
 pub matched_keeps : (held : Option TakenBurst) (new : TakenBurst) (c : Control) → Hit c (matched held new c)
 unfolding matched
-matched_keeps none new c = record { owed = refl; sample = refl }
-matched_keeps (some t) new c = by_test (Hit c) (lt t.diff new.diff) _ _ (λ e. record { owed = refl; sample = refl }) (λ e. record { owed = refl; sample = refl })
+matched_keeps None new c = record { owed = refl; sample = refl }
+matched_keeps (Some t) new c = by_test (Hit c) (lt t.diff new.diff) _ _ (λ e. record { owed = refl; sample = refl }) (λ e. record { owed = refl; sample = refl })
 
 tried_sample : (p : ℕ) (v : ℕ → Float) (kind : Kind) (c : Control) → (tried p v kind c).sample ≡ c.sample
 unfolding tried

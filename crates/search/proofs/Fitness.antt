@@ -1,4 +1,5 @@
 -- What a fit control is known to be, clause by clause. Assumes nothing.
+use Rattle.std.specs.Prelude.{Option, Some}
 use mathlib.Core.Path.{◌≡◌, refl, subst}
 use mathlib.Core.Bool.{Bool, true, false, not, ◌&&◌}
 use Prim.Native.Nat.{ℕ, ◌+◌, ◌*◌, ◌^◌, ◌≤◌, ◌<◌}
@@ -9,10 +10,6 @@ use Rattle.numbers.proofs.Tests.{holds}
 use Rattle.search.specs.declared.Candidate.{Candidate}
 use Rattle.search.specs.declared.Candidate.TheVariants.{Nothing}
 use Rattle.search.specs.declared.Waiting.{Waiting}
-use Rattle.search.specs.declared.Wait.{Wait}
-use Rattle.search.specs.declared.Wait.TheVariants.{Due}
-use Rattle.search.specs.declared.Timer.{Timer}
-use Rattle.search.specs.declared.Timer.TheVariants.{Until}
 use Rattle.search.specs.declared.Control.{Control}
 use Rattle.search.specs.TakenBurst.{TakenBurst, held_as}
 use Rattle.search.specs.Search.{age_of}
@@ -33,12 +30,12 @@ pub record WaitFacts (p left : ℕ) (candidate : Candidate) (owed : Bool) : Type
 
 pub record ControlFacts (p : ℕ) (c : Control) : Type 0 where
   pub count : c.sample ≤ 2 ^ 63
-  pub timer : (end : ℕ) → c.dcd ≡ Until end → end ≤ 2 ^ 63 + 384 * p
+  pub timer : (end : ℕ) → c.dcd ≡ Some end → end ≤ 2 ^ 63 + 384 * p
   pub candidate : (t : TakenBurst) → c.candidate ≡ held_as t → HeldFacts t
-  pub wait : (w : Waiting) → c.wait ≡ Due w → WaitFacts p w.left c.candidate c.owed
+  pub wait : (w : Waiting) → c.wait ≡ Some w → WaitFacts p w.left c.candidate c.owed
   pub reply : c.owed ≡ true → c.candidate ≡ Nothing
   pub taken : (t : TakenBurst) → c.candidate ≡ held_as t → (1 ≤ t.taken_at) × (t.taken_at ≤ c.sample)
-  pub kept : (w : Waiting) → c.wait ≡ Due w → 1 ≤ w.age
+  pub kept : (w : Waiting) → c.wait ≡ Some w → 1 ≤ w.age
 
 -- ---- tests
 pub both : (a b : Bool) → T (a && b) → T a × T b
@@ -53,7 +50,7 @@ held_facts t fit =
     let ages = both (leb 1 t.age) (leb t.age 254) (and_l (age_fit t.age) (diff_fit t.diff) two) in
     record { age_from = leb→le 1 t.age ages.0; age_to = leb→le t.age 254 ages.1 }
 
-wait_facts : (p : ℕ) (w : Waiting) (candidate : Candidate) (owed : Bool) → T (wait_fit_lem p (Due w) candidate owed) → WaitFacts p w.left candidate owed
+wait_facts : (p : ℕ) (w : Waiting) (candidate : Candidate) (owed : Bool) → T (wait_fit_lem p (Some w) candidate owed) → WaitFacts p w.left candidate owed
 unfolding wait_fit_lem
 wait_facts p w candidate owed t =
     let all = both (leb 1 w.left && ltb w.left (184 * p) && held candidate) (not owed) t in
@@ -82,12 +79,12 @@ control_facts p c t =
     let s = clauses p c t in
     record {
       count = leb→le c.sample (2 ^ 63) s.count;
-      timer = λ end e. leb→le end (2 ^ 63 + 384 * p) (subst (λ (o : Timer). T (timer_fit_lem p o)) e s.timer);
+      timer = λ end e. leb→le end (2 ^ 63 + 384 * p) (subst (λ (o : Option ℕ). T (timer_fit_lem p o)) e s.timer);
       candidate = λ t e. held_facts t (subst (λ (o : Candidate). T (candidate_fit_lem o)) e s.candidate);
-      wait = λ w e. wait_facts p w c.candidate c.owed (subst (λ (o : Wait). T (wait_fit_lem p o c.candidate c.owed)) e s.wait);
+      wait = λ w e. wait_facts p w c.candidate c.owed (subst (λ (o : Option Waiting). T (wait_fit_lem p o c.candidate c.owed)) e s.wait);
       reply = reply_fact c.owed (held_or_not c.candidate) s.reply;
       taken = λ t e. taken_fact c.sample t (subst (λ (o : Candidate). T (taken_fit_lem c.sample o)) e s.taken);
-      kept = λ w e. leb→le 1 w.age (subst (λ (o : Wait). T (kept_fit_lem o)) e s.kept);
+      kept = λ w e. leb→le 1 w.age (subst (λ (o : Option Waiting). T (kept_fit_lem o)) e s.kept);
     }
 
 pub age_most : {candidate : Candidate} → HeldOrNot candidate → T (candidate_fit_lem candidate) → age_of candidate ≤ 254

@@ -1,10 +1,10 @@
 -- What a sample comes to, by the wait that the control holds, and that readers that agree at the eight places lead to the same. Assumes nothing.
+use Rattle.std.specs.Prelude.{Some, None}
 use mathlib.Core.Path.{◌≡◌, refl, ap}
 use Prim.Native.Nat.{ℕ, ◌+◌, ◌≤◌, ◌<◌}
 use lib.Ieee.{Float}
 use borrow.Author.Tests.{lt-ltb, le-ltb}
 use Rattle.search.specs.declared.Waiting.{Waiting}
-use Rattle.search.specs.declared.Wait.TheVariants.{Free, Due}
 use Rattle.search.specs.declared.Control.{Control}
 use Rattle.search.specs.declared.Turn.{Turn}
 use Rattle.search.specs.declared.Turn.TheVariants.{Rest, Offer, Look}
@@ -15,11 +15,11 @@ use Rattle.search.proofs.SearchSame.{searched_same}
 
 -- ---- by the wait
 module _ (p : ℕ) (v : ℕ → Float) (c : Control) where
-  pub sampled_free : c.wait ≡ Free → sampled p v c ≡ quiet (searched p v (counted c))
+  pub sampled_free : c.wait ≡ None → sampled p v c ≡ quiet (searched p v (counted c))
   unfolding sampled waited_turn
   sampled_free e = rw e
 
-  module _ (w : Waiting) (e : c.wait ≡ Due w) where
+  module _ (w : Waiting) (e : c.wait ≡ Some w) where
     pub sampled_rest : 1 < w.left → sampled p v c ≡ quiet (waiting_on (nearer w) (counted c))
     unfolding sampled waited_turn
     sampled_rest l = rw (e, lt-ltb 1 w.left l)

@@ -1,12 +1,11 @@
 -- A fit control stays fit while a sample is counted, and where a wait ends. Assumes nothing.
+use Rattle.std.specs.Prelude.{Option, Some, None}
 use mathlib.Core.Bool.{Bool, true, false, not, ◌&&◌}
 use Prim.Native.Nat.{ℕ, ◌+◌, ◌^◌, ◌≤◌, ◌<◌}
 use native.Mathlib.Omega.{arith}
 use lib.Dec.{T, leb, ltb, le→leb}
 use lib.Ieee.Fits.{and_i}
 use Rattle.search.specs.declared.Candidate.{Candidate}
-use Rattle.search.specs.declared.Timer.{Timer}
-use Rattle.search.specs.declared.Timer.TheVariants.{Off, Until}
 use Rattle.search.specs.declared.Control.{Control}
 use Rattle.search.specs.Turn.{cleared, counted, freed, owing}
 use Rattle.search.specs.TakenBurst.{TakenBurst, held_as}
@@ -17,10 +16,10 @@ use Rattle.search.proofs.Fitness.{taken_fact}
 use Rattle.search.proofs.AgeInPass.{by_test}
 
 -- ---- the timer
-pub cleared_fit : (p count : ℕ) (timer : Timer) → T (timer_fit_lem p timer) → T (timer_fit_lem p (cleared count timer))
+pub cleared_fit : (p count : ℕ) (timer : Option ℕ) → T (timer_fit_lem p timer) → T (timer_fit_lem p (cleared count timer))
 unfolding cleared
-cleared_fit p count Off t = tt
-cleared_fit p count (Until end) t = by_test (λ (o : Timer). T (timer_fit_lem p o)) (ltb end count) Off (Until end) (λ e. tt) (λ e. t)
+cleared_fit p count None t = tt
+cleared_fit p count (Some end) t = by_test (λ (o : Option ℕ). T (timer_fit_lem p o)) (ltb end count) None (Some end) (λ e. tt) (λ e. t)
 
 -- ---- the candidate: the count rises, so a taken-at stays within it
 pub taken_within : (count : ℕ) (t : TakenBurst) → 1 ≤ t.taken_at → t.taken_at ≤ count → T (taken_fit_lem count (held_as t))

@@ -1,6 +1,5 @@
 -- A candidate that is held, as one record: what the rules say of one, they say of this. Assumes nothing.
-use Rattle.std.specs.Prelude.{Bool, ℕ, ◌+◌, min, Float}
-use Rattle.std.proofs.Math.Option.{Option, none, some}
+use Rattle.std.specs.Prelude.{Bool, ℕ, ◌+◌, min, Float, Option, None, Some}
 use Rattle.protocol.specs.declared.Kind.{Kind}
 use Rattle.decode.specs.declared.Correlation.{Correlation}
 use Rattle.search.specs.declared.Candidate.{Candidate}
@@ -21,8 +20,8 @@ abbrev pub held_as : TakenBurst → Candidate
 held_as t = Held t.kind t.age t.diff t.gain t.shift t.taken_at
 
 abbrev pub held_in : Candidate → Option TakenBurst
-held_in Nothing = none
-held_in (Held kind age diff gain shift since) = some (record { kind = kind; age = age; diff = diff; gain = gain; shift = shift; taken_at = since })
+held_in Nothing = None
+held_in (Held kind age diff gain shift since) = Some (record { kind = kind; age = age; diff = diff; gain = gain; shift = shift; taken_at = since })
 
 abbrev pub held_by : Control → Option TakenBurst
 held_by c = held_in c.candidate

@@ -1,13 +1,8 @@
 -- Document 01, 'The receiver': what a sample and a reply do to the control. A sample's turn reads no value;
 -- what it comes to is over p and the eight values that the correlator is given then. Assumes nothing.
-use Rattle.std.specs.Prelude.{Bool, true, false, cond, ℕ, ◌+◌, ◌-◌, ltb, Float}
-use Rattle.std.proofs.Math.Option.{Option, none, some}
+use Rattle.std.specs.Prelude.{Bool, true, false, cond, ℕ, ◌+◌, ◌-◌, ltb, Float, Some, None, Option}
 use Rattle.search.specs.declared.Candidate.TheVariants.{Nothing}
 use Rattle.search.specs.declared.Waiting.{Waiting}
-use Rattle.search.specs.declared.Wait.{Wait}
-use Rattle.search.specs.declared.Wait.TheVariants.{Free, Due}
-use Rattle.search.specs.declared.Timer.{Timer}
-use Rattle.search.specs.declared.Timer.TheVariants.{Off, Until}
 use Rattle.search.specs.declared.Control.{Control}
 use Rattle.search.specs.declared.Shown.{Shown}
 use Rattle.search.specs.declared.Turn.{Turn}
@@ -18,9 +13,9 @@ use Rattle.search.specs.TakenBurst.{TakenBurst, held_by, shown_of}
 use Rattle.search.specs.Search.{searched}
 
 -- ---- "store, count, clear the carrier timer if the count is above its end"
-unfoldable pub cleared : ℕ → Timer → Timer
-cleared count Off = Off
-cleared count (Until end) = cond (ltb end count) Off (Until end)
+unfoldable pub cleared : ℕ → Option ℕ → Option ℕ
+cleared count None = None
+cleared count (Some end) = cond (ltb end count) None (Some end)
 
 -- the count of a sample's number n
 abbrev pub counted_to : ℕ → Control → Control
@@ -35,10 +30,10 @@ abbrev pub nearer : Waiting → Waiting
 nearer w = record { left = w.left - 1; age = w.age; replaced = w.replaced }
 
 abbrev pub waiting_on : Waiting → Control → Control
-waiting_on w c = record { candidate = c.candidate; wait = Due w; dcd = c.dcd; owed = c.owed; sample = c.sample }
+waiting_on w c = record { candidate = c.candidate; wait = Some w; dcd = c.dcd; owed = c.owed; sample = c.sample }
 
 abbrev pub freed : Control → Control
-freed c = record { candidate = Nothing; wait = Free; dcd = c.dcd; owed = c.owed; sample = c.sample }
+freed c = record { candidate = Nothing; wait = None; dcd = c.dcd; owed = c.owed; sample = c.sample }
 
 abbrev pub owing : Bool → Control → Control
 owing owed c = record { candidate = c.candidate; wait = c.wait; dcd = c.dcd; owed = owed; sample = c.sample }
@@ -46,13 +41,13 @@ owing owed c = record { candidate = c.candidate; wait = c.wait; dcd = c.dcd; owe
 -- ---- the turn of a sample: it rests, its frame is offered, or it is searched
 -- "At 0 the wait and the candidate are removed and a frame is due."; document 02 b): "a due sample is now always an offer"
 unfoldable pub due_turn : Option TakenBurst → Waiting → Control → Turn
-due_turn none w c = Look c
-due_turn (some t) w c = Offer (shown_of t w.age w.replaced) (owing true c)
+due_turn None w c = Look c
+due_turn (Some t) w c = Offer (shown_of t w.age w.replaced) (owing true c)
 
 -- "If a wait is held, take one from it; while more than 0 is left the sample is finished, with no search."
-unfoldable pub waited_turn : Wait → Control → Turn
-waited_turn Free c = Look c
-waited_turn (Due w) c = cond (ltb 1 w.left) (Rest (waiting_on (nearer w) c)) (due_turn (held_by c) w (freed c))
+unfoldable pub waited_turn : Option Waiting → Control → Turn
+waited_turn None c = Look c
+waited_turn (Some w) c = cond (ltb 1 w.left) (Rest (waiting_on (nearer w) c)) (due_turn (held_by c) w (freed c))
 
 -- of the sample whose number is n
 abbrev pub turn_of : ℕ → Control → Turn

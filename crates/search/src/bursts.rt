@@ -3,11 +3,11 @@ ghost use Rattle.std.specs.Prelude.{◌≡◌, ◌*◌, ◌-◌};
 ghost use Rattle.std.specs.Float.Ieee.{lt};
 ghost use Rattle.decode.specs.Correlator.{threshold};
 ghost use Rattle.search.specs.TakenBurst.{held_in, held_by, taken, older};
-ghost use Rattle.search.specs.Search.{rank, end_after_lem, marked, matched, missed};
+ghost use Rattle.search.specs.Search.{end_after_lem, marked, matched, missed};
 ghost use Rattle.search.specs.Parts.{Carries, Tries};
 ghost use Rattle.search.specs.Promises.{SearchedSays};
 
-use crate::{Candidate, Control, FRAME_CARRIER, FRAME_REST, Timer, Wait, Waiting, fit};
+use crate::{Candidate, Control, FRAME_CARRIER, FRAME_REST, Waiting, fit};
 use decode::{Correlation, SYNC_MIN_GAIN};
 use protocol::{Kind, SyncBurst};
 
@@ -23,78 +23,37 @@ fn is_match(m: Correlation) -> bool
     m.diff < SYNC_THRESHOLD
 }
 
-// `u64::saturating_add`: an end stops at the last number.
-fn end_after(count: u64, span: u64) -> u64
-    ensures { result ≡ end_after_lem count span }
-{
-    if count > u64::MAX - span {
-        u64::MAX
-    } else {
-        count + span
-    }
-}
-
-// `u8::saturating_add` of one.
-fn older(age: u8) -> u8
-    ensures { result ≡ older age }
-{
-    if age < 255 { age + 1 } else { age }
-}
-
 // The first part's turn of one burst: a match sets the timer, even to a sooner end.
 fn set_timer(p: u8, control: Control, m: Correlation) -> Control
     ensures { Carries p m control result }
 {
     if is_match(m) {
-        let candidate = control.candidate;
-        let wait = control.wait;
         let span = BURST_CARRIER * (p as u64);
-        let end = end_after(control.sample, span);
+        let end = control.sample.saturating_add(span);
         return Control {
-            candidate,
-            wait,
-            dcd: Timer::Until(end),
-            owed: control.owed,
-            sample: control.sample,
+            dcd: Some(end),
+            ..control
         };
     }
     control
 }
 
-// A kind is told from another by its place in the order of trial.
-fn rank(kind: Kind) -> u8
-    ensures { result ≡ rank kind }
-{
-    match kind {
-        Kind::Lsf => 0,
-        Kind::Bert => 1,
-        Kind::Stream => 2,
-        Kind::Packet => 3,
-    }
-}
-
 // A candidate is taken while a wait is held: the wait is marked.
-fn mark_wait(wait: Wait) -> Wait
+#[tactic(auto, unfolding(crate::specs::Search::marked))]
+fn mark_wait(wait: Option<Waiting>) -> Option<Waiting>
     ensures { result ≡ marked wait }
 {
-    match wait {
-        Wait::Free => wait,
-        Wait::Due(w) => Wait::Due(Waiting {
-            left: w.left,
-            age: w.age,
-            replaced: true,
-        }),
-    }
+    wait.map(|w| Waiting {
+        replaced: true,
+        ..w
+    })
 }
 
 // A match: the held candidate is a sample older, or a new one is taken.
+#[tactic(auto, unfolding(crate::specs::Search::matched))]
 fn age_or_take(control: Control, kind: Kind, m: Correlation) -> Control
     ensures { result ≡ matched (held_by control) (taken kind m control.sample) control }
 {
-    let candidate = control.candidate;
-    let wait = control.wait;
-    let marked = mark_wait(wait);
-    let dcd = control.dcd;
     if let Candidate::Held {
         kind: k,
         age,
@@ -102,23 +61,19 @@ fn age_or_take(control: Control, kind: Kind, m: Correlation) -> Control
         gain,
         shift,
         taken_at,
-    } = candidate
+    } = control.candidate
     {
         if diff < m.diff {
-            let aged = older(age);
             return Control {
                 candidate: Candidate::Held {
                     kind: k,
-                    age: aged,
+                    age: age.saturating_add(1),
                     diff,
                     gain,
                     shift,
                     taken_at,
                 },
-                wait,
-                dcd,
-                owed: control.owed,
-                sample: control.sample,
+                ..control
             };
         }
     }
@@ -131,10 +86,8 @@ fn age_or_take(control: Control, kind: Kind, m: Correlation) -> Control
             shift: m.shift,
             taken_at: control.sample,
         },
-        wait: marked,
-        dcd,
-        owed: control.owed,
-        sample: control.sample,
+        wait: mark_wait(control.wait),
+        ..control
     }
 }
 
@@ -148,33 +101,23 @@ fn rest_after(p: u8, age: u8) -> u16
 }
 
 // No match: where the held candidate is of the kind, its frame is awaited.
+#[tactic(auto, unfolding(crate::specs::Search::missed))]
 fn await_frame(p: u8, kind: Kind, control: Control) -> Control
     ensures { result ≡ missed p kind (held_in control.candidate) control }
 {
-    let candidate = control.candidate;
-    if let Candidate::Held {
-        kind: k,
-        age,
-        diff: _,
-        gain: _,
-        shift: _,
-        taken_at: _,
-    } = candidate
-    {
-        if rank(k) == rank(kind) {
+    if let Candidate::Held { kind: k, age, .. } = control.candidate {
+        if k == kind {
             let left = rest_after(p, age);
             let span = FRAME_CARRIER * (p as u64);
-            let end = end_after(control.sample, span);
+            let end = control.sample.saturating_add(span);
             return Control {
-                candidate,
-                wait: Wait::Due(Waiting {
+                wait: Some(Waiting {
                     left,
                     age,
                     replaced: false,
                 }),
-                dcd: Timer::Until(end),
-                owed: control.owed,
-                sample: control.sample,
+                dcd: Some(end),
+                ..control
             };
         }
     }
@@ -197,8 +140,7 @@ pub fn searched(p: u8, control: Control, values: [f32; 8]) -> Control
 {
     let unsigned = decode::unsign_zeros(values);
     let spread = decode::spread_of(unsigned);
-    let candidate = control.candidate;
-    let free = !fit::is_held(candidate);
+    let free = !fit::is_held(control.candidate);
     if free & (spread.gain < SYNC_MIN_GAIN) {
         return control;
     }

@@ -3,33 +3,30 @@ ghost use Rattle.std.specs.Prelude.{◌≡◌};
 ghost use Rattle.search.specs.Fit.{timer_fit_lem, candidate_fit_lem, wait_fit_lem, taken_fit_lem, kept_fit_lem};
 ghost use Rattle.search.specs.Promises.{ControlFitSays, IsHeldSays};
 
-use crate::{Candidate, Control, FRAME_CARRIER, FRAME_REST, LAST_COUNT, Timer, Wait};
+use crate::{Candidate, Control, FRAME_CARRIER, FRAME_REST, LAST_COUNT, Waiting};
 
 // The timer's latest end is a frame's, set at the largest count.
-fn timer_fit(p: u8, timer: Timer) -> bool
+fn timer_fit(p: u8, timer: Option<u64>) -> bool
     ensures { result ≡ timer_fit_lem p timer }
 {
     match timer {
-        Timer::Off => true,
-        Timer::Until(end) => {
-            let span = FRAME_CARRIER * (p as u64);
-            end <= LAST_COUNT + span
-        }
+        None => true,
+        Some(end) => end <= LAST_COUNT + FRAME_CARRIER * (p as u64),
     }
 }
 
+#[tactic(auto, unfolding(crate::specs::Fit::candidate_fit_lem))]
 fn candidate_fit(candidate: Candidate) -> bool
     ensures { result ≡ candidate_fit_lem candidate }
 {
     match candidate {
         Candidate::Nothing => true,
         Candidate::Held {
-            kind: _,
             age,
             diff,
             gain,
             shift,
-            taken_at: _,
+            ..
         } => {
             let age_fit = (1 <= age) & (age <= 254);
             let diff_fit = (0.0 <= diff) & (diff < 100.0);
@@ -42,29 +39,18 @@ fn candidate_fit(candidate: Candidate) -> bool
 pub fn is_held(candidate: Candidate) -> bool
     ensures { IsHeldSays candidate result }
 {
-    match candidate {
-        Candidate::Nothing => false,
-        Candidate::Held {
-            kind: _,
-            age: _,
-            diff: _,
-            gain: _,
-            shift: _,
-            taken_at: _,
-        } => true,
-    }
+    matches!(candidate, Candidate::Held { .. })
 }
 
-fn wait_fit(p: u8, wait: Wait, candidate: Candidate, owed: bool) -> bool
+#[tactic(auto, unfolding(crate::specs::Fit::wait_fit_lem))]
+fn wait_fit(p: u8, wait: Option<Waiting>, candidate: Candidate, owed: bool) -> bool
     ensures { result ≡ wait_fit_lem p wait candidate owed }
 {
     match wait {
-        Wait::Free => true,
-        Wait::Due(w) => {
-            let held = is_held(candidate);
-            let left = w.left;
+        None => true,
+        Some(w) => {
             let whole = FRAME_REST * (p as u16);
-            (1 <= left) & (left < whole) & held & !owed
+            (1 <= w.left) & (w.left < whole) & is_held(candidate) & !owed
         }
     }
 }
@@ -74,43 +60,26 @@ fn taken_fit(candidate: Candidate, count: u64) -> bool
 {
     match candidate {
         Candidate::Nothing => true,
-        Candidate::Held {
-            kind: _,
-            age: _,
-            diff: _,
-            gain: _,
-            shift: _,
-            taken_at,
-        } => (1 <= taken_at) & (taken_at <= count),
+        Candidate::Held { taken_at, .. } => (1 <= taken_at) & (taken_at <= count),
     }
 }
 
-fn kept_fit(wait: Wait) -> bool
+fn kept_fit(wait: Option<Waiting>) -> bool
     ensures { result ≡ kept_fit_lem wait }
 {
-    match wait {
-        Wait::Free => true,
-        Wait::Due(w) => {
-            let age = w.age;
-            1 <= age
-        }
-    }
+    wait.is_none_or(|w| 1 <= w.age)
 }
 
 // At p samples a symbol.
+#[tactic(auto, unfolding(crate::specs::Fit::control_fit_lem))]
 pub fn control_fit(p: u8, control: Control) -> bool
     ensures { ControlFitSays p control result }
 {
-    let candidate = control.candidate;
-    let wait = control.wait;
-    let timer = control.dcd;
-    let owed = control.owed;
-    let owed_with_candidate = owed & is_held(candidate);
     (control.sample <= LAST_COUNT)
-        & timer_fit(p, timer)
-        & candidate_fit(candidate)
-        & wait_fit(p, wait, candidate, owed)
-        & !owed_with_candidate
-        & taken_fit(candidate, control.sample)
-        & kept_fit(wait)
+        & timer_fit(p, control.dcd)
+        & candidate_fit(control.candidate)
+        & wait_fit(p, control.wait, control.candidate, control.owed)
+        & !(control.owed & is_held(control.candidate))
+        & taken_fit(control.candidate, control.sample)
+        & kept_fit(control.wait)
 }

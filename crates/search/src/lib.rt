@@ -20,6 +20,7 @@ pub(crate) const FRAME_REST: u16 = 184;
 pub(crate) const FRAME_CARRIER: u64 = 384;
 
 // A place that may be decoded, or none. `taken_at` is the number of the sample at which it was taken.
+// An enum of its own and no Option: the project's scope names this form.
 #[derive(Clone, Copy)]
 pub enum Candidate {
     Nothing,
@@ -42,26 +43,12 @@ pub struct Waiting {
     pub replaced: bool,
 }
 
-// No frame is awaited, or one is.
-#[derive(Clone, Copy)]
-pub enum Wait {
-    Free,
-    Due(Waiting),
-}
-
-// The carrier timer: not held, or held to the end of a sample.
-#[derive(Clone, Copy)]
-pub enum Timer {
-    Off,
-    Until(u64),
-}
-
 // All but the two rings, so that a search takes and gives back no array.
 #[derive(Clone, Copy)]
 pub struct Control {
     pub candidate: Candidate,
-    pub wait: Wait,
-    pub dcd: Timer,
+    pub wait: Option<Waiting>,
+    pub dcd: Option<u64>,
     pub owed: bool,
     pub sample: u64,
 }

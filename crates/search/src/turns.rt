@@ -4,18 +4,20 @@ ghost use Rattle.search.specs.TakenBurst.{held_in};
 ghost use Rattle.search.specs.Turn.{cleared, due_turn};
 ghost use Rattle.search.specs.Promises.{TurnOfSays, RepliedSays};
 
-use crate::{Candidate, Control, Reply, Shown, Timer, Turn, Wait, Waiting, bursts};
+use crate::{Candidate, Control, Reply, Shown, Turn, Waiting, bursts};
 
-fn clear_timer(timer: Timer, count: u64) -> Timer
+#[tactic(auto, unfolding(crate::specs::Turn::cleared))]
+fn clear_timer(timer: Option<u64>, count: u64) -> Option<u64>
     ensures { result ≡ cleared count timer }
 {
     match timer {
-        Timer::Off => timer,
-        Timer::Until(end) => if end < count { Timer::Off } else { timer },
+        Some(end) if end < count => None,
+        _ => timer,
     }
 }
 
 // A frame is due: the candidate that awaited it is offered, whatever its kind.
+#[tactic(auto, unfolding(crate::specs::Turn::due_turn))]
 fn fall_due(candidate: Candidate, waited: Waiting, control: Control) -> Turn
     ensures { result ≡ due_turn (held_in candidate) waited control }
 {
@@ -23,83 +25,68 @@ fn fall_due(candidate: Candidate, waited: Waiting, control: Control) -> Turn
         Candidate::Nothing => Turn::Look(control),
         Candidate::Held {
             kind,
-            age: _,
-            diff: _,
             gain,
             shift,
             taken_at,
-        } => {
-            let mut owing = control;
-            owing.owed = true;
-            Turn::Offer {
-                shown: Shown {
-                    kind,
-                    gain,
-                    shift,
-                    taken_at,
-                    age: waited.age,
-                    replaced: waited.replaced,
-                },
-                control: owing,
-            }
-        }
+            ..
+        } => Turn::Offer {
+            shown: Shown {
+                kind,
+                gain,
+                shift,
+                taken_at,
+                age: waited.age,
+                replaced: waited.replaced,
+            },
+            control: Control {
+                owed: true,
+                ..control
+            },
+        },
     }
 }
 
 // The turn of the sample whose number is `sample`: the timer is cleared, and the wait, if one is held, comes nearer to its end.
+#[tactic(auto, unfolding(crate::specs::Turn::waited_turn))]
 pub fn turn_of(control: Control, sample: u64) -> Turn
     ensures { TurnOfSays control sample result }
 {
-    let candidate = control.candidate;
-    let wait = control.wait;
-    let timer = control.dcd;
-    let owed = control.owed;
-    let dcd = clear_timer(timer, sample);
-    match wait {
-        Wait::Free => Turn::Look(Control {
-            candidate,
-            wait,
-            dcd,
-            owed,
-            sample,
-        }),
-        Wait::Due(w) => {
-            let left = w.left;
-            if 1 < left {
-                let fewer = left - 1;
+    let counted = Control {
+        dcd: clear_timer(control.dcd, sample),
+        sample,
+        ..control
+    };
+    match control.wait {
+        None => Turn::Look(counted),
+        Some(w) => {
+            if 1 < w.left {
                 return Turn::Rest(Control {
-                    candidate,
-                    wait: Wait::Due(Waiting {
-                        left: fewer,
-                        age: w.age,
-                        replaced: w.replaced,
+                    wait: Some(Waiting {
+                        left: w.left - 1,
+                        ..w
                     }),
-                    dcd,
-                    owed,
-                    sample,
+                    ..counted
                 });
             }
-            fall_due(
-                candidate,
-                w,
-                Control {
-                    candidate: Candidate::Nothing,
-                    wait: Wait::Free,
-                    dcd,
-                    owed,
-                    sample,
-                },
-            )
+            let freed = Control {
+                candidate: Candidate::Nothing,
+                wait: None,
+                ..counted
+            };
+            fall_due(control.candidate, w, freed)
         }
     }
 }
 
 // A reply ends the wait for it; a frame that is not accepted leaves the sample to the search.
+#[tactic(auto, unfolding(crate::specs::Turn::replied))]
 pub fn replied(p: u8, control: Control, reply: Reply, values: [f32; 8]) -> Control
     ensures { RepliedSays p control reply values result }
 {
-    let mut settled = control;
-    settled.owed = false;
+    let settled = Control {
+        owed: false,
+        ..control
+    };
     match reply {
         Reply::Accepted => settled,
         Reply::Rejected => bursts::searched(p, settled, values),

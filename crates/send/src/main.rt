@@ -8,19 +8,13 @@ use house::Text;
 use sending::{AfterPart, Sending};
 use std::io::{Read, Write};
 
-// The part that came last, whether all went well until here, and what is said if the program stops with it.
+// The part that came last, whether all went well until here, and what is said if the program stops with it. Part and words are there either way,
+// so that a Result would hold them twice.
 #[derive(Clone, Copy)]
 struct Turn {
     part: AfterPart,
     fine: bool,
     words: Text,
-}
-
-// What a read gave.
-#[derive(Clone, Copy)]
-struct Got {
-    fine: bool,
-    count: usize,
 }
 
 // From a fresh start no turn is refused. A refused one has taken no byte of its read and gives nothing to be written: the program cannot go on.
@@ -39,31 +33,20 @@ fn put(out: &mut impl Write, part: AfterPart) -> Turn
     }
 }
 
-fn read_some(input: &mut impl Read, room: &mut [u8]) -> Got {
-    match input.read(room) {
-        Ok(count) => Got { fine: true, count },
-        Err(_) => Got {
-            fine: false,
-            count: 0,
-        },
-    }
-}
-
 // Reads once, no more than the line at hand lacks.
 fn next_turn(input: &mut impl Read, out: &mut impl Write, before: AfterPart) -> Turn {
     let sending = before.sending;
     let mut bytes = [0u8; 97];
     let wanted = sending.lacks();
-    let got = read_some(input, &mut bytes[..wanted]);
-    if !got.fine {
+    let Ok(count) = input.read(&mut bytes[..wanted]) else {
         let words = before.last_words(false, true);
         return Turn {
             part: before,
             fine: false,
             words,
         };
-    }
-    put(out, sending.turn(bytes, got.count))
+    };
+    put(out, sending.turn(bytes, count))
 }
 
 // A proved loop has to end, and nothing says that the input does: the turns are counted, to a number that no run comes to.

@@ -5,9 +5,10 @@ use mathlib.Core.List.{List, [], ◌∷◌, ◌++◌, append_assoc}
 use Prim.Native.Nat.{ℕ, zero, suc, ◌+◌, ◌≤◌, ◌<◌}
 use native.Mathlib.Nat.{not-suc-le-zero}
 use native.Mathlib.Omega.{arith}
-use lib.Dec.{T, eqb→eq}
+use lib.Dec.{T, eqb, eqb→eq}
 use lib.ListN.{length, get_or, take, drop, length-append, length-take, get_or-append}
-use lib.Seq.{split_at, drop-cons, drop-length, length-take-le, get_or-take}
+use Rattle.std.specs.List.{list_any}
+use lib.Seq.{split_at, drop-length, get_or-take}
 use Rattle.numbers.proofs.Tests.{holds}
 use Rattle.house.specs.Digits.{capitals, place_in, value_of, is_digit}
 use Rattle.house.specs.Line.{line_feed, good_line}
@@ -45,16 +46,11 @@ unfolding has_feed_lem
 plain_all [] h = refl
 plain_all (b ∷ l) h = rw (h 0 (omega arith), plain_all l (λ i k. h (suc i) (omega arith)))
 
--- what a loop over the first n bytes passes
-pub feed_step : (l : List ℕ) (n i : ℕ) → i < n → n ≤ length l → has_feed_lem (drop i (take n l)) ≡ is_feed (get_or l i 0) || has_feed_lem (drop (suc i) (take n l))
+-- as the code looks for one
+pub feed_among : (l : List ℕ) → list_any (λ b. eqb b line_feed) l ≡ has_feed_lem l
 unfolding has_feed_lem
-feed_step l n i h k =
-    ap has_feed_lem (drop-cons (take n l) i 0 (omega (arith, length-take-le n l k)))
-    ∙ ap (λ (b : ℕ). is_feed b || has_feed_lem (drop (suc i) (take n l))) (get_or-take n l i 0 h)
-
-pub feed_none : (l : List ℕ) (n : ℕ) → n ≤ length l → has_feed_lem (drop n (take n l)) ≡ false
-unfolding has_feed_lem
-feed_none l n k = ap (λ (m : ℕ). has_feed_lem (drop m (take n l))) (sym (length-take-le n l k)) ∙ ap has_feed_lem (drop-length (take n l))
+feed_among [] = refl
+feed_among (b ∷ l) = ap (λ (t : Bool). is_feed b || t) (feed_among l)
 
 -- the first line feed of a list
 pub record FeedIn (l : List ℕ) : Type 0 where

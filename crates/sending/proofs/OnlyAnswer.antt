@@ -1,25 +1,26 @@
 -- Each promise of this crate leaves one answer. Assumes nothing.
+use Rattle.std.specs.Prelude.{Result}
+use Rattle.protocol.specs.declared.Refusal.{Refusal}
 use mathlib.Core.Path.{◌≡◌}
 use mathlib.Core.Bool.{Bool}
 use mathlib.Core.List.{List}
 use Prim.Native.Nat.{ℕ}
 use Rattle.numbers.proofs.Answer.{same_answer}
-use Rattle.modulator.specs.declared.Provided.{Provided}
-use Rattle.modulator_laws.proofs.Papers.{provided_once}
+use Rattle.modulator_laws.proofs.Papers.{done_once}
 use Rattle.house.specs.declared.Text.{Text}
 use Rattle.sending.specs.declared.Sending.{Sending}
 use Rattle.sending.specs.declared.AfterPart.{AfterPart}
 use Rattle.sending.specs.Calls.{Left, Says, OpenSays, LacksSays, TurnSays, IsAdmittedSays, LastWordsSays}
 
 -- what is made of seven parts is one where these are
-made : {a b : Provided} {s t : Sending} {k l : List ℕ} {m n i j : ℕ} {p q u v : Bool} → a ≡ b → s ≡ t → k ≡ l → m ≡ n → i ≡ j → p ≡ q → u ≡ v
+made : {a b : Result Unit Refusal} {s t : Sending} {k l : List ℕ} {m n i j : ℕ} {p q u v : Bool} → a ≡ b → s ≡ t → k ≡ l → m ≡ n → i ≡ j → p ≡ q → u ≡ v
     → ◌≡◌ {A = AfterPart} (record { answer = a; sending = s; bytes = k; length = m; taken = i; bad = p; last = u }) (record { answer = b; sending = t; bytes = l; length = n; taken = j; bad = q; last = v })
 made d e f g h k l = cc
 
 said_once : (d : Left) (r s : AfterPart) → Says d r → Says d s → r ≡ s
 said_once d r s p q =
     made
-    (provided_once r.answer s.answer (same_answer p.answers q.answers))
+    (done_once r.answer s.answer (same_answer p.answers q.answers))
     (same_answer p.leaves q.leaves)
     (same_answer p.writes q.writes)
     (same_answer p.counts q.counts)

@@ -1,5 +1,7 @@
 -- What the functions' definitions come to, in the shapes that the code has. Assumes nothing.
-use mathlib.Core.Path.{◌≡◌, refl, ap, ◌∙◌}
+use Rattle.modulator.specs.declared.After.{After}
+use Rattle.modulator.specs.declared.SampleCount.{SampleCount}
+use mathlib.Core.Path.{◌≡◌, refl, sym, ap, ◌∙◌}
 use mathlib.Core.Bool.{Bool, true, false}
 use mathlib.Core.List.{List}
 use Prim.Native.Nat.{ℕ, ◌+◌, ◌*◌, ◌≤◌, ◌<◌, min}
@@ -15,8 +17,6 @@ use Rattle.given_symbols.specs.declared.Traffic.TheVariants.{Ordinary}
 use Rattle.modulator.specs.declared.SoftModulator.{SoftModulator}
 use Rattle.modulator.specs.declared.ModulatorFrame.{ModulatorFrame}
 use Rattle.modulator.specs.declared.ModulatorFrame.TheVariants.{Preamble, Symbols as GivenSymbols}
-use Rattle.modulator.specs.declared.AfterFrame.{AfterFrame}
-use Rattle.modulator.specs.declared.AfterRead.{AfterRead}
 use Rattle.modulator.specs.Paper.{done, read_paper}
 use Rattle.modulator.specs.Record.{fresh}
 use Rattle.modulator.specs.Fit.{record_fit_lem}
@@ -24,9 +24,7 @@ use Rattle.modulator.specs.Calls.{drained, ProvideNextFrameSays, ReadOutputSampl
 use Rattle.modulator.specs.Calls.{read as readInto}
 use Rattle.modulator.proofs.Cases.{read_unfit, read_fit}
 use Rattle.modulator_run.specs.Pieces.{counted}
-use Rattle.house.specs.declared.Symbols.{Symbols}
-use Rattle.house.specs.Line.{good_line, symbols_of_lem, no_symbols, read_line}
-use Rattle.house.proofs.Lines.{read_good, read_bad}
+use Rattle.house.specs.Line.{good_line, symbols_of_lem, no_symbols}
 use Rattle.sending.specs.declared.Sending.{Sending}
 use Rattle.sending.specs.declared.AfterPart.{AfterPart}
 use Rattle.sending.specs.Text.{has_feed_lem, sample_bytes}
@@ -41,11 +39,11 @@ read_within m room = by_test (record_fit_lem (samples_in_lem m.rate) m) refl
     by_test true e = rw (read_fit (rate_of m.rate) m room e) (omega arith)
     by_test false e = rw (read_unfit (rate_of m.rate) m room e) (omega arith)
 
-pub counted_within : {m : SoftModulator} {room : List ℤ} {r : AfterRead} {after : List ℤ} → ReadOutputSamplesSays m room r after → counted (read_paper r.answer) ≤ length room
+pub counted_within : {m : SoftModulator} {room : List ℤ} {r : After SampleCount} {after : List ℤ} → ReadOutputSamplesSays m room r after → counted (read_paper r.answer) ≤ length room
 counted_within {m} {room} said = rw said.answers (read_within m room)
 
 -- a part, from what its two calls promise
-pub part_said : (s : Sending) (frame : ModulatorFrame) (symbols : List Float) (bad last : Bool) (given : AfterFrame) (out : AfterRead) (after : List ℤ) (bytes : List ℕ) (n : ℕ)
+pub part_said : (s : Sending) (frame : ModulatorFrame) (symbols : List Float) (bad last : Bool) (given : After Unit) (out : After SampleCount) (after : List ℤ) (bytes : List ℕ) (n : ℕ)
     → ProvideNextFrameSays s.modulator frame symbols given → ReadOutputSamplesSays given.modulator empty_room out after → bytes ≡ sample_bytes after → n ≡ counted (read_paper out.answer)
     → Says (part_of s frame symbols bad last) (record { answer = given.answer; sending = with_modulator out.modulator s; bytes = bytes; length = 2 * n; taken = 0; bad = bad; last = last })
 unfolding part_of
@@ -78,17 +76,6 @@ module _ (s : Sending) where
   unfolding judged
   judged_bad h bad = rw (le-ltb s.have 97 h, bad)
 
--- what a line was read as
-pub read_is_good : (line : List ℕ) (r : Symbols) → r ≡ read_line line → r.good ≡ good_line line
-read_is_good line r e = by_test (good_line line) refl
-  where
-    by_test : (t : Bool) → good_line line ≡ t → r.good ≡ good_line line
-    by_test true g = rw (e, read_good line g, g)
-    by_test false g = rw (e, read_bad line g, g)
-
-pub read_symbols : (line : List ℕ) (r : Symbols) → r ≡ read_line line → good_line line ≡ true → r.symbols ≡ symbols_of_lem line
-read_symbols line r e g = rw (e, read_good line g)
-
 -- ---- the line at hand with more bytes
 both_taken : (a n : ℕ) (l : List ℕ) → take a (take n l) ≡ take (min n a) l
 both_taken a n l = by_test (ltb a n) refl
@@ -107,7 +94,17 @@ both_taken a n l = by_test (ltb a n) refl
 pub added_number : (s : Sending) (bytes : List ℕ) (n : ℕ) → length bytes ≡ 97 → length (added s (take n bytes)) ≡ min n (lacking s)
 added_number s bytes n size = rw (both_taken (lacking s) n bytes) (length-take-le (min n (lacking s)) bytes (omega arith))
 
-pub held_is : (s : Sending) (bytes : List ℕ) (n : ℕ) → length bytes ≡ 97
-    → held s (take n bytes) ≡ record { modulator = s.modulator; line = paste s.line s.have bytes (min n (lacking s)); have = s.have + min n (lacking s); number = s.number }
+-- of 97 bytes the first n are the first n or 97
+pub cut : (bytes : List ℕ) (n k : ℕ) → length bytes ≡ 97 → k ≡ min n 97 → take k bytes ≡ take n bytes
+cut bytes n k places e = ap (λ (m : ℕ). take m bytes) e ∙ sym (both_taken 97 n bytes) ∙ take_all 97 (take n bytes) (omega (arith, length-take n bytes, places))
+
+pub held_is : (s : Sending) (bytes : List ℕ)
+    → let some : List ℕ = take (min (length bytes) (lacking s)) bytes in
+    held s bytes ≡ record { modulator = s.modulator; line = paste s.line s.have some (length some); have = s.have + min (length bytes) (lacking s); number = s.number }
 unfolding held
-held_is s bytes n size = rw (both_taken (lacking s) n bytes, length-take-le (min n (lacking s)) bytes (omega arith))
+held_is s bytes =
+    let k : ℕ = min (length bytes) (lacking s) in
+    let some : List ℕ = take k bytes in
+    let size : length some ≡ k = length-take-le k bytes (omega arith) in
+    let enough : take (lacking s) bytes ≡ some = ap (take (lacking s)) (sym (take_all (length bytes) bytes (omega arith))) ∙ both_taken (lacking s) (length bytes) bytes in
+    rw (enough, take_all (length some) some (omega arith), size) refl

@@ -5,7 +5,7 @@ use mathlib.Core.List.{List, [], ◌∷◌}
 use Prim.Native.Nat.{ℕ, ◌<◌, min}
 use native.Mathlib.Nat.{not-suc-le-zero}
 use native.Mathlib.Omega.{arith}
-use lib.ListN.{length, take, length-take}
+use lib.ListN.{length, take}
 use lib.Ieee.{Float}
 use Rattle.shaping.specs.Rate.{rate_of}
 use Rattle.protocol.specs.Refusals.{PaperRefusal, bare}
@@ -88,20 +88,21 @@ module _ (m : SoftModulator) where
       by_test false e = rw (frame_unfit (rate_of m.rate) m NoFrame symbols e, e)
 
 -- ---- as the code has it
-module _ (s : Sending) (bytes : List ℕ) (n : ℕ) (r : AfterPart) where
-  pub move_none : n ≡ 0 → Says (closed s) r → Says (moved s (take n bytes)) r
+module _ (s : Sending) (bytes : List ℕ) (r : AfterPart) where
+  pub move_none : length bytes ≡ 0 → Says (closed s) r → Says (moved s bytes) r
   unfolding moved
-  move_none none said = rw none said
+  move_none none said = rw (by_bytes bytes none) said
+    where
+      by_bytes : (bytes : List ℕ) → length bytes ≡ 0 → moved s bytes ≡ closed s
+      by_bytes [] none = refl
+      by_bytes (b ∷ bytes) none = absurd (omega arith)
 
-  module _ (some : 0 < n) (places : length bytes ≡ 97) (p : AfterPart) (took : Says (judged (held s (take n bytes))) p) where
-    given : 0 < length (take n bytes)
-    given = omega (arith, length-take n bytes)
+  module _ (some : 0 < length bytes) (p : AfterPart) (took : Says (judged (held s bytes)) p) where
+    pub move_bad : p.bad ≡ true → Says (closed p.sending) r → Says (moved s bytes) r
+    move_bad bad said = rw (moved_bad s bytes some (judged (held s bytes)) refl (sym took.tells ∙ bad), ← took.leaves) said
 
-    pub move_bad : p.bad ≡ true → Says (closed p.sending) r → Says (moved s (take n bytes)) r
-    move_bad bad said = rw (moved_bad s (take n bytes) given (judged (held s (take n bytes))) refl (sym took.tells ∙ bad), ← took.leaves) said
-
-    pub move_on_lem : p.bad ≡ false → Says (moved s (take n bytes)) p
-    move_on_lem fine = rw (moved_on s (take n bytes) given (judged (held s (take n bytes))) refl (sym took.tells ∙ fine)) took
+    pub move_on_lem : p.bad ≡ false → Says (moved s bytes) p
+    move_on_lem fine = rw (moved_on s bytes some (judged (held s bytes)) refl (sym took.tells ∙ fine)) took
 
 module _ (s : Sending) (bytes : List ℕ) (n : ℕ) where
   -- a fit record, with k of the bytes taken

@@ -6,7 +6,7 @@ use Rattle.given_symbols.specs.declared.Traffic.TheVariants.{Ordinary}
 use Rattle.modulator.specs.declared.SoftModulator.{SoftModulator}
 use Rattle.modulator.specs.declared.ModulatorFrame.{ModulatorFrame}
 use Rattle.modulator.specs.declared.ModulatorFrame.TheVariants.{Preamble, Symbols as GivenSymbols, EndOfTransmission}
-use Rattle.modulator.specs.Paper.{Paper, refusal, done, wrote, transmit_end, read_output, idle, get_frame, nothing, provided_paper}
+use Rattle.modulator.specs.Paper.{Paper, refusal, done, wrote, transmit_end, read_output, idle, get_frame, nothing, done_paper}
 use Rattle.modulator.specs.Record.{fresh}
 use Rattle.modulator.specs.Fit.{record_fit_lem, unfit_number}
 use Rattle.modulator.specs.Calls.{provided}
@@ -150,7 +150,7 @@ words none = in_room []
 words (in_line n) = in_room (bad_line_lem n)
 
 abbrev pub is_admitted_lem : AfterPart → Bool
-is_admitted_lem part = not (is_refusal (provided_paper part.answer))
+is_admitted_lem part = not (is_refusal (done_paper part.answer))
 
 -- ".. and writes": where a read or a write failed or a turn was refused, why the program stops; else the words of the line at hand
 unfoldable pub said_of : AfterPart → Bool → Bool → Text
@@ -161,7 +161,7 @@ said_of part read written =
 
 -- ---- what the functions promise
 pub record Says (d : Left) (r : AfterPart) : Type 0 where
-  pub answers : provided_paper r.answer ≡ d.answer
+  pub answers : done_paper r.answer ≡ d.answer
   pub leaves : r.sending ≡ d.sending
   pub writes : r.bytes ≡ d.bytes
   pub counts : r.length ≡ d.length

@@ -2,11 +2,11 @@
 // each as the bytes that are to be written. All goes by value in arrays of fixed length: no caller can bring too little room.
 #![tactic(auto)]
 
-ghost use Rattle.std.specs.Prelude.{take};
 ghost use Rattle.sending.specs.Calls.{moved, Says, TurnSays, IsAdmittedSays, LastWordsSays};
 
 use house::{Program, Text};
-use modulator::{Provided, SoftModulator};
+use modulator::SoftModulator;
+use protocol::Refusal;
 
 mod line;
 mod part;
@@ -24,7 +24,7 @@ pub struct Sending {
 // bytes of the read went into the line. `bad` says that the line at hand is a bad one, `last` that the transmission has ended.
 #[derive(Clone, Copy)]
 pub struct AfterPart {
-    pub answer: Provided,
+    pub answer: Result<(), Refusal>,
     pub sending: Sending,
     pub bytes: [u8; 5440],
     pub length: usize,
@@ -34,13 +34,13 @@ pub struct AfterPart {
 }
 
 // No bytes are the end of the input; it and a bad line end the transmission.
-fn move_on(s: Sending, bytes: [u8; 97], n: usize) -> AfterPart
-    ensures { Says (moved s (take n bytes)) result }
+fn move_on(s: Sending, bytes: &[u8]) -> AfterPart
+    ensures { Says (moved s bytes.now) result }
 {
-    if n == 0 {
+    if bytes.is_empty() {
         return part::close(s);
     }
-    let after = line::take(s, bytes, n);
+    let after = line::take(s, bytes);
     if after.bad {
         let ended = after.sending;
         return part::close(ended);
@@ -54,16 +54,13 @@ impl Sending {
     pub fn turn(self, bytes: [u8; 97], n: usize) -> AfterPart
         ensures { TurnSays self bytes n result }
     {
-        let told = part::test_record(self);
-        match told {
-            Provided::Refused(_) => line::write_nothing(told, self, false),
-            Provided::Done => {
-                let taken = line::count_taken(self, n);
-                let mut after = move_on(self, bytes, n);
-                after.taken = taken;
-                after
-            }
+        if let Err(why) = part::test_record(self) {
+            return line::write_nothing(Err(why), self, false);
         }
+        let taken = line::count_taken(self, n);
+        let mut after = move_on(self, &bytes[..n.min(97)]);
+        after.taken = taken;
+        after
     }
 }
 
@@ -71,11 +68,7 @@ impl AfterPart {
     pub fn is_admitted(self) -> bool
         ensures { IsAdmittedSays self result }
     {
-        let answer = self.answer;
-        match answer {
-            Provided::Refused(_) => false,
-            Provided::Done => true,
-        }
+        self.answer.is_ok()
     }
 
     // What is said if the program stops here: what went wrong, or a bad line's text, or nothing. `read` and `written` say whether its read

@@ -1,7 +1,7 @@
 // The line at hand grows until it has ended, and a good one becomes a part.
-ghost use Rattle.std.specs.Prelude.{◌≡◌, ◌+◌, ◌-◌, ◌≤◌, min, take};
+ghost use Rattle.std.specs.Prelude.{◌≡◌, ◌+◌, ◌-◌, ◌≤◌, min, length, take};
 ghost use Rattle.std.proofs.Math.Seq.{paste};
-ghost use Rattle.modulator.specs.Paper.{provided_paper};
+ghost use Rattle.modulator.specs.Paper.{done_paper};
 ghost use Rattle.sending.specs.Text.{has_feed_lem};
 ghost use Rattle.sending.specs.Calls.{Says, quiet, lacking, held, judged, next_number_lem, LacksSays};
 
@@ -9,27 +9,24 @@ use super::part::part;
 use super::{AfterPart, Sending};
 use given_symbols::Traffic;
 use house::LINE_FEED;
-use modulator::{ModulatorFrame, Provided};
+use modulator::ModulatorFrame;
+use protocol::Refusal;
 
 // How many of n bytes go into the line: no more than it lacks.
 pub(crate) fn count_taken(s: Sending, n: usize) -> usize
     ensures { result ≡ min n (lacking s) }
 {
-    let lacks = s.lacks();
-    if lacks < n { lacks } else { n }
+    n.min(s.lacks())
 }
 
-// The first n of the bytes go after those that the line has.
-fn append(line: [u8; 97], have: usize, bytes: [u8; 97], n: usize) -> [u8; 97]
-    requires { n ≤ 97 - have }
-    ensures { result ≡ paste line have bytes n }
+// The bytes go after those that the line has. With none to add, `have` may be past the line's end.
+fn append(line: [u8; 97], have: usize, bytes: &[u8]) -> [u8; 97]
+    requires { length bytes.now ≤ 97 - have }
+    ensures { result ≡ paste line have bytes.now (length bytes.now) }
 {
     let mut longer = line;
-    let mut i: usize = 0;
-    while i < n {
-        let at = have + i;
-        longer[at] = bytes[i];
-        i += 1;
+    if !bytes.is_empty() {
+        longer[have..have + bytes.len()].copy_from_slice(bytes);
     }
     longer
 }
@@ -38,26 +35,19 @@ fn has_feed(line: [u8; 97], n: usize) -> bool
     requires { n ≤ 97 }
     ensures { result ≡ has_feed_lem (take n line) }
 {
-    let mut i: usize = 0;
-    while i < n {
-        if line[i] == LINE_FEED {
-            return true;
-        }
-        i += 1;
-    }
-    false
+    line[..n].contains(&LINE_FEED)
 }
 
 // A line's number stays at the largest that there is.
 fn next_number(n: u64) -> u64
     ensures { result ≡ next_number_lem n }
 {
-    if n < u64::MAX { n + 1 } else { n }
+    n.saturating_add(1)
 }
 
 // Nothing is to be written.
-pub(crate) fn write_nothing(answer: Provided, sending: Sending, bad: bool) -> AfterPart
-    ensures { Says (quiet (provided_paper answer) sending bad) result }
+pub(crate) fn write_nothing(answer: Result<(), Refusal>, sending: Sending, bad: bool) -> AfterPart
+    ensures { Says (quiet (done_paper answer) sending bad) result }
 {
     AfterPart {
         answer,
@@ -70,12 +60,12 @@ pub(crate) fn write_nothing(answer: Provided, sending: Sending, bad: bool) -> Af
     }
 }
 
-fn hold(s: Sending, bytes: [u8; 97], n: usize) -> Sending
-    ensures { result ≡ held s (take n bytes) }
+fn hold(s: Sending, bytes: &[u8]) -> Sending
+    ensures { result ≡ held s bytes.now }
 {
-    let added = count_taken(s, n);
+    let added = count_taken(s, bytes.len());
     let old = s.line;
-    let line = append(old, s.have, bytes, added);
+    let line = append(old, s.have, &bytes[..added]);
     let have = s.have + added;
     let modulator = s.modulator;
     Sending {
@@ -93,14 +83,12 @@ fn judge(s: Sending) -> AfterPart
     let line = s.line;
     let have = s.have;
     if have < 97 {
-        return write_nothing(Provided::Done, s, has_feed(line, have));
+        return write_nothing(Ok(()), s, has_feed(line, have));
     }
-    let read = house::line_symbols(line);
-    if !read.good {
-        return write_nothing(Provided::Done, s, true);
-    }
+    let Some(symbols) = house::line_symbols(line) else {
+        return write_nothing(Ok(()), s, true);
+    };
     let modulator = s.modulator;
-    let symbols = read.symbols;
     let next = Sending {
         modulator,
         line,
@@ -116,11 +104,11 @@ fn judge(s: Sending) -> AfterPart
     )
 }
 
-// The first n of the bytes, or those that the line lacks if n is more.
-pub(crate) fn take(s: Sending, bytes: [u8; 97], n: usize) -> AfterPart
-    ensures { Says (judged (held s (take n bytes))) result }
+// The bytes, or as many of them as the line lacks.
+pub(crate) fn take(s: Sending, bytes: &[u8]) -> AfterPart
+    ensures { Says (judged (held s bytes.now)) result }
 {
-    judge(hold(s, bytes, n))
+    judge(hold(s, bytes))
 }
 
 impl Sending {

@@ -1,13 +1,14 @@
 // A part of the transmission: a frame goes to the sender, and its samples are read as bytes, from a fresh start all of them.
 ghost use Rattle.std.specs.Prelude.{◌≡◌};
-ghost use Rattle.modulator.specs.Paper.{provided_paper, read_paper};
+ghost use Rattle.modulator.specs.Paper.{done_paper, read_paper};
 ghost use Rattle.modulator_run.specs.Pieces.{counted};
 ghost use Rattle.sending.specs.Text.{sample_bytes};
 ghost use Rattle.sending.specs.Calls.{part_of, closed, record_told, Says, OpenSays};
 
 use super::{AfterPart, Sending};
 use given_symbols::Traffic;
-use modulator::{DelaySteps, ModulatorFrame, Provided, Read, SoftModulator};
+use modulator::{DelaySteps, ModulatorFrame, SampleCount, SoftModulator};
+use protocol::Refusal;
 
 // A frame that takes no symbols does not look at those beside it.
 const NO_SYMBOLS: [f32; 192] = [0.0; 192];
@@ -16,39 +17,30 @@ fn bytes_of(samples: [i16; 2720]) -> [u8; 5440]
     ensures { result ≡ sample_bytes samples }
 {
     let mut bytes = [0u8; 5440];
-    let mut i: usize = 0;
-    while i < 2720 {
-        let sample = samples[i];
-        let pair = house::bytes_of_i16(sample);
-        let low = 2 * i;
-        let high = low + 1;
-        bytes[low] = pair[0];
-        bytes[high] = pair[1];
-        i += 1;
+    for (i, sample) in samples.iter().enumerate() {
+        let pair = house::bytes_of_i16(*sample);
+        bytes[2 * i..2 * i + 2].copy_from_slice(&pair);
     }
     bytes
 }
 
 // How many samples a read has written.
-fn count(answer: Read) -> usize
+#[tactic(auto, unfolding(modulator_run::specs::Pieces::counted))]
+fn count(answer: Result<SampleCount, Refusal>) -> usize
     ensures { result ≡ counted (read_paper answer) }
 {
-    match answer {
-        Read::Refused(_) => 0,
-        Read::Wrote(n) => n.0,
-    }
+    answer.map_or(0, |n| n.0)
 }
 
 // No frame is given: a call that asks for nothing but a fit record.
-pub(crate) fn test_record(s: Sending) -> Provided
-    ensures { provided_paper result ≡ record_told s.modulator }
+pub(crate) fn test_record(s: Sending) -> Result<(), Refusal>
+    ensures { done_paper result ≡ record_told s.modulator }
 {
     let symbols = NO_SYMBOLS;
     let asked = s
         .modulator
         .provide_next_frame(ModulatorFrame::Nothing, &symbols);
-    let answer = asked.answer;
-    answer
+    asked.answer
 }
 
 // The room holds the longest frame, the end of transmission.
@@ -87,6 +79,7 @@ pub(crate) fn part(
 }
 
 // A line that was begun and has not ended is bad.
+#[tactic(auto, unfolding(crate::specs::Calls::closed, house::specs::Line::no_symbols))]
 pub(crate) fn close(s: Sending) -> AfterPart
     ensures { Says (closed s) result }
 {

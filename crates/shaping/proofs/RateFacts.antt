@@ -1,7 +1,8 @@
 -- What the laws need of a rate, and that both have it: one computation over a table for each fact. Assumes nothing.
 use mathlib.Core.Path.{◌≡◌, refl, sym, subst, ap, ◌∙◌}
 use mathlib.Core.Logic.{◌⊎◌, inl, inr, ⊎_elim}
-use mathlib.Core.Bool.{true}
+use mathlib.Core.Bool.{Bool, true, false, cond}
+use Rattle.std.specs.Prelude.{Option, Some, None}
 use mathlib.Core.List.{reverse}
 use Prim.Native.Nat.{ℕ, suc, ◌-◌, ◌*◌, ◌≤◌, ◌<◌}
 use native.Mathlib.Nat.{eq-or-lt_of_le}
@@ -17,7 +18,7 @@ use Rattle.numbers.specs.Within.{reach}
 use Rattle.numbers.proofs.Below.{or_split}
 use Rattle.numbers.proofs.Tests.{holds}
 use Rattle.shaping.specs.Taps.{taps, even_taps}
-use Rattle.shaping.specs.Rate.{Rate, Known, rate_at, at48, at24, rate_fit, samples_in_lem, rate_of, per_second, tap_count}
+use Rattle.shaping.specs.Rate.{Rate, Known, rate_at, at48, at24, rate_fit, samples_in_lem, rate_of, per_second, tap_count, PerSymbolOfSays}
 use Rattle.shaping.specs.Reach.{Finite, sum_reach}
 use Rattle.shaping.specs.Phase.{full_symbol, sample_limit, phases_fit}
 use Rattle.shaping.proofs.Mirror.{mirrored_at}
@@ -89,6 +90,21 @@ rate_known rate fit = ⊎_elim (λ (e : rate ≡ 48000). rw e facts48.known) (λ
 
 pub rate_facts : (rate : ℕ) → rate_fit rate ≡ true → Facts (rate_of rate)
 rate_facts rate fit = facts (samples_in_lem rate) (rate_known rate fit)
+
+-- what is known of a rate once its samples a symbol are asked for
+pub per_symbol_some : (rate p : ℕ) (r : Option ℕ) → PerSymbolOfSays rate r → r ≡ Some p → (rate_fit rate ≡ true) × (p ≡ samples_in_lem rate)
+per_symbol_some rate p r says e = by_test (rate_fit rate) (sym says ∙ e)
+  where
+    by_test : (b : Bool) → cond b (Some (samples_in_lem rate)) None ≡ Some p → (b ≡ true) × (p ≡ samples_in_lem rate)
+    by_test true e = (refl, cc)
+    by_test false e = cc
+
+pub per_symbol_none : (rate : ℕ) (r : Option ℕ) → PerSymbolOfSays rate r → r ≡ None → rate_fit rate ≡ false
+per_symbol_none rate r says e = by_test (rate_fit rate) (sym says ∙ e)
+  where
+    by_test : (b : Bool) → cond b (Some (samples_in_lem rate)) None ≡ None → b ≡ false
+    by_test true e = cc
+    by_test false e = refl
 
 module _ (R : Rate) (F : Facts R) where
   pub own_rate : rate_of (per_second R.p) ≡ R

@@ -1,5 +1,5 @@
 -- A rate of the sound card: the samples in a symbol, and the filter's taps at that rate. Every span of the rules is a multiple of p. Assumes nothing.
-use Rattle.std.specs.Prelude.{◌≡◌, Bool, cond, ◌||◌, List, ℕ, ◌+◌, ◌*◌, ◌/◌, ◌%◌, ◌≤◌, eqb, Float}
+use Rattle.std.specs.Prelude.{◌≡◌, Bool, cond, ◌||◌, List, ℕ, ◌+◌, ◌*◌, ◌/◌, ◌%◌, ◌≤◌, eqb, Float, Option, Some, None}
 use Rattle.shaping.specs.Taps.{taps, even_taps}
 
 pub record Rate : Type 0 where
@@ -73,3 +73,10 @@ IsRateSays rate r = r ≡ rate_fit rate
 
 abbrev pub SamplesInSays : ℕ → ℕ → Type 0
 SamplesInSays rate r = r ≡ samples_in_lem rate
+
+-- the samples in a symbol at a rate that is one of the two
+abbrev pub PerSymbolOfSays : ℕ → Option ℕ → Type 0
+PerSymbolOfSays rate r = r ≡ cond (rate_fit rate) (Some (samples_in_lem rate)) None
+
+abbrev pub SamplesSays : ℕ → ℕ → Type 0
+SamplesSays p r = r ≡ p

@@ -1,22 +1,21 @@
 -- Samples that break off after a burst was found, its frame still to come: the wait that is then held, and a pause after them. Over every such list, at a rate. Assumes nothing.
+use Rattle.std.specs.Prelude.{Some, None}
 use mathlib.Core.Path.{◌≡◌, refl, sym, ap, ◌∙◌, subst}
-use mathlib.Core.Bool.{Bool, false}
+use mathlib.Core.Bool.{false}
 use mathlib.Core.List.{List, [], ◌∷◌, ◌++◌, map, map-append, append_assoc}
 use Prim.Native.Nat.{ℕ, zero, suc, ◌+◌, ◌*◌, ◌^◌, ◌≤◌, ◌<◌}
 use native.Mathlib.Omega.{arith}
-use lib.IntN.{ℤ, pos}
+use lib.IntN.{ℤ}
 use lib.ListN.{length, length-append}
 use lib.Ieee.{Float}
 use Rattle.machine.specs.Runs.{run, Each}
 use Rattle.shaping.specs.Rate.{Rate}
 use Rattle.shaping.proofs.RateFacts.{Facts}
 use Rattle.protocol.specs.declared.Kind.{Kind}
-use Rattle.search.specs.declared.Wait.TheVariants.{Free}
-use Rattle.search.specs.declared.Timer.TheVariants.{Until}
 use Rattle.search.specs.declared.Control.{Control}
 use Rattle.search.specs.TakenBurst.{TakenBurst, held_as}
 use Rattle.search.specs.Search.{end_after_lem, same_kind, wait_after}
-use Rattle.search.specs.Turn.{Outcome, counted, cleared, owing, control_of}
+use Rattle.search.specs.Turn.{Outcome, cleared, owing, control_of}
 use Rattle.search.proofs.SampleByWait.{sampled_free}
 use Rattle.demodulator_run.specs.Rules.{Single, History, history_all, single_rules}
 use Rattle.demodulator_run.specs.Demands.{ear_of, taken_at_lem}
@@ -99,12 +98,12 @@ module _ (R : Rate) (F : Facts R) where
     misses = subst (λ (v : ℕ → Float). Hits v none) (hears R all up_to_X y more (n + 1) length_x part below) second
 
     -- a wait is held, and the timer has its 384p
-    pub waits : history_all R.taps R.p (fed cut_off) ≡ standing cut_off (held_as burst) (wait_after R.p 1) (Until (end_after_lem (n + 1 + 1) (384 * R.p))) (n + 1 + 1)
+    pub waits : history_all R.taps R.p (fed cut_off) ≡ standing cut_off (held_as burst) (wait_after R.p 1) (Some (end_after_lem (n + 1 + 1) (384 * R.p))) (n + 1 + 1)
     waits =
         let (t, e) = after_take R F n front x (y ∷ more) long small few silent k first in
-        let c : Control = controlled (held_as burst) Free t false (n + 1) in
+        let c : Control = controlled (held_as burst) None t false (n + 1) in
         one_more R F up_to_X y
         ∙ ap (λ (h : History). next R h y) e
-        ∙ next_is R (standing up_to_X (held_as burst) Free t (n + 1)) y refl below
+        ∙ next_is R (standing up_to_X (held_as burst) None t (n + 1)) y refl below
         ∙ ap (λ (o : Outcome). record { samples = cut_off; control = owing false (control_of o) }) (sampled_free R.p (eight_at R cut_off) c refl)
         ∙ ap (λ (d : Control). record { samples = cut_off; control = owing false d }) (failed R.p (eight_at R cut_off) misses burst (cleared (n + 1 + 1) t) false (n + 1 + 1))

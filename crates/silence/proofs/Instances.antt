@@ -1,5 +1,6 @@
 -- `silence_clears` on samples that break off in the middle of a frame, and a pause that is too short for them, at each rate: a Stream burst is found, fewer samples than
 -- its frame has follow, whichever they are, and then zeros. Assumes nothing.
+use Rattle.std.specs.Prelude.{Option, Some}
 use mathlib.Core.Path.{◌≡◌, refl, sym, ap, ◌∙◌, subst}
 use mathlib.Core.Bool.{false}
 use mathlib.Core.List.{List, [], ◌∷◌, ◌++◌, map, append_assoc}
@@ -14,9 +15,6 @@ use Rattle.shaping.specs.Taps.{taps, even_taps}
 use Rattle.shaping.specs.Rate.{Rate, at48, at24}
 use Rattle.shaping.proofs.RateFacts.{Facts, facts48, facts24}
 use Rattle.protocol.specs.declared.Kind.TheVariants.{Stream}
-use Rattle.search.specs.declared.Wait.{Wait}
-use Rattle.search.specs.declared.Timer.{Timer}
-use Rattle.search.specs.declared.Timer.TheVariants.{Until}
 use Rattle.search.specs.declared.Control.{Control}
 use Rattle.search.specs.TakenBurst.{TakenBurst, held_as}
 use Rattle.search.specs.Search.{end_after_lem, same_kind, wait_after}
@@ -41,7 +39,7 @@ use Rattle.silence.proofs.CutOff.{feeding, feeding_run, feeding_given, both_coun
 use Rattle.silence.proofs.TooShort.{Suffices, too_short}
 
 -- ---- xs end where a wait was set, and `mid` is shorter than it
-module _ (R : Rate) (F : Facts R) (xs : List ℤ) (small : Sixteen xs) (n : ℕ) (long : length xs ≡ n) (low : n ≤ 4000) (burst : TakenBurst) (t : Timer)
+module _ (R : Rate) (F : Facts R) (xs : List ℤ) (small : Sixteen xs) (n : ℕ) (long : length xs ≡ n) (low : n ≤ 4000) (burst : TakenBurst) (t : Option ℕ)
     (found : history_all R.taps R.p (fed xs) ≡ standing xs (held_as burst) (wait_after R.p 1) t n)
     (mid : List ℤ) (sixteen-mid : Sixteen mid) (short : length mid < 184 * R.p - 1) where
   abbrev part : List ℤ
@@ -92,15 +90,15 @@ long48 = length-append (one_burst.front ++ (one_burst.x ∷ [])) (one_burst.y �
 abbrev burst48 : TakenBurst
 burst48 = taken_at_lem (ear_of taps 10 (one_burst.front ++ (one_burst.x ∷ one_burst.y ∷ zeros 1900))) Stream 71
 
-found48 : history_all taps 10 (fed cut48) ≡ standing cut48 (held_as burst48) (wait_after 10 1) (Until (end_after_lem 72 3840)) 72
+found48 : history_all taps 10 (fed cut48) ≡ standing cut48 (held_as burst48) (wait_after 10 1) (Some (end_after_lem 72 3840)) 72
 found48 = waits at48 facts48 70 one_burst.front one_burst.x one_burst.y (zeros 1900) one_burst.facts.long (sixteen one_burst) (few one_burst) (none_before one_burst) Stream (at_71 one_burst) (at_72 one_burst)
 
 pub still_waits_48 : (mid : List ℤ) → Sixteen mid → length mid < 1839 → (run receiver (fresh 48000) (feeding (cut48 ++ mid))).control.wait ≡ waiting 1 false (1839 - length mid)
-still_waits_48 = still_waits at48 facts48 cut48 sixteen48 72 long48 (lit≤ tt) burst48 (Until (end_after_lem 72 3840)) found48
+still_waits_48 = still_waits at48 facts48 cut48 sixteen48 72 long48 (lit≤ tt) burst48 (Some (end_after_lem 72 3840)) found48
 
 pub after_pause_48 : (mid : List ℤ) → Sixteen mid → length mid < 1839 → (ds : List Call) → Each Given ds → counted at48 ((feeding (cut48 ++ mid) ++ feeding (zeros 4000)) ++ ds) < 2 ^ 63
     → answers receiver (run receiver (fresh 48000) (feeding (cut48 ++ mid) ++ feeding (zeros 4000))) ds ≡ map (later_told (72 + length mid + 4000)) (answers receiver (fresh 48000) ds)
-after_pause_48 = after_pause at48 facts48 cut48 sixteen48 72 long48 (lit≤ tt) burst48 (Until (end_after_lem 72 3840)) found48
+after_pause_48 = after_pause at48 facts48 cut48 sixteen48 72 long48 (lit≤ tt) burst48 (Some (end_after_lem 72 3840)) found48
 
 pub too_short_48 : Suffices at48 3840 → ⊥
 too_short_48 = too_short at48 facts48 cut48 sixteen48 72 long48 (lit< tt) burst48 found48
@@ -130,18 +128,18 @@ long37 = length-append (front24 ++ (pos 0 ∷ [])) (pos 0 ∷ []) ∙ (let a = l
 abbrev burst24 : TakenBurst
 burst24 = taken_at_lem (ear_of even_taps 5 (front24 ++ (pos 0 ∷ pos 0 ∷ zeros 939))) Stream 36
 
-found24 : history_all even_taps 5 (fed cut24) ≡ standing cut24 (held_as burst24) (wait_after 5 1) (Until (end_after_lem 37 1920)) 37
+found24 : history_all even_taps 5 (fed cut24) ≡ standing cut24 (held_as burst24) (wait_after 5 1) (Some (end_after_lem 37 1920)) 37
 found24 =
     waits at24 facts24 35 front24 (pos 0) (pos 0) (zeros 939) long24 sixteen_whole (subst (λ (l : List ℤ). length l ≤ 2 ^ 63) whole24 few24)
     (subst (λ (l : List ℤ). (m : ℕ) → m ≤ 35 → Hits (ear_of even_taps 5 l m) none) whole24 none-before24) Stream
     (subst (λ (l : List ℤ). Hits (ear_of even_taps 5 l 36) (same_kind Stream)) whole24 at_36) (subst (λ (l : List ℤ). Hits (ear_of even_taps 5 l 37) none) whole24 at_37)
 
 pub still_waits_24 : (mid : List ℤ) → Sixteen mid → length mid < 919 → (run receiver (fresh 24000) (feeding (cut24 ++ mid))).control.wait ≡ waiting 1 false (919 - length mid)
-still_waits_24 = still_waits at24 facts24 cut24 small24 37 long37 (lit≤ tt) burst24 (Until (end_after_lem 37 1920)) found24
+still_waits_24 = still_waits at24 facts24 cut24 small24 37 long37 (lit≤ tt) burst24 (Some (end_after_lem 37 1920)) found24
 
 pub after_pause_24 : (mid : List ℤ) → Sixteen mid → length mid < 919 → (ds : List Call) → Each Given ds → counted at24 ((feeding (cut24 ++ mid) ++ feeding (zeros 2000)) ++ ds) < 2 ^ 63
     → answers receiver (run receiver (fresh 24000) (feeding (cut24 ++ mid) ++ feeding (zeros 2000))) ds ≡ map (later_told (37 + length mid + 2000)) (answers receiver (fresh 24000) ds)
-after_pause_24 = after_pause at24 facts24 cut24 small24 37 long37 (lit≤ tt) burst24 (Until (end_after_lem 37 1920)) found24
+after_pause_24 = after_pause at24 facts24 cut24 small24 37 long37 (lit≤ tt) burst24 (Some (end_after_lem 37 1920)) found24
 
 pub too_short_24 : Suffices at24 1920 → ⊥
 too_short_24 = too_short at24 facts24 cut24 small24 37 long37 (lit< tt) burst24 found24

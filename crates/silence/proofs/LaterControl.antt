@@ -1,9 +1,9 @@
 -- A control d samples later does the same at a search, a sample and a reply: no rule reads a sample's number but to compare it with another. Over p and any values.
 -- Assumes nothing.
+use Rattle.std.specs.Prelude.{Some, None, Option}
 use mathlib.Core.Path.{◌≡◌, refl, sym, ap, ◌∙◌, subst}
 use mathlib.Core.Bool.{Bool, true, false, cond}
-use mathlib.Core.Option.{Option, none, some}
-use Prim.Native.Nat.{ℕ, ◌+◌, ◌-◌, ◌*◌, ◌^◌, ◌≤◌, ◌<◌, min}
+use Prim.Native.Nat.{ℕ, ◌+◌, ◌*◌, ◌≤◌}
 use native.Mathlib.Nat.{min-eq_left}
 use native.Mathlib.Omega.{arith}
 use borrow.Author.Tests.{lt-ltb, le-ltb, ltb-true, ltb-false}
@@ -17,19 +17,15 @@ use Rattle.decode.specs.Correlator.{correlation, matches}
 use Rattle.search.specs.declared.Candidate.{Candidate}
 use Rattle.search.specs.declared.Candidate.TheVariants.{Nothing, Held}
 use Rattle.search.specs.declared.Waiting.{Waiting}
-use Rattle.search.specs.declared.Wait.{Wait}
-use Rattle.search.specs.declared.Wait.TheVariants.{Free, Due}
-use Rattle.search.specs.declared.Timer.{Timer}
-use Rattle.search.specs.declared.Timer.TheVariants.{Off, Until}
 use Rattle.search.specs.declared.Control.{Control}
 use Rattle.search.specs.declared.Shown.{Shown}
 use Rattle.search.specs.declared.Turn.{Turn}
 use Rattle.search.specs.declared.Turn.TheVariants.{Rest, Offer, Look}
 use Rattle.search.specs.declared.Reply.{Reply}
 use Rattle.search.specs.declared.Reply.TheVariants.{Accepted, Rejected}
-use Rattle.search.specs.TakenBurst.{TakenBurst, held_as, held_in, taken, shown_of}
-use Rattle.search.specs.Search.{with_timer, end_after_lem, carried, same_kind, wait_after, marked, matched, missed, tried, passed, searched}
-use Rattle.search.specs.Turn.{Outcome, quiet, offer, cleared, counted_to, counted, nearer, waiting_on, freed, owing, due_turn, waited_turn, turn_of, comes_to, control_of, sampled, replied}
+use Rattle.search.specs.TakenBurst.{TakenBurst, held_in, taken}
+use Rattle.search.specs.Search.{with_timer, end_after_lem, carried, same_kind, wait_after, matched, missed, tried, passed, searched}
+use Rattle.search.specs.Turn.{Outcome, quiet, offer, cleared, counted_to, counted, freed, owing, due_turn, waited_turn, comes_to, control_of, sampled, replied}
 use Rattle.search.proofs.AgeInPass.{by_test, carried_sample, matched_keeps, missed_keeps, searched_sample}
 use Rattle.demodulator_run.proofs.Count.{sampled_count}
 use Rattle.silence.specs.Later.{later_candidate, later_timer, later_control}
@@ -44,8 +40,8 @@ module _ (d : ℕ) where
   later_burst t = record { kind = t.kind; age = t.age; diff = t.diff; gain = t.gain; shift = t.shift; taken_at = t.taken_at + d }
 
   abbrev later_held : Option TakenBurst → Option TakenBurst
-  later_held none = none
-  later_held (some t) = some (later_burst t)
+  later_held None = None
+  later_held (Some t) = Some (later_burst t)
 
   abbrev pub later_shown : Shown → Shown
   later_shown s = record { kind = s.kind; gain = s.gain; shift = s.shift; taken_at = s.taken_at + d; age = s.age; replaced = s.replaced }
@@ -77,10 +73,10 @@ module _ (d : ℕ) where
       go true e = let l = ltb-true a b e in lt-ltb (a + d) (b + d) (omega arith)
       go false e = let l = ltb-false a b e in le-ltb (a + d) (b + d) (omega arith)
 
-  cleared_later : (n : ℕ) (t : Timer) → cleared (n + d) (later_timer d t) ≡ later_timer d (cleared n t)
+  cleared_later : (n : ℕ) (t : Option ℕ) → cleared (n + d) (later_timer d t) ≡ later_timer d (cleared n t)
   unfolding cleared later_timer
-  cleared_later n Off = refl
-  cleared_later n (Until end) = rw (past_later end n) (pick (later_timer d) (ltb end n) refl refl)
+  cleared_later n None = refl
+  cleared_later n (Some end) = rw (past_later end n) (pick (later_timer d) (ltb end n) refl refl)
 
   -- ---- a search
   module _ (p : ℕ) (v : ℕ → Float) where
@@ -90,19 +86,19 @@ module _ (d : ℕ) where
 
     carried_later : (burst : SyncBurst) (c : Control) → Roomy c.sample → carried p burst v (later_control d c) ≡ later_control d (carried p burst v c)
     unfolding carried later_timer
-    carried_later burst c l = pick (later_control d) (matches burst v) (ap (λ (n : ℕ). with_timer (Until n) (later_control d c)) (end_later c.sample (24 * p) (omega arith))) refl
+    carried_later burst c l = pick (later_control d) (matches burst v) (ap (λ (n : ℕ). with_timer (Some n) (later_control d c)) (end_later c.sample (24 * p) (omega arith))) refl
 
     matched_later : (o : Option TakenBurst) (new : TakenBurst) (c : Control) → matched (later_held o) (later_burst new) (later_control d c) ≡ later_control d (matched o new c)
     unfolding matched later_candidate
-    matched_later none new c = refl
-    matched_later (some t) new c = pick (later_control d) (lt t.diff new.diff) refl refl
+    matched_later None new c = refl
+    matched_later (Some t) new c = pick (later_control d) (lt t.diff new.diff) refl refl
 
     missed_later : (kind : Kind) (o : Option TakenBurst) (c : Control) → Roomy c.sample → missed p kind (later_held o) (later_control d c) ≡ later_control d (missed p kind o c)
     unfolding missed later_timer
-    missed_later kind none c l = refl
-    missed_later kind (some t) c l =
+    missed_later kind None c l = refl
+    missed_later kind (Some t) c l =
         pick (later_control d) (same_kind t.kind kind)
-        (ap (λ (n : ℕ). record { candidate = later_candidate d c.candidate; wait = wait_after p t.age; dcd = Until n; owed = c.owed; sample = c.sample + d }) (end_later c.sample (384 * p) l)) refl
+        (ap (λ (n : ℕ). record { candidate = later_candidate d c.candidate; wait = wait_after p t.age; dcd = Some n; owed = c.owed; sample = c.sample + d }) (end_later c.sample (384 * p) l)) refl
 
     tried_later : (kind : Kind) (c : Control) → Roomy c.sample → tried p v kind (later_control d c) ≡ later_control d (tried p v kind c)
     unfolding tried
@@ -134,13 +130,13 @@ module _ (d : ℕ) where
     -- ---- a sample
     due_later : (o : Option TakenBurst) (w : Waiting) (c : Control) → due_turn (later_held o) w (later_control d c) ≡ later_turn (due_turn o w c)
     unfolding due_turn
-    due_later none w c = refl
-    due_later (some t) w c = refl
+    due_later None w c = refl
+    due_later (Some t) w c = refl
 
-    waited_later : (wait : Wait) (c : Control) → waited_turn wait (later_control d c) ≡ later_turn (waited_turn wait c)
+    waited_later : (wait : Option Waiting) (c : Control) → waited_turn wait (later_control d c) ≡ later_turn (waited_turn wait c)
     unfolding waited_turn later_candidate
-    waited_later Free c = refl
-    waited_later (Due w) c =
+    waited_later None c = refl
+    waited_later (Some w) c =
         rw (held_later c.candidate) (pick later_turn (ltb 1 w.left) refl (due_later (held_in c.candidate) w (freed c)))
 
     comes_later : (t : Turn) → Roomy (control_of (comes_to p v t)).sample → comes_to p v (later_turn t) ≡ later_outcome (comes_to p v t)
@@ -151,7 +147,7 @@ module _ (d : ℕ) where
     counted_later : (c : Control) → counted (later_control d c) ≡ later_control d (counted c)
     counted_later c =
         let n : c.sample + d + 1 ≡ c.sample + 1 + d = omega arith in
-        ap (λ (k : ℕ). counted_to k (later_control d c)) n ∙ ap (λ (t : Timer). with_timer t (later_control d (counted c))) (cleared_later (c.sample + 1) c.dcd)
+        ap (λ (k : ℕ). counted_to k (later_control d c)) n ∙ ap (λ (t : Option ℕ). with_timer t (later_control d (counted c))) (cleared_later (c.sample + 1) c.dcd)
 
     pub sampled_later : (c : Control) → Roomy (c.sample + 1) → sampled p v (later_control d c) ≡ later_outcome (sampled p v c)
     unfolding sampled

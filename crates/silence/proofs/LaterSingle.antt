@@ -1,4 +1,5 @@
 -- The rules after silence, single call by single call: every answer is that of the rules from a fresh start, at a later sample. Assumes nothing.
+use Rattle.std.specs.Prelude.{Option, Some, None}
 use mathlib.Core.Path.{◌≡◌, refl, ap, ◌∙◌}
 use mathlib.Core.Bool.{Bool, not}
 use mathlib.Core.List.{List, [], ◌∷◌, ◌++◌, append_assoc}
@@ -12,8 +13,6 @@ use lib.Ieee.{Float}
 use Rattle.numbers.specs.Firsts.{written}
 use Rattle.shaping.specs.Rate.{tap_count}
 use Rattle.shaping.specs.Reach.{Finite}
-use Rattle.search.specs.declared.Timer.{Timer}
-use Rattle.search.specs.declared.Timer.TheVariants.{Off, Until}
 use Rattle.search.specs.declared.Control.{Control}
 use Rattle.search.specs.declared.Reply.{Reply}
 use Rattle.search.specs.Turn.{Outcome, quiet, offer, sampled, replied}
@@ -70,10 +69,10 @@ module _ (table : List Float) (p : ℕ) (some : 0 < p) (few : p ≤ 10) (size : 
       ∙ ap (λ (c : Control). record { said = record { answer = done; room = [] }; history = record { samples = pre ++ k.samples; control = c } })
       (replied_later (length pre) p (eight p (ago table p k.samples)) r k.control (omega arith)))
 
-  held_later : (t : Timer) → timer_held (later_timer (length pre) t) ≡ timer_held t
+  held_later : (t : Option ℕ) → timer_held (later_timer (length pre) t) ≡ timer_held t
   unfolding later_timer
-  held_later Off = refl
-  held_later (Until end) = refl
+  held_later None = refl
+  held_later (Some end) = refl
 
   pub single_later : (k : History) (c : Single) → k.control.sample + length pre < 2 ^ 63 → single table p (later_history pre k) c ≡ later_after pre (single table p k c)
   unfolding single later_paper

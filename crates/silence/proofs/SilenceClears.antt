@@ -1,17 +1,16 @@
 -- Document 02 h): "Prove that silence clears the slate." Of the rules, and of the record by the contracts' own definitions. Assumes nothing.
+use Rattle.std.specs.Prelude.{None}
 use mathlib.Core.Path.{◌≡◌, sym, ap, ◌∙◌, subst}
 use mathlib.Core.Bool.{false}
-use mathlib.Core.List.{List, [], ◌++◌, map, append-nil}
+use mathlib.Core.List.{List, ◌++◌, map, append-nil}
 use Prim.Native.Nat.{ℕ, ◌+◌, ◌^◌, ◌<◌}
 use native.Mathlib.Omega.{arith}
 use lib.ListN.{length}
 use Rattle.machine.specs.Runs.{run, answers, Each}
 use Rattle.machine.proofs.Parts.{run_joined, each_front, each_back}
-use Rattle.shaping.specs.Rate.{Rate, at48, at24}
-use Rattle.shaping.proofs.RateFacts.{Facts, facts48, facts24}
+use Rattle.shaping.specs.Rate.{Rate}
+use Rattle.shaping.proofs.RateFacts.{Facts}
 use Rattle.search.specs.declared.Candidate.TheVariants.{Nothing}
-use Rattle.search.specs.declared.Wait.TheVariants.{Free}
-use Rattle.search.specs.declared.Timer.TheVariants.{Off}
 use Rattle.search.specs.declared.Control.{Control}
 use Rattle.demodulator_run.specs.Rules.{History, start}
 use Rattle.demodulator_run.specs.Run.{fresh_at}
@@ -32,7 +31,7 @@ module _ (R : Rate) (F : Facts R) where
     unfolding later_candidate later_timer
     later_start =
         let n : h.control.sample ≡ 0 + length h.samples = omega (arith, C.count) in
-        let e : h.control ≡ later_control (length h.samples) start.control = C.control ∙ ap (controlled Nothing Free Off false) n in
+        let e : h.control ≡ later_control (length h.samples) start.control = C.control ∙ ap (controlled Nothing None None false) n in
         λ i. record { samples = sym (append-nil h.samples) i; control = e i }
 
     pub cleared_answers : (ds : List Call) → (run (rules R) h ds).control.sample < 2 ^ 63

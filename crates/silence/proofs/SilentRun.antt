@@ -1,4 +1,5 @@
 -- What silence leaves of any receiver that is reached, by the rules: nothing but the count. Over p and the table. Assumes nothing.
+use Rattle.std.specs.Prelude.{None}
 use mathlib.Core.Path.{◌≡◌, refl, sym, ap, ◌∙◌, subst}
 use mathlib.Core.Bool.{true, false, false≢true}
 use mathlib.Core.List.{List, [], ◌∷◌, ◌++◌}
@@ -10,8 +11,6 @@ use lib.ListN.{length, length-append}
 use lib.Ieee.{Float}
 use Rattle.machine.specs.Runs.{run, Each}
 use Rattle.search.specs.declared.Candidate.TheVariants.{Nothing}
-use Rattle.search.specs.declared.Wait.TheVariants.{Free}
-use Rattle.search.specs.declared.Timer.TheVariants.{Off}
 use Rattle.search.specs.declared.Control.{Control}
 use Rattle.search.specs.declared.Reply.{Reply}
 use Rattle.search.specs.Turn.{control_of, sampled, replied}
@@ -30,7 +29,7 @@ use Rattle.silence.proofs.CallsKeep.{run_keeps, any_calls, given_keeps, answered
 -- the history after silence: its control is a fresh one's but for the count, and its last 200p samples are 0
 pub record Cleared (p : ℕ) (h : History) : Type 0 where
   pub count : h.control.sample ≡ length h.samples
-  pub control : h.control ≡ controlled Nothing Free Off false h.control.sample
+  pub control : h.control ≡ controlled Nothing None None false h.control.sample
   pub since : ℕ
   pub long : since + 200 * p ≤ length h.samples
   pub zeros : ZeroFrom since (length h.samples) h.samples

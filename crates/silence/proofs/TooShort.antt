@@ -1,5 +1,6 @@
 -- A pause of 384p zeros is too short: after a frame that is cut off the carrier is still there. Over every such list of samples, at a rate. Assumes nothing.
-use mathlib.Core.Path.{◌≡◌, refl, sym, ap, ◌∙◌, subst}
+use Rattle.std.specs.Prelude.{Some}
+use mathlib.Core.Path.{◌≡◌, sym, ap, ◌∙◌, subst}
 use mathlib.Core.Bool.{Bool, true, false, true≢false, false≢true}
 use mathlib.Core.List.{List, [], ◌∷◌, ◌++◌, map}
 use Prim.Native.Nat.{ℕ, ◌+◌, ◌*◌, ◌^◌, ◌≤◌, ◌<◌}
@@ -12,8 +13,6 @@ use Rattle.machine.specs.Runs.{run, answers, Each}
 use Rattle.machine.proofs.Parts.{run_joined, each_joined}
 use Rattle.shaping.specs.Rate.{Rate}
 use Rattle.shaping.proofs.RateFacts.{Facts}
-use Rattle.search.specs.declared.Timer.{Timer}
-use Rattle.search.specs.declared.Timer.TheVariants.{Until}
 use Rattle.search.specs.declared.Control.{Control}
 use Rattle.search.specs.TakenBurst.{TakenBurst, held_as}
 use Rattle.search.specs.Search.{end_after_lem, wait_after}
@@ -29,7 +28,7 @@ use Rattle.demodulator_examples.proofs.Fed.{fed}
 use Rattle.demodulator_examples.proofs.Steps.{standing}
 use Rattle.demodulator_examples.proofs.Table.{pause as zeros}
 use Rattle.silence.specs.Later.{later_paper, later_told}
-use Rattle.silence.specs.Silence.{Silent, counted, Pause}
+use Rattle.silence.specs.Silence.{counted, Pause}
 use Rattle.silence.proofs.SilentRun.{SilentSince, run_silent}
 use Rattle.silence.proofs.PauseClears.{unheard}
 use Rattle.silence.proofs.SilenceClears.{counts}
@@ -56,7 +55,7 @@ says_yes (t ∷ ts) = yes t.answer
 
 -- ---- n samples, after which a wait is held since the last of them
 module _ (R : Rate) (F : Facts R) (xs : List ℤ) (small : Sixteen xs) (n : ℕ) (long : length xs ≡ n) (few : n + 384 * R.p < 2 ^ 63) (burst : TakenBurst)
-    (waits : history_all R.taps R.p (fed xs) ≡ standing xs (held_as burst) (wait_after R.p 1) (Until (end_after_lem n (384 * R.p))) n) where
+    (waits : history_all R.taps R.p (fed xs) ≡ standing xs (held_as burst) (wait_after R.p 1) (Some (end_after_lem n (384 * R.p))) n) where
   abbrev Held : Control → Type 0
   Held = Lasts (n + 15 * R.p) (n + 384 * R.p)
 
@@ -68,7 +67,7 @@ module _ (R : Rate) (F : Facts R) (xs : List ℤ) (small : Sixteen xs) (n : ℕ)
   Lasting = SilentSince R.taps R.p (15 * R.p) n (λ ys. Unit {0}) (λ ys g. tt) (unheard R F n) Held sampled_held (replied_lasts R.p (n + 15 * R.p) (n + 384 * R.p))
 
   abbrev first : History
-  first = standing xs (held_as burst) (wait_after R.p 1) (Until (end_after_lem n (384 * R.p))) n
+  first = standing xs (held_as burst) (wait_after R.p 1) (Some (end_after_lem n (384 * R.p))) n
 
   first_lasting : Lasting first
   first_lasting =
@@ -77,7 +76,7 @@ module _ (R : Rate) (F : Facts R) (xs : List ℤ) (small : Sixteen xs) (n : ℕ)
         count = sym long;
         good = tt;
         zeros = λ k l u. absurd (omega arith);
-        holds = record { waits = omega arith; owing = λ o. absurd (false≢true o); timer = λ l. ap Until (min-eq_left (omega arith)) };
+        holds = record { waits = omega arith; owing = λ o. absurd (false≢true o); timer = λ l. ap Some (min-eq_left (omega arith)) };
       }
 
   abbrev quiet : List ℤ
@@ -95,7 +94,7 @@ module _ (R : Rate) (F : Facts R) (xs : List ℤ) (small : Sixteen xs) (n : ℕ)
       (run_silent R.taps R.p (15 * R.p) n (λ ys. Unit {0}) (λ ys g. tt) (unheard R F n) Held sampled_held (replied_lasts R.p (n + 15 * R.p) (n + 384 * R.p))
       (feeding quiet) (pauses R F xs small (384 * R.p) enough).silent first first_lasting)
 
-  carrier_there : last.control.dcd ≡ Until (n + 384 * R.p)
+  carrier_there : last.control.dcd ≡ Some (n + 384 * R.p)
   carrier_there =
       let a = both_count R F xs small (384 * R.p) enough in
       let b = counts R F (feeding xs ++ feeding quiet) (both_given R F xs small (384 * R.p) enough) in

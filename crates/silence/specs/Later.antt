@@ -1,9 +1,7 @@
 -- Document 02 h): "sample numbers apart, which differ by a constant": what is the same d samples later. Assumes nothing.
-use Rattle.std.specs.Prelude.{List, ◌++◌, ℕ, ◌+◌, ℤ, length}
+use Rattle.std.specs.Prelude.{List, ◌++◌, ℕ, ◌+◌, ℤ, length, Option, Some, None}
 use Rattle.search.specs.declared.Candidate.{Candidate}
 use Rattle.search.specs.declared.Candidate.TheVariants.{Nothing, Held}
-use Rattle.search.specs.declared.Timer.{Timer}
-use Rattle.search.specs.declared.Timer.TheVariants.{Off, Until}
 use Rattle.search.specs.declared.Control.{Control}
 use Rattle.demodulator.specs.declared.Offer.{Offer}
 use Rattle.demodulator.specs.Calls.{Paper, refusal, nothing, frame, done, carrier}
@@ -42,9 +40,9 @@ unfoldable pub later_candidate : ℕ → Candidate → Candidate
 later_candidate d Nothing = Nothing
 later_candidate d (Held kind age diff gain shift since) = Held kind age diff gain shift (since + d)
 
-unfoldable pub later_timer : ℕ → Timer → Timer
-later_timer d Off = Off
-later_timer d (Until end) = Until (end + d)
+unfoldable pub later_timer : ℕ → Option ℕ → Option ℕ
+later_timer d None = None
+later_timer d (Some end) = Some (end + d)
 
 abbrev pub later_control : ℕ → Control → Control
 later_control d c = record {

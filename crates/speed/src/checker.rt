@@ -12,9 +12,8 @@ pub(crate) fn text_room() -> [u8; 9_700]
 
 // The line again and again.
 pub(crate) fn put_lines(text: &mut [u8], line: [u8; 97]) {
-    for i in 0..text.len() {
-        let from = i % 97;
-        text[i] = line[from];
+    for (i, place) in text.iter_mut().enumerate() {
+        *place = line[i % 97];
     }
 }
 
@@ -33,8 +32,5 @@ pub(crate) fn is_sent(text: &[u8], samples: &[i16]) -> u64 {
         return 0;
     }
     let answer = supplier::check(0, &text[0..size], samples);
-    match answer {
-        Checked::Yes => 1,
-        _ => 0,
-    }
+    matches!(answer, Ok(Checked::Yes)) as u64
 }

@@ -19,13 +19,6 @@ mod replayed;
 mod sender;
 mod sums;
 
-fn number(first: u8, second: u8, third: u8, fourth: u8) -> u32 {
-    first as u32
-        + 0x100 * (second as u32)
-        + 0x1_0000 * (third as u32)
-        + 0x100_0000 * (fourth as u32)
-}
-
 // Says that the request is read, and waits for the word to begin.
 fn begin(input: &mut impl Read, out: &mut impl Write) -> bool {
     let mut word = [0u8; 1];
@@ -35,22 +28,8 @@ fn begin(input: &mut impl Read, out: &mut impl Write) -> bool {
     input.read_exact(&mut word).is_ok()
 }
 
-fn low_byte(n: u64) -> u8 {
-    (n % 0x100) as u8
-}
-
 fn tell(out: &mut impl Write, sum: u64) -> bool {
-    let bytes = [
-        low_byte(sum),
-        low_byte(sum / 0x100),
-        low_byte(sum / 0x1_0000),
-        low_byte(sum / 0x100_0000),
-        low_byte(sum / 0x1_0000_0000),
-        low_byte(sum / 0x100_0000_0000),
-        low_byte(sum / 0x1_0000_0000_0000),
-        low_byte(sum / 0x100_0000_0000_0000),
-    ];
-    out.write_all(&bytes).is_ok()
+    out.write_all(&sum.to_le_bytes()).is_ok()
 }
 
 #[derive(Clone, Copy)]
@@ -97,8 +76,7 @@ fn send(input: &mut impl Read, out: &mut impl Write, rate: u32, frames: u32) -> 
     if input.read_exact(&mut line).is_err() {
         return false;
     }
-    let read = house::line_symbols(line);
-    let symbols = read.symbols;
+    let symbols = house::line_symbols(line).unwrap_or([0.0; 192]);
     if !begin(input, out) {
         return false;
     }
@@ -137,7 +115,7 @@ fn answer(input: &mut impl Read, out: &mut impl Write) -> bool {
     if input.read_exact(&mut header).is_err() {
         return false;
     }
-    let count = number(header[1], header[2], header[3], header[4]);
+    let count = u32::from_le_bytes([header[1], header[2], header[3], header[4]]);
     match header[0] {
         b'd' => hear(input, out, 48_000, Way::Singly, count as usize),
         b'f' => hear(input, out, 48_000, Way::InStretches, count as usize),

@@ -20,10 +20,8 @@ fn byte_room() -> [u8; 384_000]
 fn put_samples(bytes: &[u8], samples: &mut [i16])
     requires { 2 * length samples.old ≤ length bytes.now }
 {
-    for i in 0..samples.len() {
-        let low = 2 * i;
-        let high = low + 1;
-        samples[i] = house::i16_of_bytes(bytes[low], bytes[high]);
+    for (sample, pair) in samples.iter_mut().zip(bytes.chunks_exact(2)) {
+        *sample = house::i16_of_bytes(pair[0], pair[1]);
     }
 }
 

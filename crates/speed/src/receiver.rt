@@ -2,7 +2,8 @@
 ghost use Rattle.std.specs.Prelude.{◌<◌, ◌≤◌, length};
 
 use crate::sums;
-use demodulator::{Control, Heard, Reply, SoftDemodulator, Timer};
+use demodulator::{Control, Offer, Reply, SoftDemodulator};
+use protocol::Refusal;
 
 // The filtered values that the ring holds.
 fn ring_places(rate: u32) -> usize
@@ -12,24 +13,16 @@ fn ring_places(rate: u32) -> usize
 }
 
 // The sample number of an offer, and 0 where there is none.
-fn offered_at(answer: Heard) -> u64 {
+pub(crate) fn offered_at(answer: Result<Option<Offer>, Refusal>) -> u64 {
     match answer {
-        Heard::Refused(_) => 0,
-        Heard::Quiet => 0,
-        Heard::Offered(o) => o.sample,
-    }
-}
-
-fn timer_end(timer: Timer) -> u64 {
-    match timer {
-        Timer::Off => 0,
-        Timer::Until(end) => end,
+        Ok(Some(offer)) => offer.sample,
+        _ => 0,
     }
 }
 
 fn with_control(sum: u64, control: Control) -> u64 {
     let timer = control.dcd;
-    sums::with(sums::with(sum, control.sample), timer_end(timer))
+    sums::with(sums::with(sum, control.sample), timer.unwrap_or(0))
 }
 
 // A cursor past the ring, which no run has, is read as its first place.
@@ -71,8 +64,8 @@ pub(crate) fn by_sample(rate: u32, samples: &[i16]) -> u64 {
     let mut receiver = begun.demodulator;
     let mut room = [0.0f32; 192];
     let mut sum: u64 = 0;
-    for i in 0..samples.len() {
-        let after = receiver.demod(samples[i], &mut room);
+    for sample in samples {
+        let after = receiver.demod(*sample, &mut room);
         receiver = after.demodulator;
         sum = with_newest(sum, &receiver.rx_win, places, receiver.rx_cursor, 1);
         let answer = after.answer;
@@ -86,12 +79,6 @@ pub(crate) fn by_sample(rate: u32, samples: &[i16]) -> u64 {
     with_control(sum, receiver.control)
 }
 
-fn at_most_a_ring(places: usize, left: usize) -> usize
-    ensures { (result ≤ left) × (result ≤ places) }
-{
-    if left < places { left } else { places }
-}
-
 // A call for each stretch, which ends at an offer or after as many samples as the ring has places.
 pub(crate) fn by_stretch(rate: u32, samples: &[i16]) -> u64 {
     let places = ring_places(rate);
@@ -99,19 +86,17 @@ pub(crate) fn by_stretch(rate: u32, samples: &[i16]) -> u64 {
     let mut receiver = begun.demodulator;
     let mut room = [0.0f32; 192];
     let mut sum: u64 = 0;
-    let mut i: usize = 0;
-    while i < samples.len() {
-        let left = samples.len() - i;
-        let most = at_most_a_ring(places, left);
-        let end = i + most;
-        let after = receiver.feed(&samples[i..end], &mut room);
+    let mut rest = samples;
+    while !rest.is_empty() {
+        let stretch = &rest[..places.min(rest.len())];
+        let after = receiver.feed(stretch, &mut room);
         receiver = after.demodulator;
         // Nothing here is refused, so neither comes about; the tests bound the loop.
         let fed = after.fed;
         if fed == 0 {
             return sum;
         }
-        if most < fed {
+        if stretch.len() < fed {
             return sum;
         }
         sum = with_newest(sum, &receiver.rx_win, places, receiver.rx_cursor, fed);
@@ -122,7 +107,7 @@ pub(crate) fn by_stretch(rate: u32, samples: &[i16]) -> u64 {
             let settled = receiver.reply(Reply::Accepted);
             receiver = settled.demodulator;
         }
-        i += fed;
+        rest = &rest[fed..];
     }
     with_control(sum, receiver.control)
 }

@@ -1,13 +1,11 @@
 // The sender over frames of the same symbols, each read to its end, at 48,000 or 24,000 samples a second. The checksum takes in how many samples each read wrote, and the last frame's samples.
 use crate::sums;
 use given_symbols::Traffic;
-use modulator::{ModulatorFrame, Read, SoftModulator};
+use modulator::{ModulatorFrame, SampleCount, SoftModulator};
+use protocol::Refusal;
 
-fn count_of(answer: Read) -> u64 {
-    match answer {
-        Read::Refused(_) => 0,
-        Read::Wrote(count) => count.0 as u64,
-    }
+fn count_of(answer: Result<SampleCount, Refusal>) -> u64 {
+    answer.map_or(0, |count| count.0 as u64)
 }
 
 pub(crate) fn frames(rate: u32, count: u32, symbols: [f32; 192]) -> u64 {

@@ -3,7 +3,7 @@
 // One value more. What is kept of the sum is so small that its product fits.
 pub(crate) fn with(sum: u64, value: u64) -> u64 {
     let kept = sum % 0x100_0000_0000_0000;
-    std::num::wrapping_add_u64(251 * kept, value)
+    (251 * kept).wrapping_add(value)
 }
 
 // By its bit pattern. A not-a-number has none: one of its own stands for it.
@@ -16,8 +16,8 @@ pub(crate) fn with_float(sum: u64, x: f32) -> u64 {
 
 pub(crate) fn with_floats(sum: u64, values: &[f32]) -> u64 {
     let mut longer = sum;
-    for i in 0..values.len() {
-        longer = with_float(longer, values[i]);
+    for value in values {
+        longer = with_float(longer, *value);
     }
     longer
 }
@@ -34,8 +34,8 @@ fn with_sample(sum: u64, sample: i16) -> u64 {
 
 pub(crate) fn with_samples(sum: u64, samples: &[i16]) -> u64 {
     let mut longer = sum;
-    for i in 0..samples.len() {
-        longer = with_sample(longer, samples[i]);
+    for sample in samples {
+        longer = with_sample(longer, *sample);
     }
     longer
 }

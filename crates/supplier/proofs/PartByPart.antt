@@ -1,9 +1,11 @@
 -- The transmission, part by part, beside the stretch: padding, preamble, lines and end. Assumes nothing.
 use mathlib.Core.Path.{◌≡◌, refl, sym, ap, ◌∙◌}
-use mathlib.Core.Bool.{true, false}
+use mathlib.Core.Bool.{Bool, true, false}
 use mathlib.Core.List.{List, [], ◌++◌, append_assoc, append-nil, flatten}
 use Prim.Native.Nat.{ℕ, ◌+◌, ◌≤◌, ◌<◌}
 use native.Mathlib.Omega.{arith}
+use borrow.Author.Tests.{ltb-true, ltb-false}
+use lib.Dec.{ltb}
 use lib.IntN.{ℤ, pos}
 use lib.ListN.{length, take, drop, replicate, length-drop, length-replicate, drop_of_length-le}
 use lib.Seq.{drop-cons, drop-drop}
@@ -159,6 +161,14 @@ module _ (padding : ℕ) (text : List ℕ) (samples : List ℤ) (m : SoftModulat
             ∙ met_line.goes aye
             ∙ ap (λ (t : List ℕ). beside_from samples r.at (st.xs ++ line_firsts) (line_symbols (lines_of t) ++ end_symbols)) later;
       }
+
+  -- at as many whole lines as the text has room for
+  pub all_lines : length text < i + 97 → length text ≤ i
+  all_lines few = by_test (ltb i (length text)) refl
+    where
+      by_test : (t : Bool) → ltb i (length text) ≡ t → length text ≤ i
+      by_test true e = let never : ⊥ = omega (arith, line_inside (ltb-true i (length text) e)) in absurd never
+      by_test false e = ltb-false i (length text) e
 
   module _ (all : length text ≤ i) (r : AfterPart) (says : PartSays m EndOfTransmission no_symbols samples at r) where
     no_more : line_symbols (lines_of (drop i text)) ++ end_symbols ≡ end_symbols ++ []

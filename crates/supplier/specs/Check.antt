@@ -1,9 +1,10 @@
 -- Document 02 m): the samples of a box that "claims to send what we send". Assumes nothing.
-use Rattle.std.specs.Prelude.{◌≡◌, Bool, false, cond, List, [], ◌∷◌, ◌++◌, ℕ, suc, ltb, eqb, ℤ, pos, negsuc, replicate}
+use Rattle.std.specs.Prelude.{◌≡◌, Bool, false, cond, List, [], ◌∷◌, ◌++◌, ℕ, suc, ltb, eqb, ℤ, pos, negsuc, replicate, Result, Ok, Err}
+use Rattle.protocol.specs.declared.Refusal.{Refusal}
 use Rattle.protocol.specs.Refusals.{PaperRefusal, bare, at_line, on_paper}
 use Rattle.sending.specs.Text.{Bad, none, in_line, bad_line_lem, samples_sent}
 use Rattle.supplier.specs.declared.Checked.{Checked}
-use Rattle.supplier.specs.declared.Checked.TheVariants.{Refused, Yes, Differs, Short, Long}
+use Rattle.supplier.specs.declared.Checked.TheVariants.{Yes, Differs, Short, Long}
 
 pub data Verdict : Type 0 where
   refused : PaperRefusal → Verdict
@@ -13,11 +14,15 @@ pub data Verdict : Type 0 where
   long : Verdict
 
 abbrev pub checked_paper : Checked → Verdict
-checked_paper (Refused why) = refused (on_paper why)
 checked_paper Yes = yes
 checked_paper (Differs sample) = differs sample
 checked_paper Short = short
 checked_paper Long = long
+
+-- with a refusal in its place
+abbrev pub answer_paper : Result Checked Refusal → Verdict
+answer_paper (Err why) = refused (on_paper why)
+answer_paper (Ok checked) = checked_paper checked
 
 -- ---- "the sender's own from a fresh start: zero padding of a stated count, preamble, frames, end"
 -- after the padding: what `send` writes of the text
@@ -47,5 +52,5 @@ unfoldable pub checked : ℕ → List ℕ → List ℤ → Verdict
 checked padding text samples = cond (ltb 122400 padding) (refused (bare 8)) (unless_bad (bad_line_lem text) (beside 1 (ours padding text) samples))
 
 -- ---- what the function promises
-abbrev pub CheckSays : ℕ → List ℕ → List ℤ → Checked → Type 0
-CheckSays padding text samples r = checked_paper r ≡ checked padding text samples
+abbrev pub CheckSays : ℕ → List ℕ → List ℤ → Result Checked Refusal → Type 0
+CheckSays padding text samples r = answer_paper r ≡ checked padding text samples

@@ -1,5 +1,5 @@
 -- A part of the transmission beside the stretch: all of it is there and the comparison goes on, or the verdict is known. Assumes nothing.
-use Rattle.std.specs.Prelude.{◌≡◌, Bool, true, false, cond, List, [], ◌∷◌, ℕ, suc, ◌+◌, ℤ, take, drop, Float}
+use Rattle.std.specs.Prelude.{◌≡◌, Bool, true, false, cond, List, [], ◌∷◌, ℕ, suc, ◌+◌, ℤ, take, drop, Float, Option, Some, None}
 use Rattle.shaping.specs.Rate.{rate_of}
 use Rattle.modulator.specs.declared.SoftModulator.{SoftModulator}
 use Rattle.modulator.specs.declared.ModulatorFrame.{ModulatorFrame}
@@ -8,8 +8,6 @@ use Rattle.modulator.specs.Calls.{read as readInto}
 use Rattle.modulator_run.specs.Pieces.{counted}
 use Rattle.sending.specs.Text.{Bad, none, in_line}
 use Rattle.sending.specs.Calls.{empty_room}
-use Rattle.supplier.specs.declared.text.BadLine.{BadLine}
-use Rattle.supplier.specs.declared.text.BadLine.TheVariants.{Nothing, At}
 use Rattle.supplier.specs.declared.part.AfterPart.{AfterPart}
 use Rattle.supplier.specs.Check.{Verdict, refused, yes, differs, short, long, checked_paper, same_sample}
 
@@ -28,9 +26,9 @@ is_yes short = false
 is_yes long = false
 
 -- ---- lines
-abbrev pub bad_paper : BadLine → Bad
-bad_paper Nothing = none
-bad_paper (At number) = in_line number
+abbrev pub bad_paper : Option ℕ → Bad
+bad_paper None = none
+bad_paper (Some number) = in_line number
 
 -- ---- a frame is given to the sender, all of its samples are read, and the stretch from `at` on is held beside them
 abbrev pub frame_taken : SoftModulator → ModulatorFrame → List Float → SoftModulator

@@ -5,33 +5,25 @@ ghost use Rattle.supplier.specs.Parts.{front, is_yes};
 
 use super::Checked;
 
+#[tactic(auto, unfolding(crate::specs::Parts::is_yes))]
 pub(crate) fn is_yes(verdict: Checked) -> bool
     ensures { result ≡ is_yes (checked_paper verdict) }
 {
-    match verdict {
-        Checked::Refused(_) => false,
-        Checked::Yes => true,
-        Checked::Differs(_) => false,
-        Checked::Short => false,
-        Checked::Long => false,
-    }
+    matches!(verdict, Checked::Yes)
 }
 
 // The zeros of the padding, with which the stretch begins.
 pub(crate) fn meet_padding(padding: usize, samples: &[i16]) -> Checked
     ensures { checked_paper result ≡ front 1 (replicate padding (pos 0)) samples.now }
 {
-    let mut met: usize = 0;
-    while met < padding {
-        if samples.len() <= met {
-            return Checked::Short;
+    let begun = &samples[..padding.min(samples.len())];
+    for (met, sample) in begun.iter().enumerate() {
+        if *sample != 0 {
+            return Checked::Differs(met + 1);
         }
-        let sample = samples[met];
-        let number = met + 1;
-        if sample != 0 {
-            return Checked::Differs(number);
-        }
-        met = number;
+    }
+    if samples.len() < padding {
+        return Checked::Short;
     }
     Checked::Yes
 }
@@ -41,19 +33,15 @@ pub(crate) fn meet_part(made: &[i16], count: usize, samples: &[i16], at: usize) 
     requires { (count ≤ length made.now) × (at ≤ length samples.now) }
     ensures { checked_paper result ≡ front (at + 1) (take count made.now) (drop at samples.now) }
 {
-    let mut i: usize = 0;
-    while i < count {
+    for (i, own) in made[..count].iter().enumerate() {
         let place = at + i;
-        if samples.len() <= place {
+        let Some(sample) = samples.get(place) else {
             return Checked::Short;
-        }
-        let sample = samples[place];
-        let own = made[i];
-        if sample != own {
+        };
+        if *sample != *own {
             let number = place + 1;
             return Checked::Differs(number);
         }
-        i += 1;
     }
     Checked::Yes
 }

@@ -5,7 +5,6 @@
 ghost use Rattle.supplier.specs.Check.{CheckSays};
 
 use protocol::Refusal;
-use text::BadLine;
 
 mod beside;
 mod part;
@@ -14,7 +13,6 @@ mod text;
 // `Differs` has the number of the first sample that differs, from 1, the padding's zeros counted.
 #[derive(Clone, Copy)]
 pub enum Checked {
-    Refused(Refusal),
     Yes,
     Differs(usize),
     Short,
@@ -24,15 +22,14 @@ pub enum Checked {
 // The padding's zeros, preamble, a frame for each line, and end of transmission: yes exactly if the samples are these.
 // All lines are judged before any sample is looked at.
 #[tactic(auto, using(crate::proofs::CheckLaws::checking))]
-pub fn check(padding: usize, lines: &[u8], samples: &[i16]) -> Checked
+pub fn check(padding: usize, lines: &[u8], samples: &[i16]) -> Result<Checked, Refusal>
     ensures { CheckSays padding lines.now samples.now result }
 {
     if 122400 < padding {
-        return Checked::Refused(Refusal::CountTooLarge);
+        return Err(Refusal::CountTooLarge);
     }
-    let bad = text::first_bad(lines);
-    match bad {
-        BadLine::At(number) => Checked::Refused(Refusal::BadLine(number)),
-        BadLine::Nothing => part::compare(padding, lines, samples),
+    match text::first_bad(lines) {
+        Some(number) => Err(Refusal::BadLine(number)),
+        None => Ok(part::compare(padding, lines, samples)),
     }
 }

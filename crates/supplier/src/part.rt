@@ -8,9 +8,9 @@ ghost use Rattle.supplier.specs.Parts.{PartSays};
 
 use super::Checked;
 use super::beside::{is_yes, meet_padding, meet_part};
-use super::text::line_at;
 use given_symbols::Traffic;
-use modulator::{DelaySteps, ModulatorFrame, Read, SoftModulator};
+use modulator::{DelaySteps, ModulatorFrame, SampleCount, SoftModulator};
+use protocol::Refusal;
 
 // A frame that takes no symbols does not look at those beside it.
 const NO_SYMBOLS: [f32; 192] = [0.0; 192];
@@ -24,13 +24,11 @@ pub(crate) struct AfterPart {
 }
 
 // How many samples a read has written.
-fn count(answer: Read) -> usize
+#[tactic(auto, unfolding(modulator_run::specs::Pieces::counted))]
+fn count(answer: Result<SampleCount, Refusal>) -> usize
     ensures { result ≡ counted (read_paper answer) }
 {
-    match answer {
-        Read::Refused(_) => 0,
-        Read::Wrote(n) => n.0,
-    }
+    answer.map_or(0, |n| n.0)
 }
 
 // The room holds the longest frame, the end of transmission.
@@ -83,11 +81,9 @@ pub(crate) fn compare(padding: usize, lines: &[u8], samples: &[i16]) -> Checked
     }
     let mut modulator = first.modulator;
     let mut at = first.at;
-    let mut i: usize = 0;
-    while i < lines.len() {
-        let line = line_at(lines, i);
-        let read = house::line_symbols(line);
-        let symbols = read.symbols;
+    let (whole, _) = lines.as_chunks::<97>();
+    for line in whole {
+        let symbols = house::line_symbols(*line).unwrap();
         let next = part(
             modulator,
             ModulatorFrame::Symbols(Traffic::Ordinary),
@@ -101,7 +97,6 @@ pub(crate) fn compare(padding: usize, lines: &[u8], samples: &[i16]) -> Checked
         }
         modulator = next.modulator;
         at = next.at;
-        i += 97;
     }
     let last = part(
         modulator,

@@ -1,8 +1,8 @@
 -- `counted` meets its contract. The loop's invariant: the count so far and that of the rest are the count of all. Assumes nothing.
 use mathlib.Core.Path.{◌≡◌}
 use mathlib.Core.List.{List}
-use Prim.Native.Nat.{ℕ, ◌+◌, ◌-◌, ◌*◌, ◌≤◌}
-use lib.ListN.{drop}
+use Prim.Native.Nat.{ℕ, ◌+◌, ◌*◌, ◌≤◌}
+use lib.ListN.{length, drop}
 use lib.Ieee.{Float}
 use Rattle.bit_errors.specs.Errors.{bits_of, differences}
 use Rattle.bit_errors.proofs.counted.Given as goal
@@ -11,8 +11,7 @@ use Rattle.bit_errors.proofs.counted.Given as goal
 abbrev pub count_from : List Float → List Float → ℕ → ℕ
 count_from sent received i = differences (bits_of (drop i sent)) (bits_of (drop i received))
 
-abbrev pub invariant-loop-i : goal.invariant-loop-i
-invariant-loop-i l = (l.i ≤ 184) × (l.count ≤ 2 * l.i) × (l.count + count_from l.sent l.received l.i ≡ count_from l.sent l.received 0)
-
-abbrev pub decreases-loop-i : goal.decreases-loop-i
-decreases-loop-i l = 184 - l.i
+abbrev pub invariant-loop-a : goal.invariant-loop-a
+invariant-loop-a l =
+    let n : ℕ = length l.yielded in
+    (n ≤ 184) × (l.count ≤ 2 * n) × (l.count + count_from l.sent l.received n ≡ count_from l.sent l.received 0)

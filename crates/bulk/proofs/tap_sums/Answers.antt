@@ -1,18 +1,16 @@
 -- `tap_sums` meets its contract: after i turns each sum has its first i products, and within a turn the first k sums have one more. Assumes
 -- nothing.
 use mathlib.Core.Path.{◌≡◌, refl, sym}
-use mathlib.Core.List.{List}
-use Prim.Native.Nat.{ℕ, ◌-◌, ◌≤◌, ◌<◌}
+use Prim.Native.Nat.{◌-◌, ◌≤◌, ◌<◌}
 use native.Mathlib.Omega.{arith}
-use borrow.Author.Rules.{rules}
 use borrow.Author.Tests.{lt-ltb, le-ltb}
 use lib.ListN.{length, get_or}
-use lib.Ieee.{Float, nan, binary32, mul}
+use lib.Ieee.{nan}
 use Rattle.numbers.specs.Sum.{nought}
-use Rattle.numbers.proofs.Lanes.{Lanes, lanes_start, lanes_step, lanes_turn, lanes_sums}
+use Rattle.numbers.proofs.Lanes.{lanes_start, lanes_step, lanes_turn, lanes_sums}
 use Rattle.shaping.specs.Sum.{dot}
 use Rattle.shaping.proofs.Dot.{inside}
-use Rattle.bulk.specs.Sums.{value_from, sums_of}
+use Rattle.bulk.specs.Sums.{sums_of}
 use Rattle.bulk.proofs.tap_sums.Goals as goal
 
 pub returns-then-saturating_sub-table : goal.returns-then-saturating_sub-table
@@ -23,17 +21,17 @@ returns-then-saturating_sub-table c =
     rw (lt-ltb _ _ short)
 
 pub loop-i-init : goal.loop-i-init
-loop-i-init c = (search rules, lanes_start 48 _)
+loop-i-init c = lanes_start 48 _
 
 pub loop-k-preserved : goal.loop-k-preserved
 loop-k-preserved c =
     let a = c.args in
     let i = c.loop-i.i in
     let tap : get_or a.table.now i nan ≡ get_or a.table.now i nought = inside a.table.now i nan nought (omega arith) in
-    (search rules, lanes_step c.loop-k.invariant.1 (omega arith) (rw tap))
+    lanes_step c.loop-k.invariant c.loop-k-test.true (rw tap)
 
 pub loop-i-preserved : goal.loop-i-preserved
-loop-i-preserved c = (search rules, lanes_turn c.loop-k.invariant.1 (omega arith))
+loop-i-preserved c = lanes_turn c.loop-k.invariant c.loop-k-test.false
 
 pub returns : goal.returns
 unfolding sums_of dot
@@ -41,4 +39,4 @@ returns c =
     let a = c.args in
     let long : length a.table.now ≤ length a.row.now - 47 = rw (sym c.saturating_sub.ensures) c.if-saturating_sub-table.false in
     let done : c.loop-i.i ≡ length a.table.now = omega arith in
-    rw (le-ltb _ _ long) (rw done at (lanes_sums c.loop-i.invariant.1 refl))
+    rw (le-ltb _ _ long) (rw done at (lanes_sums c.loop-i.invariant refl))

@@ -1,6 +1,5 @@
 -- `generate_end_of_transmission` meets its contract.
 use mathlib.Core.Path.{◌∙◌}
-use borrow.Author.Rules.{rules}
 use Rattle.encode.proofs.Repeats.{end_repeats}
 use Rattle.encode.proofs.generate_end_of_transmission.Goals as goal
 

@@ -1,6 +1,5 @@
 -- `generate_preamble` meets its contract.
 use mathlib.Core.Path.{◌∙◌}
-use borrow.Author.Rules.{rules}
 use Rattle.encode.proofs.Repeats.{preamble_repeats}
 use Rattle.encode.proofs.generate_preamble.Goals as goal
 

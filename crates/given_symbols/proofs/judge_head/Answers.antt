@@ -1,6 +1,5 @@
 -- `judge_head` meets its contract. Assumes nothing.
 use mathlib.Core.Path.{sym, ◌∙◌}
-use borrow.Author.Rules.{rules}
 use Rattle.given_symbols.specs.Offender.{headed}
 use Rattle.given_symbols.proofs.judge_head.Goals as goal
 

@@ -1,6 +1,5 @@
 -- `code_errors` meets its contract. Assumes nothing.
-use borrow.Author.Rules.{rules}
 use Rattle.library_house.proofs.code_errors.Goals as goal
 
-pub returns-in-Refused : goal.returns-in-Refused
-returns-in-Refused c = rw (c.in-Refused.is, c.refusal_code.ensures)
+pub returns-in-Err : goal.returns-in-Err
+returns-in-Err c = rw (c.in-Err.is, c.refusal_code.ensures)

@@ -1,8 +1,6 @@
 -- `m17_report_add` meets its contract. Assumes nothing.
 use mathlib.Core.Path.{◌≡◌, sym, ◌∙◌}
 use mathlib.Core.Bool.{true}
-use borrow.Author.Rules.{rules}
-use borrow.Author.Tests.{not-true, not-false}
 use Rattle.shaping.specs.Rate.{rate_fit}
 use Rattle.library_report.specs.Memory.{memory_at}
 use Rattle.library_report.proofs.MemoryCases.{no_rate, no_report_lem, add_settles}

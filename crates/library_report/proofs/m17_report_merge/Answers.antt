@@ -1,8 +1,6 @@
 -- `m17_report_merge` meets its contract. Assumes nothing.
 use mathlib.Core.Path.{◌≡◌, sym, ◌∙◌}
 use mathlib.Core.Bool.{◌&&◌}
-use borrow.Author.Rules.{rules}
-use borrow.Author.Tests.{not-true, not-false}
 use Rattle.library_report.specs.Layout.{is_report_lem}
 use Rattle.library_report.specs.Memory.{memory_at}
 use Rattle.library_report.proofs.MemoryCases.{not_both, merge_settles}

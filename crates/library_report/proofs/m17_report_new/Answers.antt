@@ -1,5 +1,4 @@
 -- `m17_report_new` meets its contract. Assumes nothing.
-use borrow.Author.Rules.{rules}
 use Rattle.library_report.proofs.m17_report_new.Goals as goal
 
 pub returns : goal.returns

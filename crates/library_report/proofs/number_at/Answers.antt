@@ -1,5 +1,4 @@
 -- `number_at` meets its contract. Assumes nothing.
-use borrow.Author.Rules.{rules}
 use borrow.Author.Tests.{lt-ltb, le-ltb}
 use Rattle.library_report.proofs.number_at.Goals as goal
 

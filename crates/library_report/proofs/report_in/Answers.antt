@@ -1,5 +1,4 @@
 -- `report_in` meets its contract. Assumes nothing.
-use borrow.Author.Rules.{rules}
 use Rattle.library_report.proofs.report_in.Goals as goal
 
 pub returns : goal.returns

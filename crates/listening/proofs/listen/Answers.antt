@@ -1,23 +1,14 @@
--- `listen` meets its contract. Assumes nothing.
+-- `listen` meets its contract: of an offer by its own lemma. Assumes nothing.
+use mathlib.Core.Path.{◌≡◌}
+use Rattle.std.specs.Prelude.{Ok, Some}
+use borrow.Author.Rules.{rules}
 use Rattle.demodulator.specs.Singles.{blank}
-use Rattle.listening.proofs.Settlement.{listens_refused, listens_quiet, listens_offered}
+use Rattle.listening.proofs.Settlement.{listens_offered}
 use Rattle.listening.proofs.listen.Goals as goal
 
-pub returns-in-Refused : goal.returns-in-Refused
+pub returns-in-Ok-Some : goal.returns-in-Ok-Some
 unfolding blank
-returns-in-Refused c =
+returns-in-Ok-Some c =
     let a = c.args in
-    listens_refused a.demodulator a.samples.now c.feed-after.result _ c.feed-after.ensures _ c.in-Refused.is
-
-pub returns-in-Quiet : goal.returns-in-Quiet
-unfolding blank
-returns-in-Quiet c =
-    let a = c.args in
-    listens_quiet a.demodulator a.samples.now c.feed-after.result _ c.feed-after.ensures c.in-Quiet.is
-
-pub returns-in-Offered : goal.returns-in-Offered
-unfolding blank
-returns-in-Offered c =
-    let a = c.args in
-    rw c.in-Offered.is at
-    (listens_offered a.demodulator a.samples.now c.feed-after.result _ c.feed-after.ensures c.in-Offered.offer c.in-Offered.is c.judge-reply.result c.judge-reply.ensures _ c.reply-replied.ensures.leaves)
+    let offered : c.feed-after.result.answer ≡ Ok (Some c.in-Ok-Some.offer) = search rules in
+    listens_offered a.demodulator a.samples.now c.feed-after.result _ c.feed-after.ensures c.in-Ok-Some.offer offered c.judge-reply.result c.judge-reply.ensures _ c.reply.ensures.leaves

@@ -4,7 +4,6 @@ use mathlib.Core.List.{append-nil}
 use Prim.Native.Nat.{ℕ}
 use native.Mathlib.Numerals.{add-one}
 use native.Mathlib.Omega.{arith}
-use borrow.Author.Rules.{rules}
 use lib.ListN.{replicate}
 use Rattle.numbers.specs.Firsts.{firsts}
 use Rattle.numbers.proofs.Firsts.{written_step}
@@ -20,17 +19,17 @@ returns-then-row-p c = sym (marks_short _ _ (omega arith))
 
 pub loop-k-init : goal.loop-k-init
 unfolding firsts
-loop-k-init c = (search rules, refl)
+loop-k-init c = refl
 
 pub loop-k-preserved : goal.loop-k-preserved
 loop-k-preserved c =
     let a = c.args in
     let k = c.loop-k.k in
     let next = written_step (λ (j : ℕ). mark_of (eight_from a.p a.row.now j)) k (replicate 48 2) 0 (omega arith) in
-    (search rules, rw (add-one k, c.mark-m.ensures ∙ eight_same a.p a.row.now k, c.loop-k.invariant.1) next)
+    rw (add-one k, c.mark.ensures ∙ eight_same a.p a.row.now k, c.loop-k.invariant) next
 
 pub returns : goal.returns
 returns c =
     let done : c.loop-k.k ≡ 48 = omega arith in
     let a = c.args in
-    c.loop-k.invariant.1 ∙ rw done (append-nil _ ∙ sym (marks_long a.p a.row.now (omega arith) (omega arith)))
+    c.loop-k.invariant ∙ rw done (append-nil _ ∙ sym (marks_long a.p a.row.now (omega arith) (omega arith)))

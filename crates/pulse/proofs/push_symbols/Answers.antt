@@ -1,45 +1,25 @@
 -- `push_symbols` meets its contract: what is ready is sent, all else is given back. Assumes nothing.
-use mathlib.Core.Path.{◌≡◌, sym, ◌∙◌}
-use mathlib.Core.Bool.{true}
+use Prim.Native.Nat.{◌/◌, ◌≤◌}
 use native.Mathlib.Omega.{arith}
-use Rattle.shaping.specs.Rate.{Known, rate_fit}
-use Rattle.shaping.proofs.RateFacts.{rate_known}
-use Rattle.pulse.proofs.Ready.{room_short, room_enough, sent_by, no_rate, past_window, short_room}
+use lib.ListN.{length}
+use Rattle.pulse.proofs.Ready.{fit_by, counts_by, unfit_by, room_short, room_enough, sent_by, no_rate, past_window, short_room}
 use Rattle.pulse.proofs.push_symbols.Goals as goal
-use Rattle.pulse.proofs.push_symbols.Lts as Lts
-use Rattle.pulse.proofs.push_symbols.Reads as Reads
-use Rattle.pulse.proofs.push_symbols.Tie as Tie
 
-abbrev After-samples_in-p : Type 0
-After-samples_in-p = Lts.After-samples_in Tie.the-claims Reads.Pre Reads.Post
+pub returns-in_default : goal.returns-in_default
+returns-in_default c = no_rate _ _ _ _ _ (unfit_by c.args.rate c.in_default.ensures)
 
-fit : (c : After-samples_in-p) → rate_fit c.args.rate ≡ true
-fit c = sym c.is_rate.ensures ∙ c.if-not-is_rate.false
+pub returns-then-samples-cursor : goal.returns-then-samples-cursor
+returns-then-samples-cursor c =
+    let says = c.in-Some.ensures in
+    past_window _ _ _ _ _ (fit_by c.args.rate _ says) _ (counts_by c.args.rate _ says) (omega arith)
 
-known : (c : After-samples_in-p) → Known c.samples_in-p.result
-known c = rw c.samples_in-p.ensures (rate_known c.args.rate (fit c))
-
-pub returns-then-not-is_rate : goal.returns-then-not-is_rate
-returns-then-not-is_rate c = no_rate _ _ _ _ _ (sym c.is_rate.ensures ∙ c.if-not-is_rate.true)
-
-pub overflow_mul-p : goal.overflow_mul-p
-overflow_mul-p c = let k = known c.before in omega arith
-
-pub returns-then-p-cursor : goal.returns-then-p-cursor
-returns-then-p-cursor c = past_window _ _ _ _ _ (fit c.before.before) _ c.samples_in-p.ensures (omega arith)
-
-pub nonzero_div-room : goal.nonzero_div-room
-nonzero_div-room c = let k = known c.before.before in omega arith
-
-pub returns-then-room-p : goal.returns-then-room-p
-returns-then-room-p c = short_room _ _ _ _ _ (fit c.before.before.before) _ c.samples_in-p.ensures (room_short _ _ _ (let k = known c.before.before.before in omega arith) c.if-room-p.true)
-
-pub push_ready-requires : goal.push_ready-requires
-push_ready-requires c =
-    let k = known c.before.before.before.before.before in
-    (k, omega arith, room_enough _ _ _ (omega arith) (omega (arith, c.if-room-p.false)))
+pub returns-then-room-samples : goal.returns-then-room-samples
+returns-then-room-samples c =
+    let says = c.in-Some.ensures in
+    short_room _ _ _ _ _ (fit_by c.args.rate _ says) _ (counts_by c.args.rate _ says) (room_short _ _ _ (omega arith) (rw c.samples-2.ensures at c.if-room-samples.true))
 
 pub returns : goal.returns
 returns c =
-    let k = known c.before.before.before.before.before.before.before in
-    sent_by _ _ _ _ _ c.samples_in-p.result c.samples_in-p.ensures (fit c.before.before.before.before.before.before.before) (omega arith) (room_enough _ _ _ (omega arith) (omega (arith, c.if-room-p.false))) _ _ _ c.push_ready.ensures
+    let says = c.in-Some.ensures in
+    let enough : length c.args.symbols.now ≤ length c.args.room.now / c.samples-2.result = omega (arith, c.if-room-samples.false) in
+    sent_by _ _ _ _ _ c.in-Some.p (counts_by c.args.rate _ says) (fit_by c.args.rate _ says) (omega arith) (room_enough _ _ _ (omega arith) (rw c.samples-2.ensures at enough)) _ _ _ c.push_ready.ensures

@@ -11,7 +11,6 @@ loop-i-init c = search rules
 pub loop-i-preserved : goal.loop-i-preserved
 loop-i-preserved c = (
   omega arith,
-  omega arith,
   c.next-at.ensures
-      ∙ next_begins c.args.letter c.args.line.now c.loop-i.i c.loop-i.at c.find-end.result c.loop-i.invariant.2 c.find-end.ensures.value,
+      ∙ next_begins c.args.letter c.args.line.now c.loop-i._i c.loop-i.at c.find.result c.loop-i.invariant.1 c.find.ensures.value,
 )

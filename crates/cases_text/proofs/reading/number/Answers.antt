@@ -1,13 +1,13 @@
 -- `number` meets its contract. Assumes nothing.
-use Rattle.std.proofs.Common.{arith, rules, add-one}
+use Rattle.std.proofs.Common.{refl, add-one}
 use Rattle.cases_text.specs.Numbers.{number_to}
 use Rattle.cases_text.proofs.reading.number.Goals as goal
 
-pub loop-i-init : goal.loop-i-init
+pub loop-letter-init : goal.loop-letter-init
 unfolding number_to
-loop-i-init c = search rules
+loop-letter-init c = refl
 
-pub loop-i-preserved : goal.loop-i-preserved
+pub loop-letter-preserved : goal.loop-letter-preserved
 unfolding number_to
-loop-i-preserved c =
-    (omega arith, rw (add-one c.loop-i.i, ← c.digit-next.ensures.value, ← c.loop-i.invariant.1) c.appended-value.ensures)
+loop-letter-preserved c =
+    rw (add-one c.loop-letter.letter-index, ← c.digit.ensures.value, ← c.loop-letter.invariant) c.appended-value.ensures

@@ -5,7 +5,6 @@ use mathlib.Core.List.{List}
 use Prim.Native.Nat.{ℕ}
 use lib.IntN.{ℤ}
 use lib.Ieee.{Float, lt}
-use borrow.Author.Rules.{rules}
 use Rattle.protocol.specs.Bursts.{signs_of}
 use Rattle.decode.specs.Correlator.{least_gain, no_match, diff_of, summed, distances, compared}
 use Rattle.decode.specs.Parts.{values_of}

@@ -1,26 +1,17 @@
--- `eight_in_range` meets its contract: after i values, the answer is that of the first i. Assumes nothing.
-use mathlib.Core.Path.{◌≡◌, ◌∙◌}
-use Prim.Native.Nat.{ℕ, ◌≤◌, ◌-◌}
-use native.Mathlib.Numerals.{add-one}
-use native.Mathlib.Omega.{arith}
+-- `eight_in_range` meets its contract. Assumes nothing.
+use mathlib.Core.Path.{◌∙◌}
 use borrow.Author.Rules.{rules}
-use Rattle.numbers.specs.Below.{all_below}
+use borrow.Author.Tests.{tests}
+use lib.Ieee.{nan}
+use Rattle.std.proofs.lemmas.Iterator.{YieldsList-from_slice}
+use Rattle.std.proofs.lemmas.Iterator.Search.{all_from_yields_List}
 use Rattle.decode.specs.Correlator.{in_range}
-use Rattle.decode.specs.Parts.{values_of}
+use Rattle.decode.proofs.ByPlaces.{all_by_places}
 use Rattle.decode.proofs.correlator.eight_in_range.Goals as goal
-
-pub loop-i-init : goal.loop-i-init
-unfolding all_below
-loop-i-init c = search rules
-
-pub loop-i-preserved : goal.loop-i-preserved
-unfolding all_below
-loop-i-preserved c =
-    let l = c.loop-i in
-    (search rules, rw (add-one l.i, l.invariant.1, c.in_range-all.ensures))
 
 pub returns : goal.returns
 returns c =
-    let l = c.loop-i in
-    let done : l.i ≡ 8 = omega arith in
-    l.invariant.1 ∙ rw done
+    let samples = c.args.samples.now in
+    all_from_yields_List in_range _ _ _ c.all.ensures.ran (YieldsList-from_slice samples cc) (λ x b q k. search (rules, tests))
+    ∙ all_by_places in_range samples nan
+    ∙ rw c.told-samples

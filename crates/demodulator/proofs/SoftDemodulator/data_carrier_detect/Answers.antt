@@ -1,38 +1,27 @@
 -- `data_carrier_detect` meets its contract. Assumes nothing.
-use mathlib.Core.Path.{◌≡◌, sym, ◌∙◌}
-use mathlib.Core.Bool.{true}
-use Rattle.shaping.specs.Rate.{rate_fit, samples_in_lem}
-use Rattle.shaping.proofs.RateFacts.{rate_known}
+use mathlib.Core.Path.{◌≡◌, sym}
+use Rattle.shaping.specs.Rate.{samples_in_lem}
+use Rattle.shaping.proofs.RateFacts.{per_symbol_some, per_symbol_none}
 use Rattle.demodulator.specs.Calls.{carrier, timer_held, detected}
 use Rattle.demodulator.proofs.Fitness.{tested_unfit, tested_fit}
 use Rattle.demodulator.proofs.CallCases.{carrier_other_rate, carrier_unfit, carrier_told}
 use Rattle.demodulator.proofs.SoftDemodulator.data_carrier_detect.Goals as goal
-use Rattle.demodulator.proofs.SoftDemodulator.data_carrier_detect.Goals.{Else-not-is_rate, Else-not-record_fit}
 
-rate-fit : (c : Else-not-is_rate) → rate_fit c.args.self.rate ≡ true
-rate-fit c = sym c.is_rate.ensures ∙ c.if-not-is_rate.false
-
-carrier_of : (c : Else-not-record_fit) → let m = c.args.self in detected (samples_in_lem m.rate) m ≡ carrier (timer_held m.control.dcd)
-carrier_of c =
+pub returns-in_default : goal.returns-in_default
+returns-in_default c =
     let m = c.args.self in
-    rw c.samples_in-p.ensures at (carrier_told _ m (tested_fit _ _ _ _ _ _ c.record_fit.ensures m.rate m.filter_win m.rx_win (rate-fit c.before.before.before.before.before.before) c.halves_agree-halves.ensures c.if-not-record_fit.false-raw))
-
-pub returns-then-not-is_rate : goal.returns-then-not-is_rate
-returns-then-not-is_rate c = sym (carrier_other_rate _ _ (sym c.is_rate.ensures ∙ c.if-not-is_rate.true))
-
-pub halves_agree-halves-requires : goal.halves_agree-halves-requires
-halves_agree-halves-requires c = rw c.samples_in-p.ensures (rate_known _ (rate-fit c.before.before.before)).1
-
-pub record_fit-requires : goal.record_fit-requires
-record_fit-requires c = rw c.samples_in-p.ensures (rate_known _ (rate-fit c.before.before.before.before)).1
+    sym (carrier_other_rate _ _ (per_symbol_none m.rate c.of.result c.of.ensures c.in_default.is))
 
 pub returns-then-not-record_fit : goal.returns-then-not-record_fit
 returns-then-not-record_fit c =
     let m = c.args.self in
-    sym (rw c.samples_in-p.ensures at (carrier_unfit _ m (rate-fit c.before.before.before.before.before.before) (tested_unfit _ _ _ _ _ _ c.record_fit.ensures m.rate m.filter_win m.rx_win (rate-fit c.before.before.before.before.before.before) c.halves_agree-halves.ensures c.if-not-record_fit.true-raw)))
+    let asked = per_symbol_some m.rate c.in-Some.p c.of.result c.of.ensures c.in-Some.is in
+    sym (rw asked.1 at (carrier_unfit _ m asked.0 (tested_unfit _ _ _ _ _ _ c.record_fit.ensures m.rate m.filter_win m.rx_win asked.0 c.halves_agree-halves.ensures c.if-not-record_fit.true-raw)))
 
-pub returns-in-Off : goal.returns-in-Off
-returns-in-Off c = rw (carrier_of c.before, c.in-Off.is)
-
-pub returns-in-Until : goal.returns-in-Until
-returns-in-Until c = rw (carrier_of c.before, c.in-Until.is)
+pub returns : goal.returns
+returns c =
+    let m = c.args.self in
+    let asked = per_symbol_some m.rate c.in-Some.p c.of.result c.of.ensures c.in-Some.is in
+    let told : detected (samples_in_lem m.rate) m ≡ carrier (timer_held m.control.dcd) =
+    rw asked.1 at (carrier_told _ m (tested_fit _ _ _ _ _ _ c.record_fit.ensures m.rate m.filter_win m.rx_win asked.0 c.halves_agree-halves.ensures c.if-not-record_fit.false-raw)) in
+    rw (told, c.is_some.ensures)

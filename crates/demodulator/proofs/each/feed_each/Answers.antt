@@ -122,7 +122,7 @@ pub bounds-samples-fed : goal.bounds-samples-fed
 bounds-samples-fed c = lt_of_le-ne (most_fed c.before.before.before.before) c.if-fed-samples.false
 
 pub step-stepped-requires : goal.step-stepped-requires
-step-stepped-requires c = ((stretched c.before.before.before.before.before.before.before.before).lent.known, same_after c.before.before.before.before.before.before.before.before)
+step-stepped-requires c = same_after c.before.before.before.before.before.before.before.before
 
 pub overflow_add-count : goal.overflow_add-count
 overflow_add-count c =

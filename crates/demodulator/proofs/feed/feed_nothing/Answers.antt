@@ -1,14 +1,7 @@
 -- `feed::feed_nothing` meets its contract. Assumes nothing.
-use Rattle.shaping.proofs.RateFacts.{rate_known}
 use Rattle.demodulator.proofs.Fitness.{tested_unfit, tested_fit}
 use Rattle.demodulator.proofs.FeedSteps.{nothing_unfit, nothing_fed}
 use Rattle.demodulator.proofs.feed.feed_nothing.Goals as goal
-
-pub halves_agree-halves-requires : goal.halves_agree-halves-requires
-halves_agree-halves-requires c = let pre = c.requires in rw pre.1 (rate_known _ pre.0).1
-
-pub record_fit-requires : goal.record_fit-requires
-record_fit-requires c = let pre = c.requires in rw pre.1 (rate_known _ pre.0).1
 
 pub returns-then-not-record_fit : goal.returns-then-not-record_fit
 returns-then-not-record_fit c =

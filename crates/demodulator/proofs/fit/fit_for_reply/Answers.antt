@@ -12,9 +12,8 @@ returns-then-not-record_fit c = λ rate window known same. rw (tested_unfit _ _ 
 
 pub places_in_range-requires : goal.places_in_range-requires
 places_in_range-requires c =
-    let known = c.requires in
     let a = c.args in
-    (known.1, tested_inside a.p a.halves a.filter_cursor a.rx_cursor a.control _ c.record_fit.ensures c.if-not-record_fit.false-raw, omega (arith, known.0), lit≤ tt)
+    (tested_inside a.p a.halves a.filter_cursor a.rx_cursor a.control _ c.record_fit.ensures c.if-not-record_fit.false-raw, omega arith, lit≤ tt)
 
 pub returns : goal.returns
 unfolding fit_for_reply_lem

@@ -11,13 +11,12 @@ returns-then-not-record_fit c = λ rate window known same. rw (tested_unfit _ _ 
 pub places_in_range-requires : goal.places_in_range-requires
 places_in_range-requires c =
     let a = c.args in (
-      c.requires.1,
       tested_inside a.p a.halves a.filter_cursor a.rx_cursor a.control _ c.record_fit.ensures c.if-not-record_fit.false-raw,
-      omega (arith, c.requires.0),
+      omega arith,
       rw c.places_read-count.ensures (places_between a.control.wait).1,
     )
 
 pub returns : goal.returns
 unfolding fit_for_sample_lem
 returns c =
-    λ rate window known same. rw (tested_fit _ _ _ _ _ _ c.record_fit.ensures rate window c.args.rx_win.now known same c.if-not-record_fit.false-raw, c.places_in_range.ensures, c.places_read-count.ensures)
+    λ rate window known same. rw (tested_fit _ _ _ _ _ _ c.record_fit.ensures rate window c.args.rx_win.now known same c.if-not-record_fit.false-raw, c.places_in_range.ensures, c.places_read-count.ensures, c.samples-newest.ensures)

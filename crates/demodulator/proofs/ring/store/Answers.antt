@@ -14,6 +14,6 @@ pub returns : goal.returns
 unfolding stored
 returns c =
     let a = c.args in
-    let number = (facts a.p c.requires.0).number in
+    let number = (facts a.p (omega arith)).number in
     let inside : (a.filter_cursor + 1) % (length (rate_at a.p).taps + 1) ≡ a.filter_cursor + 1 = mod-eq_of_lt (omega (arith, number)) in
-    λ rate control. rw (c.filter_samples-filtered.ensures, to_z-of_z c.ranges.sample, inside)
+    λ rate control. rw (c.filter_samples-filtered.ensures, c.samples-per.ensures, to_z-of_z c.ranges.sample, inside)

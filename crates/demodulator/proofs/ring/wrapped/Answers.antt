@@ -12,4 +12,4 @@ returns-then-place-places c =
 pub returns-else-place-places : goal.returns-else-place-places
 returns-else-place-places c =
     let a = c.args in
-    (omega arith, wrap_above (ring_places a.p) a.place (omega arith) (omega arith))
+    (omega arith, rw c.samples-places.ensures (wrap_above (ring_places a.p) a.place (omega arith) (omega arith)))

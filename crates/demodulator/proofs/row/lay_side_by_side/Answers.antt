@@ -10,12 +10,9 @@ use Rattle.demodulator.proofs.row.lay_side_by_side.Goals as goal
 use Rattle.demodulator.proofs.row.lay_side_by_side.Goals.{After-put_floats-arg-2-1}
 
 -- the part of the window has all its places
-wide : (c : After-put_floats-arg-2-1) → let a = c.args in
-    length (take (a.filter_cursor + 1 + 8 * a.p - (a.filter_cursor + 1)) (drop (a.filter_cursor + 1) a.filter_win.now)) ≡ 8 * a.p
+wide : (c : After-put_floats-arg-2-1) → let a = c.args in let count = 8 * c.samples-count.result in
+    length (take (a.filter_cursor + 1 + count - (a.filter_cursor + 1)) (drop (a.filter_cursor + 1) a.filter_win.now)) ≡ count
 wide c = search rules
-
-pub put_floats-requires : goal.put_floats-requires
-put_floats-requires c = let width = wide c in search rules
 
 pub returns : goal.returns
 returns c =
@@ -24,6 +21,7 @@ returns c =
     let tail = c.put_floats-2.new.room in
     let within : 8 * a.p ≤ length room₁ = search rules in
     let w : ℕ = a.filter_cursor + 1 + 8 * a.p - (a.filter_cursor + 1) in
-    rw (tail_back room₁ (8 * a.p) tail within)
+    let own = c.samples-count.ensures in
+    rw (own, tail_back room₁ (8 * a.p) tail within)
     (laid_side_by_side a.p a.filter_win.now a.filter_cursor a.samples.now (take w (drop (a.filter_cursor + 1) a.filter_win.now)) w refl (omega arith) a.room.now room₁ tail
-    (wide c.before.before.before.before.before.before.before.before) c.put_floats.ensures (rw (tail_lent room₁ (8 * a.p)) at c.put_floats-2.ensures))
+    (rw own at (wide c.before.before.before.before.before.before.before.before)) (rw own at c.put_floats.ensures) (rw (own, tail_lent room₁ (8 * a.p)) at c.put_floats-2.ensures))

@@ -2,10 +2,13 @@
 use mathlib.Core.Path.{◌≡◌, refl}
 use Prim.Native.Nat.{ℕ, ◌+◌, ◌*◌, ◌-◌, ◌≤◌, ◌<◌}
 use native.Mathlib.Omega.{arith}
+use mathlib.Core.List.{List}
+use borrow.Rule.Slice.PartMut.{put_mid}
 use lib.ListN.{length, take, drop}
-use Rattle.numbers.specs.Firsts.{firsts}
+use lib.Ieee.{Float}
+use Rattle.numbers.specs.Firsts.{firsts, written}
 use Rattle.numbers.proofs.Firsts.{written_more}
-use Rattle.shaping.specs.Rate.{rate_at}
+use Rattle.shaping.specs.Rate.{Known, rate_at}
 use Rattle.bulk.specs.Sums.{sum_from}
 use Rattle.numbers.proofs.Tail.{tail_lent, tail_back}
 use Rattle.demodulator.proofs.RowLaid.{part_sums}
@@ -16,23 +19,35 @@ pub loop-k-init : goal.loop-k-init
 unfolding firsts
 loop-k-init c = (search rules, refl, refl, refl)
 
+-- the sums of one block more
+module _ (p : ℕ) (known : Known p) (straight first room : List Float) (k : ℕ) where
+  abbrev sums : ℕ → Float
+  sums = sum_from (rate_at p).taps straight
+
+  abbrev row : List Float
+  row = take (k + (8 * p + 48) - k) (drop k straight)
+
+  block_more : (part : List Float) → k ≤ 624 → length straight ≡ 704 → k ≤ length room → room ≡ written sums k first
+      → part ≡ written (sum_from (rate_at p).taps row) 48 (take (length room - k) (drop k room))
+      → put_mid k (length room - k) room part ≡ written sums (k + 48) first
+  block_more part few long within so_far wrote =
+      let block = rw (tail_lent room k) at wrote in
+      let same : (j : ℕ) → j < 48 → sum_from (rate_at p).taps row j ≡ sums (k + j) = part_sums p known straight k (k + (8 * p + 48) - k) (omega arith) in
+      rw (tail_back room k _ within, block, so_far) (written_more sums _ k 48 first same)
+
 pub loop-k-preserved : goal.loop-k-preserved
 loop-k-preserved c =
     let a = c.args in
-    let p = a.p in
-    let k = c.loop-k.k in
-    let room = c.loop-k.room in
-    let within : k ≤ length room = omega arith in
-    let wrote = rw (tail_lent room k) at c.put_block.ensures in
-    let same : (j : ℕ) → j < 48 → sum_from (rate_at p).taps (take (k + (8 * p + 48) - k) (drop k a.straight.now)) j ≡ sum_from (rate_at p).taps a.straight.now (k + j) =
-    part_sums p c.requires.0 a.straight.now k (k + (8 * p + 48) - k) (omega arith) in (
-      search rules,
-      omega arith,
-      search rules,
-      rw (tail_back room k _ within, wrote, c.loop-k.invariant.3) (written_more (sum_from (rate_at p).taps a.straight.now) _ k 48 a.room.now same),
-    )
-
-pub returns : goal.returns
-returns c =
     let l = c.loop-k in
-    record { n = l.k; least = omega arith; most = l.invariant.0; writes = l.invariant.3 }
+    (search rules, omega arith, search rules, block_more a.p (omega arith) a.straight.now a.room.now l.room l.k _ l.invariant.0 c.requires.2 (omega arith) l.invariant.3 (rw c.samples.ensures at c.put_block.ensures))
+
+pub returns-2 : goal.returns-2
+returns-2 c =
+    let a = c.args in
+    let l = c.loop-k in
+    record {
+      n = l.k + 48;
+      least = omega arith;
+      most = omega arith;
+      writes = block_more a.p (omega arith) a.straight.now a.room.now l.room l.k _ l.invariant.0 c.requires.2 (omega arith) l.invariant.3 (rw c.samples.ensures at c.put_block.ensures);
+    }

@@ -1,6 +1,6 @@
 -- `put_by_table` meets its contract: after some turns the sums of whole blocks are written. Assumes nothing.
 use mathlib.Core.Path.{◌≡◌}
-use Prim.Native.Nat.{◌-◌, ◌%◌, ◌≤◌}
+use Prim.Native.Nat.{◌%◌, ◌≤◌}
 use lib.ListN.{length}
 use Rattle.numbers.specs.Firsts.{written}
 use Rattle.shaping.specs.Rate.{rate_at}
@@ -9,6 +9,3 @@ use Rattle.demodulator.proofs.row.put_by_table.Given as goal
 
 abbrev pub invariant-loop-k : goal.invariant-loop-k
 invariant-loop-k l = (l.k ≤ 624) × (l.k % 48 ≡ 0) × (length l.room ≡ length l.initial.room) × (l.room ≡ written (sum_from (rate_at l.p).taps l.straight) l.k l.initial.room)
-
-abbrev pub decreases-loop-k : goal.decreases-loop-k
-decreases-loop-k l = l.count - l.k

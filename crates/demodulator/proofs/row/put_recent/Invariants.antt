@@ -1,8 +1,7 @@
 -- `put_recent` meets its contract: after i turns the first i places are written. Assumes nothing.
 use mathlib.Core.Path.{◌≡◌}
 use mathlib.Core.List.{List}
-use Prim.Native.Nat.{ℕ, ◌*◌, ◌-◌, ◌≤◌}
-use lib.ListN.{length}
+use Prim.Native.Nat.{ℕ, ◌*◌, ◌-◌}
 use lib.Ieee.{Float}
 use Rattle.numbers.specs.Firsts.{written}
 use Rattle.demodulator.specs.Record.{ring_back}
@@ -12,7 +11,4 @@ abbrev pub recent : ℕ → List Float → ℕ → ℕ → Float
 recent p ring cursor i = ring_back p ring cursor (7 * p - 1 - i)
 
 abbrev pub invariant-loop-i : goal.invariant-loop-i
-invariant-loop-i l = (l.i ≤ 7 * l.p) × (length l.room ≡ length l.initial.room) × (l.room ≡ written (recent l.p l.rx_win l.rx_cursor) l.i l.initial.room)
-
-abbrev pub decreases-loop-i : goal.decreases-loop-i
-decreases-loop-i l = 7 * l.p - l.i
+invariant-loop-i l = l.value-items ≡ written (recent l.p l.rx_win l.rx_cursor) l.i l.initial.value-items

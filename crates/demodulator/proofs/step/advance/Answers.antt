@@ -3,7 +3,6 @@ use native.Mathlib.Omega.{arith}
 use mir.Facts.{to_z-of_z}
 use Rattle.demodulator.specs.Parts.{Stores}
 use Rattle.demodulator.proofs.StepTurn.{accepts_inside, rests, offers, looks}
-use borrow.Author.Rules.{rules}
 use Rattle.demodulator.proofs.step.advance.Goals as goal
 use Rattle.demodulator.proofs.step.advance.Lts as Lts
 use Rattle.demodulator.proofs.step.advance.Reads as Reads
@@ -18,34 +17,33 @@ stored_is s rate d = rw (to_z-of_z s.ranges.sample) at (s.store.ensures rate d)
 pub store-requires : goal.store-requires
 store-requires c =
     let pre = c.requires in
-    (pre.known, (accepts_inside pre).0, (accepts_inside pre).1)
+    accepts_inside pre
 
 pub place_after-filter_next-requires : goal.place_after-filter_next-requires
 place_after-filter_next-requires c =
     let pre = c.requires in
-    ((accepts_inside pre).0, omega (arith, pre.known.1))
+    let inside = (accepts_inside pre).0 in
+    omega arith
 
 pub place_after-rx_next-requires : goal.place_after-rx_next-requires
 place_after-rx_next-requires c =
     let pre = c.requires in
-    ((accepts_inside pre).1, omega (arith, pre.known.1))
-
-pub overflow_add-number : goal.overflow_add-number
-overflow_add-number c = let below = c.requires.count in search rules
+    let inside = (accepts_inside pre).1 in
+    omega arith
 
 pub write_window-requires : goal.write_window-requires
 write_window-requires c =
     let pre = c.requires in
-    (pre.known.1, c.place_after-rx_next.ensures.0, pre.room_enough)
+    (rw c.samples-per.ensures at c.place_after-rx_next.ensures.0, pre.room_enough)
 
 pub returns-in-Rest : goal.returns-in-Rest
 returns-in-Rest c =
-    λ rate known. rw (c.place_after-filter_next.ensures.1, c.place_after-rx_next.ensures.1) (rests _ _ _ _ _ _ _ _ (stored_is c.before.before.before.before.before.before) _ c.requires rate known _ c.turn_of-turn.ensures _ c.in-Rest.is)
+    λ rate known. rw (c.place_after-filter_next.ensures.1, c.place_after-rx_next.ensures.1, c.samples-per.ensures) (rests _ _ _ _ _ _ _ _ (stored_is c.before.before.before.before.before.before.before) _ c.requires rate known _ c.turn_of-turn.ensures _ c.in-Rest.is)
 
 pub returns-in-Offer : goal.returns-in-Offer
 returns-in-Offer c =
-    λ rate known. rw (c.place_after-filter_next.ensures.1, c.place_after-rx_next.ensures.1) (offers _ _ _ _ _ _ _ _ (stored_is c.before.before.before.before.before.before.before.before.before.before) _ c.requires rate known _ c.turn_of-turn.ensures _ _ c.in-Offer.is _ (rw c.place_after-rx_next.ensures.1 at c.write_window.ensures))
+    λ rate known. rw (c.place_after-filter_next.ensures.1, c.place_after-rx_next.ensures.1, c.samples-per.ensures) (offers _ _ _ _ _ _ _ _ (stored_is c.before.before.before.before.before.before.before.before.before.before.before) _ c.requires rate known _ c.turn_of-turn.ensures _ _ c.in-Offer.is _ (rw (c.place_after-rx_next.ensures.1, c.samples-per.ensures) at c.write_window.ensures))
 
 pub returns-in-Look : goal.returns-in-Look
 returns-in-Look c =
-    λ rate known. rw (c.place_after-filter_next.ensures.1, c.place_after-rx_next.ensures.1) (looks _ _ _ _ _ _ _ _ (stored_is c.before.before.before.before.before.before.before.before) _ c.requires rate known _ c.turn_of-turn.ensures _ c.in-Look.is _ (rw c.place_after-rx_next.ensures.1 at c.eight-values.ensures) _ c.searched-found.ensures)
+    λ rate known. rw (c.place_after-filter_next.ensures.1, c.place_after-rx_next.ensures.1, c.samples-per.ensures) (looks _ _ _ _ _ _ _ _ (stored_is c.before.before.before.before.before.before.before.before.before) _ c.requires rate known _ c.turn_of-turn.ensures _ c.in-Look.is _ (rw (c.place_after-rx_next.ensures.1, c.samples-per.ensures) at c.eight-values.ensures) _ (rw c.samples-per.ensures at c.searched-found.ensures))

@@ -21,10 +21,10 @@ abbrev Then-not-fit_for_sample : Type 0
 Then-not-fit_for_sample = Lts.Then1 Tie.the-claims Reads.Pre Reads.Post
 
 fit : (c : Else-not-fit_for_sample) → let a = c.args in (rate : ℕ) → rate_fit rate ≡ true → fit_for_sample_lem a.p (assembled rate a.filter_win.now a.places.filter_cursor a.rx_win.now a.places.rx_cursor a.control) ≡ true
-fit c rate known = sym (c.fit_for_sample.ensures rate c.args.filter_win.now known c.requires.1) ∙ c.if-not-fit_for_sample.false
+fit c rate known = sym (c.fit_for_sample.ensures rate c.args.filter_win.now known c.requires) ∙ c.if-not-fit_for_sample.false
 
 unfit : (c : Then-not-fit_for_sample) → let a = c.args in (rate : ℕ) → rate_fit rate ≡ true → fit_for_sample_lem a.p (assembled rate a.filter_win.now a.places.filter_cursor a.rx_win.now a.places.rx_cursor a.control) ≡ false
-unfit c rate known = sym (c.fit_for_sample.ensures rate c.args.filter_win.now known c.requires.1) ∙ c.if-not-fit_for_sample.true
+unfit c rate known = sym (c.fit_for_sample.ensures rate c.args.filter_win.now known c.requires) ∙ c.if-not-fit_for_sample.true
 
 pub returns-then-not-fit_for_sample : goal.returns-then-not-fit_for_sample
 returns-then-not-fit_for_sample c = refuses _ _ _ _ _ _ _ _ _ c.refused.ensures (λ rate known. sample_unfit _ _ _ _ known (unfit c.before.before rate known))
@@ -45,7 +45,7 @@ pub advance-requires : goal.advance-requires
 advance-requires c =
     let f = fit c.before.before.before.before.before.before.before in
     let most = (record_facts _ _ (sample_record _ _ (f 48000 refl))).control.count in
-    record { known = c.requires.0; fit = f; no_reply = c.if-control.false; room_enough = c.if-room-lt192.false; count = omega arith }
+    record { known = omega arith; fit = f; no_reply = c.if-control.false; room_enough = c.if-room-lt192.false; count = omega arith }
 
 pub returns : goal.returns
 returns c =

@@ -4,23 +4,16 @@ use Prim.Native.Nat.{◌≤◌}
 use lib.ListN.{length}
 use Rattle.quiet.specs.declared.Walked.{Walked}
 use Rattle.demodulator.proofs.StretchFeeds.{walked_most, has_values, walk_taken}
-use borrow.Author.Rules.{rules}
 use Rattle.demodulator.proofs.stretch.walk_stretch.Goals as goal
-
-pub lay_row-requires : goal.lay_row-requires
-lay_row-requires c =
-    let lent = c.requires.0 in
-    let known = lent.known in
-    search rules
 
 pub store_all-places-requires : goal.store_all-places-requires
 store_all-places-requires c =
     let a = c.args in
-    let most : c.walk-walked.result.fed ≤ length a.samples.now = subst (λ (q : Walked). q.fed ≤ length a.samples.now) (sym c.walk-walked.ensures) (walked_most _ _ _ _) in
+    let most : c.walk-walked.result.fed ≤ length a.samples.now = subst (λ (q : Walked). q.fed ≤ length a.samples.now) (sym (rw c.samples.ensures at c.walk-walked.ensures)) (walked_most _ _ _ _) in
     has_values a.p a.filter_win.now a.rx_win.now a.places a.samples.now c.requires.0 c.requires.1 c.requires.2 c.requires.3 _ c.lay_row.ensures _ most
 
 pub returns : goal.returns
 returns c all begins =
     let a = c.args in
     walk_taken a.p a.filter_win.now a.rx_win.now a.places a.samples.now c.requires.0 c.requires.1 c.requires.2 c.requires.3 _ c.lay_row.ensures
-    all begins a.control c.walk-walked.result c.walk-walked.ensures _ _ _ c.store_all-places.ensures
+    all begins a.control c.walk-walked.result (rw c.samples.ensures at c.walk-walked.ensures) _ _ _ c.store_all-places.ensures

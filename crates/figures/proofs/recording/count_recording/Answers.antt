@@ -1,6 +1,6 @@
 -- `recording::count_recording` meets its contract: before each turn the figures are those of the samples that went in. Assumes nothing.
+use Rattle.std.specs.Prelude.{Some, None}
 use mathlib.Core.Path.{◌≡◌, ap}
-use mathlib.Core.Bool.{true, false}
 use Prim.Native.Nat.{ℕ, ◌+◌, ◌-◌, ◌*◌, ◌≤◌}
 use native.Mathlib.Omega.{arith}
 use borrow.Author.Rules.{rules}
@@ -31,11 +31,11 @@ module _ (t : After-take_turn-turn) where
   inside_here =
       turn_inside t.args.rate t.args.samples.now t.requires.0 t.requires.1 _ (span_is t.before.before) _ _ _ _ t.loop-fed.invariant t.loop-fed-test.true t.count_next-n.result t.count_next-n.ensures t.take_turn-turn.result t.take_turn-turn.ensures
 
-  fit_here : t.take_turn-turn.result.known ≡ true → Fit t.loop-fed.figures t.take_turn-turn.result.figures
+  fit_here : (added : Figures) → t.take_turn-turn.result.figures ≡ Some added → Fit t.loop-fed.figures added
   fit_here =
       turn_fit t.args.rate t.args.samples.now t.requires.0 t.requires.1 _ (span_is t.before.before) _ _ _ _ t.loop-fed.invariant t.loop-fed-test.true t.count_next-n.result t.count_next-n.ensures t.take_turn-turn.result t.take_turn-turn.ensures
 
-  on_here : t.take_turn-turn.result.known ≡ true → (sum : Figures) → sum ≡ plus t.loop-fed.figures t.take_turn-turn.result.figures
+  on_here : (added : Figures) → t.take_turn-turn.result.figures ≡ Some added → (sum : Figures) → sum ≡ plus t.loop-fed.figures added
       → Heard t.args.rate t.args.samples.now (24 * t.samples_in-span.result) t.take_turn-turn.result.demodulator sum (t.loop-fed.fed + t.take_turn-turn.result.fed) (24 * t.samples_in-span.result)
   on_here =
       turn_on t.args.rate t.args.samples.now t.requires.0 t.requires.1 _ (span_is t.before.before) _ _ _ _ t.loop-fed.invariant t.loop-fed-test.true t.count_next-n.result t.count_next-n.ensures t.take_turn-turn.result t.take_turn-turn.ensures
@@ -44,11 +44,11 @@ module _ (t : After-take_turn-turn) where
   stops_here =
       turn_stops t.args.rate t.args.samples.now t.requires.0 t.requires.1 _ (span_is t.before.before) _ _ _ _ t.loop-fed.invariant t.loop-fed-test.true t.count_next-n.result t.count_next-n.ensures t.take_turn-turn.result t.take_turn-turn.ensures
 
-  two_here : t.take_turn-turn.result.known ≡ false → 2 ≤ t.count_next-n.result
+  two_here : t.take_turn-turn.result.figures ≡ None → 2 ≤ t.count_next-n.result
   two_here =
       turn_two t.args.rate t.args.samples.now t.requires.0 t.requires.1 _ (span_is t.before.before) _ _ _ _ t.loop-fed.invariant t.loop-fed-test.true t.count_next-n.result t.count_next-n.ensures t.take_turn-turn.result t.take_turn-turn.ensures
 
-  few_here : t.take_turn-turn.result.known ≡ false → t.count_next-n.result ≤ t.loop-fed.most
+  few_here : t.take_turn-turn.result.figures ≡ None → t.count_next-n.result ≤ t.loop-fed.most
   few_here =
       turn_few t.args.rate t.args.samples.now t.requires.0 t.requires.1 _ (span_is t.before.before) _ _ _ _ t.loop-fed.invariant t.loop-fed-test.true t.count_next-n.result t.count_next-n.ensures t.take_turn-turn.result t.take_turn-turn.ensures
 
@@ -75,37 +75,37 @@ pub returns-then-turn-eq0 : goal.returns-then-turn-eq0
 returns-then-turn-eq0 c = stops_here c.before.before.before c.if-turn-eq0.true
 
 pub add_figures-figures-requires : goal.add_figures-figures-requires
-add_figures-figures-requires c = fit_here c.before.before.before.before c.if-turn.true
+add_figures-figures-requires c = fit_here c.before.before.before _ c.in-Some.is
 
 pub overflow_add-fed : goal.overflow_add-fed
 overflow_add-fed c =
-    let u = inside_here c.before.before.before.before.before.before.before in
+    let u = inside_here c.before.before.before.before.before.before in
     let few = c.requires.1 in
     search rules
 
-pub loop-fed-smaller-then-turn : goal.loop-fed-smaller-then-turn
-loop-fed-smaller-then-turn c =
-    let u = inside_here c.before.before.before.before.before.before.before in
+pub loop-fed-smaller-in-Some : goal.loop-fed-smaller-in-Some
+loop-fed-smaller-in-Some c =
+    let u = inside_here c.before.before.before.before.before.before in
     let i = c.loop-fed.invariant.least in
     let some = c.if-turn-eq0.false in
     let known = rate_known c.args.rate c.requires.0 in
     let e = c.samples_in-span.ensures in
     omega arith
 
-pub loop-fed-preserved-then-turn : goal.loop-fed-preserved-then-turn
-loop-fed-preserved-then-turn c =
-    on_here c.before.before.before.before.before.before.before c.if-turn.true c.add_figures-figures.result c.add_figures-figures.ensures
+pub loop-fed-preserved-in-Some : goal.loop-fed-preserved-in-Some
+loop-fed-preserved-in-Some c =
+    on_here c.before.before.before.before.before.before _ c.in-Some.is c.add_figures-figures.result c.add_figures-figures.ensures
 
 pub loop-fed-smaller : goal.loop-fed-smaller
 loop-fed-smaller c =
-    let two = two_here c.before c.if-turn.false in
-    let few = few_here c.before c.if-turn.false in
+    let two = two_here c.before c.in-None.is in
+    let few = few_here c.before c.in-None.is in
     omega arith
 
 pub loop-fed-preserved : goal.loop-fed-preserved
 loop-fed-preserved c =
-    let two = two_here c.before c.if-turn.false in
-    let few = few_here c.before c.if-turn.false in
+    let two = two_here c.before c.in-None.is in
+    let few = few_here c.before c.in-None.is in
     let i = c.loop-fed.invariant in
     let span = i.few in
     record { inside = i.inside; least = omega arith; few = omega arith; leaves = i.leaves; counts = i.counts }

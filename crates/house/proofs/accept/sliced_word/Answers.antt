@@ -7,26 +7,26 @@ use Rattle.house.proofs.Bits.{bits_below}
 use Rattle.house.proofs.Word.{read_below, read_step}
 use Rattle.house.proofs.accept.sliced_word.Goals as goal
 
-pub loop-i-init : goal.loop-i-init
+pub loop-symbol-init : goal.loop-symbol-init
 unfolding read_bits
-loop-i-init c = (omega arith, refl)
+loop-symbol-init c = refl
 
 pub overflow_mul-read : goal.overflow_mul-read
-overflow_mul-read c = omega (arith, read_below (symbol_at c.args.symbols) c.loop-i.i c.loop-i.invariant.0)
+overflow_mul-read c = omega (arith, read_below (symbol_at c.args.symbols) c.loop-symbol.symbol-index (omega arith))
 
 pub overflow_add-read : goal.overflow_add-read
 overflow_add-read c =
     let v = symbol_at c.args.symbols in
-    let i = c.loop-i.i in
-    omega (arith, read_below v i c.loop-i.invariant.0, bits_below (v i), c.two_bits.ensures)
+    let i = c.loop-symbol.symbol-index in
+    omega (arith, read_below v i (omega arith), bits_below (v i), c.two_bits.ensures)
 
-pub loop-i-preserved : goal.loop-i-preserved
-loop-i-preserved c =
+pub loop-symbol-preserved : goal.loop-symbol-preserved
+loop-symbol-preserved c =
     let v = symbol_at c.args.symbols in
-    let i = c.loop-i.i in
-    (omega arith, rw (add-one i, c.two_bits.ensures, c.loop-i.invariant.1) (read_step v i))
+    let i = c.loop-symbol.symbol-index in
+    rw (add-one i, c.two_bits.ensures, c.loop-symbol.invariant) (read_step v i)
 
 pub returns : goal.returns
 returns c =
-    let done : c.loop-i.i ≡ 8 = omega arith in
-    rw done at c.loop-i.invariant.1
+    let done : c.loop-symbol.symbol-index ≡ 8 = omega arith in
+    rw done at c.loop-symbol.invariant

@@ -1,7 +1,7 @@
 -- `bad_line::first_weight` meets its contract: the weight that is found, times the first weight of what is left, is the first weight of n. Assumes nothing.
 use mathlib.Core.Path.{◌≡◌, sym, ◌∙◌}
 use Prim.Native.Nat.{ℕ, ◌≤◌, ◌*◌, ◌/◌, ◌^◌}
-use native.Mathlib.Nat.{pow-succ', mul_assoc, mul_comm, mul-le-mul_left}
+use native.Mathlib.Nat.{pow-succ', mul_assoc, mul-le-mul_left}
 use native.Mathlib.Omega.{arith}
 use Rattle.house.specs.BadLine.{tens}
 use Rattle.house.proofs.Decimal.{tens_small, tens_step}
@@ -18,13 +18,13 @@ loop-rest-smaller c = omega arith
 
 -- one division by ten, of any weight and rest
 module _ (weight rest : ℕ) (large : 10 ≤ rest) where
-  less : 10 * weight * (rest / 10) ≤ weight * rest
+  less : weight * 10 * (rest / 10) ≤ weight * rest
   less =
       let tenth : 10 * (rest / 10) ≤ rest = omega arith in
-      rw (mul_comm 10 weight, mul_assoc) (mul-le-mul_left weight tenth)
+      rw mul_assoc (mul-le-mul_left weight tenth)
 
-  same : 10 * weight * 10 ^ tens (rest / 10) ≡ weight * 10 ^ tens rest
-  same = rw (tens_step rest large, pow-succ' 10 (tens (rest / 10)), mul_comm 10 weight, mul_assoc)
+  same : weight * 10 * 10 ^ tens (rest / 10) ≡ weight * 10 ^ tens rest
+  same = rw (tens_step rest large, pow-succ' 10 (tens (rest / 10)), mul_assoc)
 
 pub loop-rest-preserved : goal.loop-rest-preserved
 loop-rest-preserved c =

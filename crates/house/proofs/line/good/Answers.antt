@@ -1,32 +1,36 @@
--- `line::good` meets its contract: each byte passed is a digit. Assumes nothing.
-use mathlib.Core.Path.{◌≡◌, refl, sym}
-use mathlib.Core.Bool.{true, false}
-use native.Mathlib.Omega.{arith}
-use native.Mathlib.Numerals.{add-one}
-use borrow.Author.Rules.{rules}
-use borrow.Author.Tests.{lt-ltb, le-ltb}
-use lib.ListN.{length}
+-- `line::good` meets its contract: the test of the first 96 bytes is the definition's. Assumes nothing.
+use Rattle.std.proofs.Common.{◌≡◌, length, take, sym, ◌∙◌, arith, rules, tests}
+use Rattle.std.specs.List.{list_all}
+use Rattle.std.proofs.lemmas.Iterator.{YieldsList-from_slice}
+use Rattle.std.proofs.lemmas.Iterator.Search.{all_from_yields_List}
+use lib.ListN.{length-take}
 use Rattle.numbers.specs.Below.{all_below}
-use Rattle.numbers.proofs.Below.{all_more}
-use Rattle.house.proofs.Lines.{digit_at, bad_digit, all_digits}
+use Rattle.house.specs.Digits.{is_digit}
+use Rattle.house.specs.Line.{good_line}
+use Rattle.house.proofs.Lines.{digit_at, first_digits}
 use Rattle.house.proofs.line.good.Goals as goal
+use Rattle.house.proofs.line.good.Goals.{After-all}
 
-pub loop-i-init : goal.loop-i-init
-unfolding all_below
-loop-i-init c = (omega arith, refl)
-
-pub returns-then-value-ge-NO_DIGIT : goal.returns-then-value-ge-NO_DIGIT
-returns-then-value-ge-NO_DIGIT c =
-    let no : digit_at c.args.line c.loop-i.i ≡ false = rw (← c.value.ensures) (le-ltb _ _ c.if-value-ge-NO_DIGIT.true) in
-    sym (bad_digit c.args.line c.loop-i.i (omega arith) no)
-
-pub loop-i-preserved : goal.loop-i-preserved
-loop-i-preserved c =
-    let yes : digit_at c.args.line c.loop-i.i ≡ true = rw (← c.value.ensures) (lt-ltb _ _ c.if-value-ge-NO_DIGIT.false) in
-    (omega arith, rw (add-one c.loop-i.i) (all_more c.loop-i.i (digit_at c.args.line) c.loop-i.invariant.1 yes))
-
-pub returns : goal.returns
-returns c =
-    let done : c.loop-i.i ≡ 96 = omega arith in
+pub slice_bounds-iter-end : goal.slice_bounds-iter-end
+slice_bounds-iter-end c =
     let long : length c.args.line ≡ 97 = search rules in
-    sym (all_digits c.args.line (rw done at c.loop-i.invariant.1) long)
+    rw (length-take 96 c.args.line) (omega arith)
+
+tested : (c : After-all) → all_below 96 (digit_at c.args.line) ≡ c.all.result
+tested c =
+    let line = c.args.line in
+    let long : length line ≡ 97 = search rules in
+    let listed : c.all.result ≡ list_all is_digit (take 96 line) =
+    all_from_yields_List is_digit _ _ _ c.all.ensures.ran (YieldsList-from_slice (take 96 line) (search rules)) (λ x b q k. search (rules, tests))
+    in
+    sym (listed ∙ first_digits line 96 (omega arith))
+
+pub returns-then-all : goal.returns-then-all
+unfolding good_line
+returns-then-all c =
+    let long : length c.args.line ≡ 97 = search rules in
+    rw (tested c.before, c.if-all.true, long)
+
+pub returns-else-all : goal.returns-else-all
+unfolding good_line
+returns-else-all c = rw (tested c.before, c.if-all.false)

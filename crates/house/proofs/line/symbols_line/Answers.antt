@@ -4,7 +4,7 @@ use Prim.Native.Nat.{◌<◌, ◌+◌, ◌*◌}
 use native.Mathlib.Omega.{arith}
 use native.Mathlib.Numerals.{add-one}
 use borrow.Author.Rules.{rules}
-use lib.ListN.{replicate, length-set}
+use lib.ListN.{replicate}
 use Rattle.numbers.specs.Firsts.{firsts}
 use Rattle.numbers.proofs.Firsts.{written_step}
 use Rattle.house.specs.Line.{line_feed, four_at, line_of}
@@ -40,10 +40,10 @@ pub loop-i-preserved : goal.loop-i-preserved
 loop-i-preserved c =
     let f = digit_in c.args.symbols in
     let i = c.loop-i.i in
-    (omega arith, simp length-set c.loop-i.invariant.1, rw (c.digit.ensures, value c.before, c.loop-i.invariant.2, add-one i) (written_step f i (replicate 97 line_feed) 0 (omega arith)))
+    rw (c.digit.ensures, value c.before, c.loop-i.invariant, add-one i) (written_step f i (replicate 97 line_feed) 0 (omega arith))
 
 pub returns : goal.returns
 unfolding line_of
 returns c =
     let done : c.loop-i.i ≡ 96 = omega arith in
-    rw done at c.loop-i.invariant.2
+    rw done at c.loop-i.invariant

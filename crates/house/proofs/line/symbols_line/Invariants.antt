@@ -1,8 +1,8 @@
 -- `line::symbols_line` meets its contract: the first i digits are written, and the rest is line feeds. Assumes nothing.
 use mathlib.Core.Path.{◌≡◌}
 use mathlib.Core.List.{List}
-use Prim.Native.Nat.{ℕ, ◌≤◌, ◌-◌}
-use lib.ListN.{length, replicate}
+use Prim.Native.Nat.{ℕ}
+use lib.ListN.{replicate}
 use lib.Ieee.{Float}
 use Rattle.numbers.specs.Firsts.{written}
 use Rattle.house.specs.Digits.{digit_of}
@@ -13,7 +13,4 @@ abbrev pub digit_in : List Float → ℕ → ℕ
 digit_in symbols i = digit_of (four_at symbols i)
 
 abbrev pub invariant-loop-i : goal.invariant-loop-i
-invariant-loop-i l = (l.i ≤ 96) × (length l.line ≡ 97) × (l.line ≡ written (digit_in l.symbols) l.i (replicate 97 line_feed))
-
-abbrev pub decreases-loop-i : goal.decreases-loop-i
-decreases-loop-i l = 96 - l.i
+invariant-loop-i l = l.line ≡ written (digit_in l.symbols) l.i (replicate 97 line_feed)

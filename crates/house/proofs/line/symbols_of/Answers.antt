@@ -36,11 +36,11 @@ symbol-requires c =
 pub loop-i-preserved : goal.loop-i-preserved
 loop-i-preserved c =
     let i = c.loop-i.i in
-    (omega arith, simp length-set c.loop-i.invariant.1, rw (add-one i, c.symbol.ensures, picked c.before) (prefix_step (symbol_in c.args.line) i c.loop-i.symbols (omega arith) c.loop-i.invariant.2))
+    (simp length-set c.loop-i.invariant.0, rw (add-one i, c.symbol.ensures, picked c.before) (prefix_step (symbol_in c.args.line) i c.loop-i.place-items (omega arith) c.loop-i.invariant.1))
 
 pub returns : goal.returns
 unfolding symbols_of_lem
 returns c =
     let done : c.loop-i.i ≡ 192 = omega arith in
-    let whole : c.loop-i.symbols ≡ take 192 c.loop-i.symbols = sym (take_all 192 c.loop-i.symbols (omega arith)) in
-    whole ∙ rw done at c.loop-i.invariant.2
+    let whole : c.loop-i.place-items ≡ take 192 c.loop-i.place-items = sym (take_all 192 c.loop-i.place-items (omega arith)) in
+    whole ∙ rw done at c.loop-i.invariant.1

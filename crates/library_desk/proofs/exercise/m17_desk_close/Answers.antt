@@ -6,11 +6,6 @@ use Rattle.library_receiver.specs.Memory.{Coded}
 use Rattle.library_desk.proofs.InSeat.{far}
 use Rattle.library_desk.proofs.Entry.{below, closes, turned_away, goes_on}
 use Rattle.library_desk.proofs.OpenAndClose.{close_refused, close_done}
-use borrow.Author.Rules.{rules}
-use Rattle.library_desk.proofs.exercise.m17_desk_close.Reads as reads
-use Rattle.library_desk.proofs.exercise.m17_desk_close.Lts as lts
-use Rattle.library_desk.proofs.passage.turn_away.Reads as turn-away-reads
-use Rattle.library_receiver.proofs.m17_receiver_carrier.Reads as m17-receiver-carrier-reads
 use Rattle.library_desk.proofs.exercise.m17_desk_close.Goals as goal
 
 pub returns-then-seat-gt7 : goal.returns-then-seat-gt7

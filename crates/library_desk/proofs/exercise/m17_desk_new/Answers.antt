@@ -2,8 +2,6 @@
 use mathlib.Core.Path.{refl}
 use lib.Ieee.{of_bits}
 use Rattle.demodulator.specs.Record.{fresh}
-use Rattle.library_desk.proofs.exercise.m17_desk_new.Reads as reads
-use Rattle.library_desk.proofs.exercise.m17_desk_new.Lts as lts
 use Rattle.library_desk.proofs.exercise.m17_desk_new.Goals as goal
 
 -- src/exercise.rt:10:1

@@ -4,10 +4,6 @@ use Rattle.desk_run.specs.Seat.{opening}
 use Rattle.library_desk.proofs.InSeat.{far}
 use Rattle.library_desk.proofs.Entry.{below}
 use Rattle.library_desk.proofs.OpenAndClose.{zero_flag, open_stray, open_open, open_refused, open_done}
-use borrow.Author.Rules.{rules}
-use Rattle.library_desk.proofs.exercise.m17_desk_open.Reads as reads
-use Rattle.library_desk.proofs.exercise.m17_desk_open.Lts as lts
-use Rattle.library_receiver.proofs.m17_receiver_new.Reads as m17-receiver-new-reads
 use Rattle.library_desk.proofs.exercise.m17_desk_open.Goals as goal
 
 pub returns-then-seat-gt7 : goal.returns-then-seat-gt7

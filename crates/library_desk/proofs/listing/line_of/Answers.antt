@@ -1,10 +1,6 @@
 -- `line_of` meets its contract. Assumes nothing.
 use mathlib.Core.Path.{refl}
 use borrow.Author.Tests.{eq-eqb, ne_eqb}
-use borrow.Author.Rules.{rules}
-use Rattle.library_desk.proofs.listing.line_of.Reads as reads
-use Rattle.library_desk.proofs.listing.line_of.Lts as lts
-use Rattle.library_codes.proofs.flag_of.Reads as flag-of-reads
 use Rattle.library_desk.proofs.listing.line_of.Goals as goal
 
 -- src/listing.rt:66:9

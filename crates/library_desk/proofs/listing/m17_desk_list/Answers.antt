@@ -1,10 +1,5 @@
 -- `m17_desk_list` meets its contract. Assumes nothing.
 use Rattle.library_desk.proofs.Listed.{list_strange, list_unfit, list_done}
-use borrow.Author.Rules.{rules}
-use Rattle.library_desk.proofs.listing.m17_desk_list.Reads as reads
-use Rattle.library_desk.proofs.listing.m17_desk_list.Lts as lts
-use Rattle.library_desk.proofs.listing.test_seats.Reads as test-seats-reads
-use Rattle.library_desk.proofs.listing.write_lines.Reads as write-lines-reads
 use Rattle.library_desk.proofs.listing.m17_desk_list.Goals as goal
 
 pub returns-then-tested : goal.returns-then-tested

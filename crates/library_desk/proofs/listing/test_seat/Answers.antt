@@ -1,13 +1,9 @@
 -- `test_seat` meets its contract. Assumes nothing.
 use Rattle.library_receiver.specs.Memory.{Coded}
 use Rattle.library_desk.proofs.SeatTests.{tested_refused, tested_fit}
-use mathlib.Core.Path.{refl, sym, ap, ◌∙◌}
-use borrow.Author.Tests.{eq-eqb, ne_eqb, lt-ltb, le-ltb, le-leb, lt-leb}
+use mathlib.Core.Path.{refl, ap}
+use borrow.Author.Tests.{eq-eqb, ne_eqb, lt-ltb}
 use Rattle.library_desk.specs.Listing.{seat_code}
-use borrow.Author.Rules.{rules}
-use Rattle.library_desk.proofs.listing.test_seat.Reads as reads
-use Rattle.library_desk.proofs.listing.test_seat.Lts as lts
-use Rattle.library_receiver.proofs.m17_receiver_carrier.Reads as m17-receiver-carrier-reads
 use Rattle.library_desk.proofs.listing.test_seat.Goals as goal
 
 -- src/listing.rt:27:9

@@ -1,11 +1,6 @@
 -- `write_lines` meets its contract. Assumes nothing.
 use mathlib.Core.List.{[]}
 use Rattle.library_desk.specs.Listing.{three_of}
-use mathlib.Core.Path.{refl}
-use borrow.Author.Rules.{rules}
-use Rattle.library_desk.proofs.listing.write_lines.Reads as reads
-use Rattle.library_desk.proofs.listing.write_lines.Lts as lts
-use Rattle.library_desk.proofs.listing.line_of.Reads as line-of-reads
 use Rattle.library_desk.proofs.listing.write_lines.Goals as goal
 
 -- src/listing.rt:79:1

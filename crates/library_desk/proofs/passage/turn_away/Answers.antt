@@ -1,8 +1,6 @@
 -- `turn_away` meets its contract. Assumes nothing.
 use borrow.Author.Tests.{eq-eqb, ne_eqb, lt-ltb, le-ltb}
 use Rattle.library_desk.specs.Passage.{turn_code}
-use Rattle.library_desk.proofs.passage.turn_away.Reads as reads
-use Rattle.library_desk.proofs.passage.turn_away.Lts as lts
 use Rattle.library_desk.proofs.passage.turn_away.Goals as goal
 
 -- src/passage.rt:10:9

@@ -6,11 +6,6 @@ use Rattle.desk_run.specs.Seat.{giving}
 use Rattle.library_desk.proofs.InSeat.{far}
 use Rattle.library_desk.proofs.Entry.{below, gives, turned_away, goes_on}
 use Rattle.library_desk.proofs.Given.{carrier_says}
-use borrow.Author.Rules.{rules}
-use Rattle.library_desk.proofs.seat.m17_desk_carrier.Reads as reads
-use Rattle.library_desk.proofs.seat.m17_desk_carrier.Lts as lts
-use Rattle.library_desk.proofs.passage.turn_away.Reads as turn-away-reads
-use Rattle.library_receiver.proofs.m17_receiver_carrier.Reads as m17-receiver-carrier-reads
 use Rattle.library_desk.proofs.seat.m17_desk_carrier.Goals as goal
 
 pub returns-then-seat-gt7 : goal.returns-then-seat-gt7

@@ -36,17 +36,17 @@ returns-then-not-record_fit c =
 pub preamble-modulator-requires : goal.preamble-modulator-requires
 preamble-modulator-requires c = (rate c.before.before, cursor c.before.before)
 
-pub returns-in-Refused : goal.returns-in-Refused
-returns-in-Refused c =
+pub returns-in-Err : goal.returns-in-Err
+returns-in-Err c =
     let a = c.args in
-    let wrong = sym c.judge_frame-verdict.ensures ∙ ap verdict_paper c.in-Refused.is in
-    let e = frame_refused (rate_of a.self.rate) a.self a.frame a.symbols.now (fit c.before.before.before.before) c.in-Symbols.traffic c.in-Symbols.is (on_paper c.in-Refused.why) wrong in
+    let wrong = sym c.judge_frame.ensures ∙ ap verdict_paper c.in-Err.is in
+    let e = frame_refused (rate_of a.self.rate) a.self a.frame a.symbols.now (fit c.before.before.before.before) c.in-Symbols.traffic c.in-Symbols.is (on_paper c.in-Err.why) wrong in
     record { answers = rw e; leaves = rw e }
 
 pub given-modulator-requires : goal.given-modulator-requires
 given-modulator-requires c =
     let a = c.args in
-    (rate c.before.before.before.before, cursor c.before.before.before.before, fine_count c.in-Symbols.traffic a.symbols.now (sym c.judge_frame-verdict.ensures ∙ ap verdict_paper c.in_default.is))
+    (rate c.before.before.before.before, cursor c.before.before.before.before, fine_count c.in-Symbols.traffic a.symbols.now (sym c.judge_frame.ensures ∙ ap verdict_paper c.in_default.is))
 
 pub end_of_transmission-modulator-requires : goal.end_of_transmission-modulator-requires
 end_of_transmission-modulator-requires c = (rate c.before.before, cursor c.before.before)
@@ -66,7 +66,7 @@ returns-in-Preamble c =
 pub returns-in_default : goal.returns-in_default
 returns-in_default c =
     let a = c.args in
-    let right = sym c.judge_frame-verdict.ensures ∙ ap verdict_paper c.in_default.is in
+    let right = sym c.judge_frame.ensures ∙ ap verdict_paper c.in_default.is in
     let e = frame_given (rate_of a.self.rate) a.self a.frame a.symbols.now (fit c.before.before.before.before.before) c.in-Symbols.traffic c.in-Symbols.is right in
     record { answers = rw e; leaves = rw (e, c.given-modulator.ensures) }
 

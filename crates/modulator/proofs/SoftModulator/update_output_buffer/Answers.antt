@@ -3,7 +3,7 @@ use mathlib.Core.Path.{◌≡◌, sym, ◌∙◌}
 use mathlib.Core.Bool.{true, false, not, ◌||◌}
 use native.Mathlib.Omega.{arith}
 use Rattle.shaping.specs.Rate.{Known, samples_in_lem, rate_of}
-use Rattle.shaping.proofs.RateFacts.{rate_known}
+use Rattle.shaping.proofs.RateFacts.{rate_known, per_symbol_some}
 use Rattle.modulator.specs.Fit.{record_fit_lem}
 use Rattle.modulator.specs.Outcome.{too_large}
 use Rattle.modulator.proofs.Fitness.{RecordFacts, record_facts}
@@ -56,13 +56,13 @@ end_after-end-requires c =
     let k = known c.before.before.before.before.before.before.before.before.before in
     record { card = (f.0, f.2); padding = omega arith; frame = (far.read, omega arith) }
 
-pub updated_pending-told-requires : goal.updated_pending-told-requires
-updated_pending-told-requires c =
-    let k = known c.before.before.before.before.before.before.before.before.before.before.before in
-    omega (arith, c.samples_in-p.ensures)
+pub unwrap-p-requires : goal.unwrap-p-requires
+unwrap-p-requires c =
+    let rate = (facts c.before.before.before.before.before.before.before.before.before.before.before).rate in
+    rw (c.of.ensures, rate)
 
 pub returns : goal.returns
 returns c =
     let a = c.args in
-    let e = update_done (rate_of a.self.rate) a.self a.samples_to_play.0 a.capacity.0 a.output_latency.0 (fit c.before.before.before.before.before.before.before.before.before.before.before.before) (small c.before.before.before.before.before.before.before.before) c.if-capacity-samples_to_play.false in
-    record { answers = rw e; leaves = rw (e, c.updated_pending-told.ensures, c.end_after-end.ensures, c.samples_in-p.ensures) }
+    let e = update_done (rate_of a.self.rate) a.self a.samples_to_play.0 a.capacity.0 a.output_latency.0 (fit c.before.before.before.before.before.before.before.before.before.before.before.before.before) (small c.before.before.before.before.before.before.before.before.before) c.if-capacity-samples_to_play.false in
+    record { answers = rw e; leaves = rw (e, c.updated_pending-told.ensures, c.end_after-end.ensures, (per_symbol_some c.args.self.rate c.unwrap-p.result c.of.result c.of.ensures c.unwrap-p.ensures).1) }

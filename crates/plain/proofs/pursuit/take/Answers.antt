@@ -2,10 +2,10 @@
 use Rattle.search.specs.Search.{marked}
 use Rattle.plain.proofs.pursuit.take.Goals as goal
 
-pub returns-in-Free : goal.returns-in-Free
+pub returns-in-None : goal.returns-in-None
 unfolding marked
-returns-in-Free c = rw c.in-Free.is
+returns-in-None c = rw c.in-None.is
 
-pub returns-in-Due : goal.returns-in-Due
+pub returns-in-Some : goal.returns-in-Some
 unfolding marked
-returns-in-Due c = rw c.in-Due.is
+returns-in-Some c = rw c.in-Some.is

@@ -1,13 +1,9 @@
 -- `put_in_turn` meets its contract: after s turns the samples of the first s symbols are written. Assumes nothing.
 use mathlib.Core.Path.{◌≡◌}
-use Prim.Native.Nat.{◌-◌, ◌*◌, ◌≤◌}
-use lib.ListN.{length}
+use Prim.Native.Nat.{◌*◌}
 use Rattle.numbers.specs.Firsts.{written}
 use Rattle.pulse.specs.Phases.{in_turn}
 use Rattle.pulse.proofs.samples.put_in_turn.Given as goal
 
 abbrev pub invariant-loop-s : goal.invariant-loop-s
-invariant-loop-s l = (l.s ≤ l.count) × (length l.room ≡ length l.initial.room) × (l.room ≡ written (in_turn l.p l.cuts) (l.p * l.s) l.initial.room)
-
-abbrev pub decreases-loop-s : goal.decreases-loop-s
-decreases-loop-s l = l.count - l.s
+invariant-loop-s l = l.room ≡ written (in_turn l.p l.cuts) (l.p * l.s) l.initial.room

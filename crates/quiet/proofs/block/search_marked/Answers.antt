@@ -32,11 +32,11 @@ next_marked-next-requires c =
     let most = c.loop-fed.invariant.most in
     search rules
 
-pub overflow_sub-rest : goal.overflow_sub-rest
-overflow_sub-rest c = let most = c.loop-fed.invariant.most in search rules
+pub overflow_sub-n : goal.overflow_sub-n
+overflow_sub-n c = let most = c.loop-fed.invariant.most in search rules
 
-pub count-counted-requires : goal.count-counted-requires
-count-counted-requires c =
+pub count-requires : goal.count-requires
+count-requires c =
     let count = c.requires.0.count in
     let number = c.loop-fed.invariant.number in
     let most = c.loop-fed.invariant.most in
@@ -45,7 +45,7 @@ count-counted-requires c =
 pub returns-then-next-n : goal.returns-then-next-n
 returns-then-next-n c =
     midway_counts _ _ _ _ _ c.requires.0 _ _ c.loop-fed.invariant (free_now c.before.before.before) _ c.requires.1 _ c.is_held-held.ensures _
-    c.next_marked-next.ensures (omega arith) c.if-next-n.true _ c.count-counted.ensures
+    c.next_marked-next.ensures (omega arith) c.if-next-n.true _ c.count.ensures
 
 pub overflow_add-place : goal.overflow_add-place
 overflow_add-place c =

@@ -58,8 +58,8 @@ slice_bounds-is_faint-start c = let long = c.requires.values.long in search rule
 pub slice_bounds-is_faint-end : goal.slice_bounds-is_faint-end
 slice_bounds-is_faint-end c = let long = c.requires.values.long in search rules
 
-pub count-counted-requires : goal.count-counted-requires
-count-counted-requires c = let b = c.requires in (b.free, b.count)
+pub count-requires : goal.count-requires
+count-requires c = let b = c.requires in (b.free, b.count)
 
 pub returns-then-is_faint : goal.returns-then-is_faint
 returns-then-is_faint c =
@@ -68,7 +68,7 @@ returns-then-is_faint c =
     counted_block c.args.p c.args.row.now c.args.at c.args.n c.args.control b
     (sym c.is_held-held.ensures ∙ c.if-not-held.true)
     (λ i l. faint_all c.args.p c.args.row.now c.args.at _ refl b.values.long (sym c.is_faint.ensures ∙ c.if-is_faint.true) i (omega arith)) _
-    c.count-counted.ensures
+    c.count.ensures
 
 pub offset_bounds-row-at-2 : goal.offset_bounds-row-at-2
 offset_bounds-row-at-2 c = let long = c.requires.values.long in search rules

@@ -2,22 +2,21 @@
 use mathlib.Core.Path.{◌≡◌, sym, ap, ◌∙◌}
 use lib.ListN.{length}
 use borrow.Author.Rules.{rules}
-use Rattle.modulator.specs.Paper.{provided_paper}
+use Rattle.modulator.specs.Paper.{done_paper}
+use Rattle.sending.proofs.Parts.{cut}
 use Rattle.sending.proofs.Turns.{told_fit, told_unfit, turn_done, turn_refused}
 use Rattle.sending.proofs.Sending.turn.Goals as goal
-use Rattle.sending.proofs.Sending.turn.Goals.{Start}
 
-places : (c : Start) → length c.args.bytes ≡ 97
-places c = search rules
-
-pub returns-in-Refused : goal.returns-in-Refused
-returns-in-Refused c =
+pub returns-in-Err : goal.returns-in-Err
+returns-in-Err c =
     let a = c.args in
-    let unfit = told_unfit a.self.modulator _ (sym c.test_record-told.ensures ∙ ap provided_paper c.in-Refused.is) in
-    turn_refused a.self a.bytes a.n unfit (provided_paper c.test_record-told.result) c.test_record-told.ensures c.write_nothing.result c.write_nothing.ensures
+    let told = sym c.test_record.ensures ∙ ap done_paper c.in-Err.is in
+    turn_refused a.self a.bytes a.n (told_unfit a.self.modulator _ told) _ (sym told) c.write_nothing.result c.write_nothing.ensures
 
-pub returns-in-Done : goal.returns-in-Done
-returns-in-Done c =
+pub returns : goal.returns
+returns c =
     let a = c.args in
-    let fit = told_fit a.self.modulator (sym c.test_record-told.ensures ∙ ap provided_paper c.in-Done.is) in
-    turn_done a.self a.bytes a.n (places c.before.before.before.before) fit c.move_on-after.result c.move_on-after.ensures _ c.count_taken-taken.ensures
+    let fit = told_fit a.self.modulator (sym c.test_record.ensures ∙ ap done_paper c.in_default.is) in
+    let places : length a.bytes ≡ 97 = search rules in
+    let moved = rw (cut a.bytes a.n c.min.result places c.min.ensures) at c.move_on-after.ensures in
+    turn_done a.self a.bytes a.n places fit c.move_on-after.result moved _ c.count_taken-taken.ensures

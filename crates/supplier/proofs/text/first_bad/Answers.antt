@@ -1,47 +1,51 @@
 -- `text::first_bad` meets its contract: the lines before the place are good. Assumes nothing.
-use mathlib.Core.Path.{◌≡◌, refl, sym, ap, ◌∙◌}
-use Prim.Native.Nat.{suc, ◌+◌, ◌-◌, ◌≤◌, ◌<◌, zero-le}
+use mathlib.Core.Path.{◌≡◌, sym, ap, ◌∙◌}
+use Prim.Native.Nat.{ℕ, ◌+◌, ◌*◌, ◌/◌, ◌≤◌, ◌<◌}
 use native.Mathlib.Omega.{arith}
 use borrow.Author.Rules.{rules}
 use lib.ListN.{length, drop, length-drop}
-use lib.Seq.{drop-drop}
+use Rattle.std.specs.Option.{is_some}
+use mathlib.Core.Bool.{not}
 use Rattle.house.specs.Line.{good_line}
-use Rattle.sending.proofs.Parts.{read_is_good}
-use Rattle.supplier.proofs.FirstLine.{bad_few, bad_line, bad_later, bad_none}
+use Rattle.house.proofs.Lines.{has_symbols}
+use Rattle.sending.specs.Text.{in_line}
+use Rattle.supplier.proofs.FirstLine.{bad_few, bad_line, bad_later, bad_none, chunk_at, next_chunk}
 use Rattle.supplier.proofs.text.first_bad.Goals as goal
 
-pub loop-at-init : goal.loop-at-init
-loop-at-init c = (zero-le, omega arith, refl)
-
-pub returns-then-left-lt97 : goal.returns-then-left-lt97
-returns-then-left-lt97 c =
-    let l = c.loop-at in
+pub returns-then-is_none : goal.returns-then-is_none
+returns-then-is_none c =
+    let l = c.loop-before in
     let t = c.args.lines.now in
-    let few : length t - l.at < 97 = search rules in
-    let some : l.at < length t = search rules in
-    sym (l.invariant.2 ∙ bad_few l.number (drop l.at t) (omega (arith, length-drop l.at t)) (omega (arith, length-drop l.at t)))
+    let within : l.before < length t / 97 = omega (arith, c.as_chunks.ensures.front_len) in
+    let enough : 97 ≤ length (drop (97 * l.before) t) = omega (arith, length-drop (97 * l.before) t) in
+    let whole = c.as_chunks.result.0.now in
+    let read = ap is_some c.line_symbols-read.ensures ∙ has_symbols _ ∙ ap good_line (chunk_at whole 97 t l.before c.as_chunks.ensures.front within) in
+    sym (l.invariant ∙ bad_line (l.before + 1) (drop (97 * l.before) t) enough (sym read ∙ c.is_none.ensures ∙ ap not c.if-is_none.true))
 
-pub returns-then-not-good : goal.returns-then-not-good
-returns-then-not-good c =
-    let l = c.loop-at in
+pub loop-before-preserved : goal.loop-before-preserved
+loop-before-preserved c =
+    let l = c.loop-before in
     let t = c.args.lines.now in
-    let enough : 97 ≤ length (drop l.at t) = omega (arith, length-drop l.at t) in
-    let read = read_is_good c.line_at-line.result c.line_symbols-read.result c.line_symbols-read.ensures ∙ ap good_line c.line_at-line.ensures in
-    sym (l.invariant.2 ∙ bad_line l.number (drop l.at t) enough (sym read ∙ c.if-not-good.true))
+    let within : l.before < length t / 97 = omega (arith, c.as_chunks.ensures.front_len) in
+    let enough : 97 ≤ length (drop (97 * l.before) t) = omega (arith, length-drop (97 * l.before) t) in
+    let whole = c.as_chunks.result.0.now in
+    let read = ap is_some c.line_symbols-read.ensures ∙ has_symbols _ ∙ ap good_line (chunk_at whole 97 t l.before c.as_chunks.ensures.front within) in
+    l.invariant ∙ bad_later (l.before + 1) (drop (97 * l.before) t) enough (sym read ∙ c.is_none.ensures ∙ ap not c.if-is_none.false) ∙ next_chunk l.before t
 
-pub loop-at-preserved : goal.loop-at-preserved
-loop-at-preserved c =
-    let l = c.loop-at in
+pub returns-then-is_empty : goal.returns-then-is_empty
+returns-then-is_empty c =
+    let l = c.loop-before in
     let t = c.args.lines.now in
-    let enough : 97 ≤ length (drop l.at t) = omega (arith, length-drop l.at t) in
-    let read = read_is_good c.line_at-line.result c.line_symbols-read.result c.line_symbols-read.ensures ∙ ap good_line c.line_at-line.ensures in
-    let next : l.number + 1 ≡ suc l.number = omega arith in
-    let good = sym read ∙ c.if-not-good.false in
-    (omega (arith, length-drop l.at t), omega arith, l.invariant.2 ∙ bad_later l.number (drop l.at t) enough good ∙ rw (next, drop-drop 97 l.at t))
+    let none : length c.as_chunks.result.1.now ≡ 0 = search rules in
+    let all : length t ≤ 97 * l.before = omega (arith, none, c.as_chunks.ensures.front_len, c.as_chunks.ensures.back_len) in
+    sym (l.invariant ∙ bad_none (l.before + 1) t (97 * l.before) all)
 
 pub returns : goal.returns
 returns c =
-    let l = c.loop-at in
+    let l = c.loop-before in
     let t = c.args.lines.now in
-    let all : length t ≤ l.at = search rules in
-    sym (l.invariant.2 ∙ bad_none l.number t l.at all)
+    let some : 0 < length c.as_chunks.result.1.now = search rules in
+    let done : l.before ≡ length c.as_chunks.result.0.now = omega arith in
+    let size = length-drop (97 * l.before) t in
+    let few = bad_few (l.before + 1) (drop (97 * l.before) t) (omega (arith, size, some, done, c.as_chunks.ensures.front_len, c.as_chunks.ensures.back_len)) (omega (arith, size, done, c.as_chunks.ensures.front_len, c.as_chunks.ensures.back_len)) in
+    sym (l.invariant ∙ few ∙ ap (λ (n : ℕ). in_line (n + 1)) done)

@@ -12,17 +12,15 @@ use Rattle.wire.proofs.writing.put_samples.Goals as goal
 
 pub loop-i-init : goal.loop-i-init
 unfolding laid
-loop-i-init c = (search rules, refl, refl)
+loop-i-init c = refl
 
 pub loop-i-preserved : goal.loop-i-preserved
 unfolding laid
 loop-i-preserved c =
-    let l = c.loop-i in
-    let samples = c.args.from.now in
-    let back = to_z-of_z {w = w16} {z = get_or samples l.i (pos 0)} (search rules) in
-    (search rules, search rules, rw add-one (c.lay_sample.ensures ∙ rw (back, l.invariant.2)))
+    let back = to_z-of_z {w = w16} {z = get_or c.args.from.now c.loop-i.i (pos 0)} (search rules) in
+    rw add-one (c.lay_sample.ensures ∙ rw (back, c.loop-i.invariant))
 
 pub returns : goal.returns
 returns c =
     let all : c.loop-i.i ≡ length c.args.from.now = omega arith in
-    c.loop-i.invariant.2 ∙ rw all
+    c.loop-i.invariant ∙ rw all

@@ -1,12 +1,7 @@
 -- `writing::put_samples` meets its contract: after i turns the first i are laid. Assumes nothing.
 use mathlib.Core.Path.{◌≡◌}
-use Prim.Native.Nat.{◌-◌, ◌≤◌}
-use lib.ListN.{length}
 use Rattle.wire.specs.Bytes.{laid, sample_bits}
 use Rattle.wire.proofs.writing.put_samples.Given as goal
 
 abbrev pub invariant-loop-i : goal.invariant-loop-i
-invariant-loop-i l = (l.i ≤ length l.from) × (length l.to ≡ length l.initial.to) × (l.to ≡ laid 2 (sample_bits l.from) l.i l.initial.to)
-
-abbrev pub decreases-loop-i : goal.decreases-loop-i
-decreases-loop-i l = length l.from - l.i
+invariant-loop-i l = l.to ≡ laid 2 (sample_bits l.from) l.i l.initial.to

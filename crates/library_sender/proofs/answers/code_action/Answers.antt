@@ -1,6 +1,0 @@
--- `answers::code_action` meets its contract. Assumes nothing.
-use borrow.Author.Rules.{rules}
-use Rattle.library_sender.proofs.answers.code_action.Goals as goal
-
-pub returns-in-Refused : goal.returns-in-Refused
-returns-in-Refused c = rw (c.in-Refused.is, c.refusal_code.ensures)

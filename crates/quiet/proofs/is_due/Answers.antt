@@ -1,5 +1,0 @@
--- `is_due` meets its contract. Assumes nothing.
-use Rattle.quiet.proofs.is_due.Goals as goal
-
-pub returns-in-Due : goal.returns-in-Due
-returns-in-Due c = rw c.in-Due.is
