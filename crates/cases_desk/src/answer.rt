@@ -25,6 +25,7 @@ pub fn put_carrier(out: &mut impl Write, answer: Result<bool, Refusal>) -> io::R
     }
 }
 
+// The programs that write a kind share no crate that knows the type and writes.
 fn put_kind(out: &mut impl Write, kind: Kind) -> io::Result<()> {
     match kind {
         Kind::Lsf => out.write_all(b" lsf"),
@@ -34,13 +35,7 @@ fn put_kind(out: &mut impl Write, kind: Kind) -> io::Result<()> {
     }
 }
 
-fn put_symbols(out: &mut impl Write, room: [f32; 200]) -> io::Result<()> {
-    for symbol in room.iter().take(192) {
-        cases_text::put_float(out, *symbol)?;
-    }
-    Ok(())
-}
-
+// The programs that write an offer share no crate that knows the type and writes.
 fn put_offer(out: &mut impl Write, offer: Offer, room: [f32; 200]) -> io::Result<()> {
     let kind = offer.kind;
     put_kind(out, kind)?;
@@ -49,7 +44,7 @@ fn put_offer(out: &mut impl Write, offer: Offer, room: [f32; 200]) -> io::Result
     cases_text::put_count(out, offer.age as u64)?;
     cases_text::put_count(out, offer.replaced as u64)?;
     cases_text::put_float(out, offer.gain)?;
-    put_symbols(out, room)
+    cases_text::put_floats(out, &room[0..192])
 }
 
 // And how many samples went in, before what an offer reports.

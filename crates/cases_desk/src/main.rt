@@ -150,6 +150,7 @@ fn answer_line(out: &mut impl Write, desk: Desk, line: &[u8]) -> io::Result<Desk
     Ok(next)
 }
 
+// What a line leaves goes to the next. A loop in `cases_text` that is handed both as a closure and a value would be no plainer.
 fn replay(out: &mut impl Write, text: &[u8]) -> io::Result<()> {
     let mut desk = Desk::new();
     for line in Lines::of(text) {
@@ -158,6 +159,7 @@ fn replay(out: &mut impl Write, text: &[u8]) -> io::Result<()> {
     Ok(())
 }
 
+// A crate has a `main` of its own.
 fn main(rt: HostRuntime) -> io::Result<()> {
     let mut out = BufWriter::new(rt.alloc(), io::writer(&rt))?;
     let text = cases_text::read_text(&rt, rt.alloc(), 196_608)?;

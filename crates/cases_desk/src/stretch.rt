@@ -9,7 +9,7 @@ fn of_pattern(pattern: u64) -> i16 {
     ((pattern % 65536) as u16).cast_signed()
 }
 
-// The samples of the digits, four for each, and 0 past their end.
+// The samples of the digits, four for each, and 0 past their end. `cases_offers` has the same of another length: in `cases_text` it would need a promise of each sample, longer than itself.
 pub(crate) fn samples_of(digits: &[u8]) -> [i16; 480] {
     let mut samples = [0i16; 480];
     for (sample, four) in samples.iter_mut().zip(digits.chunks_exact(4)) {

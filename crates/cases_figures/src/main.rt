@@ -99,6 +99,7 @@ fn answer_line(
     Ok(next)
 }
 
+// What a line leaves goes to the next. A loop in `cases_text` that is handed both as a closure and a value would be no plainer.
 fn replay(out: &mut impl Write, text: &[u8]) -> io::Result<()> {
     let month = Report::new();
     let mut session = Session {
@@ -113,6 +114,7 @@ fn replay(out: &mut impl Write, text: &[u8]) -> io::Result<()> {
     Ok(())
 }
 
+// A crate has a `main` of its own.
 fn main(rt: HostRuntime) -> io::Result<()> {
     let mut out = BufWriter::new(rt.alloc(), io::writer(&rt))?;
     let text = cases_text::read_text(&rt, rt.alloc(), 393_216)?;

@@ -18,6 +18,7 @@ fn of_pattern(pattern: u64) -> i16 {
     ((pattern % 65536) as u16).cast_signed()
 }
 
+// `cases_programs` has the same of bytes: one of both in `cases_text` would need a promise longer than itself.
 fn put(room: &mut [i16], at: usize, sample: i16) -> usize {
     if at < room.len() {
         room[at] = sample;

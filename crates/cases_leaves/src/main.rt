@@ -78,6 +78,7 @@ fn answer(out: &mut impl Write, line: &[u8]) -> io::Result<()> {
     }
 }
 
+// One loop in `cases_text` that is handed `answer_line` as a closure would be no plainer than these three lines.
 fn replay(out: &mut impl Write, text: &[u8]) -> io::Result<()> {
     for line in Lines::of(text) {
         answer_line(out, line)?;
@@ -92,6 +93,7 @@ fn answer_line(out: &mut impl Write, line: &[u8]) -> io::Result<()> {
     cases_text::end_line(out)
 }
 
+// A crate has a `main` of its own.
 fn main(rt: HostRuntime) -> io::Result<()> {
     let mut out = BufWriter::new(rt.alloc(), io::writer(&rt))?;
     let text = cases_text::read_text(&rt, rt.alloc(), 131_072)?;

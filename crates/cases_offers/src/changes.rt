@@ -109,6 +109,7 @@ pub(crate) fn look_at(receiver: SoftDemodulator) -> Seen {
     }
 }
 
+// A kind by its number. The programs that write one share `cases_text` alone, which knows no kinds.
 pub(crate) fn put_kind(out: &mut impl Write, kind: u64) -> io::Result<()> {
     match kind {
         0 => out.write_all(b" lsf"),

@@ -40,7 +40,7 @@ fn script(letters: &[u8]) -> [u8; 16] {
     script
 }
 
-// The samples of the digits, and 0 past their end.
+// The samples of the digits, and 0 past their end. `cases_desk` has the same of another length: in `cases_text` it would need a promise of each sample, longer than itself.
 fn samples_of(digits: &[u8]) -> [i16; 610] {
     let mut samples = [0i16; 610];
     for (sample, four) in samples.iter_mut().zip(digits.chunks_exact(4)) {
@@ -96,6 +96,7 @@ fn answer_line(out: &mut impl Write, session: Session, line: &[u8]) -> io::Resul
     }
 }
 
+// What a line leaves goes to the next. A loop in `cases_text` that is handed both as a closure and a value would be no plainer.
 fn replay(out: &mut impl Write, text: &[u8]) -> io::Result<()> {
     let mut session = stream::fresh(48_000, [b'-'; 16]);
     for line in Lines::of(text) {
@@ -104,6 +105,7 @@ fn replay(out: &mut impl Write, text: &[u8]) -> io::Result<()> {
     Ok(())
 }
 
+// A crate has a `main` of its own.
 fn main(rt: HostRuntime) -> io::Result<()> {
     let mut out = BufWriter::new(rt.alloc(), io::writer(&rt))?;
     let text = cases_text::read_text(&rt, rt.alloc(), 524_288)?;

@@ -40,13 +40,6 @@ fn finished(
     Ok(next)
 }
 
-fn put_symbols(out: &mut impl Write, room: [f32; 192]) -> io::Result<()> {
-    for symbol in &room {
-        cases_text::put_float(out, *symbol)?;
-    }
-    Ok(())
-}
-
 pub(crate) fn put_offer(
     out: &mut impl Write,
     before: u64,
@@ -61,7 +54,7 @@ pub(crate) fn put_offer(
     cases_text::put_count(out, offer.age as u64)?;
     cases_text::put_count(out, offer.replaced as u64)?;
     cases_text::put_float(out, offer.gain)?;
-    put_symbols(out, room)
+    cases_text::put_floats(out, &room)
 }
 
 // Past the script's end every offer is rejected.

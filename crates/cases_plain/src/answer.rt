@@ -37,6 +37,7 @@ fn reply_count(letters: &[u8]) -> usize
     }
 }
 
+// A kind by its number. The programs that write one share `cases_text` alone, which knows no kinds.
 fn put_kind(out: &mut impl Write, kind: u64) -> io::Result<()> {
     match kind {
         0 => out.write_all(b" lsf"),
@@ -45,13 +46,6 @@ fn put_kind(out: &mut impl Write, kind: u64) -> io::Result<()> {
         3 => out.write_all(b" packet"),
         _ => out.write_all(b" none"),
     }
-}
-
-fn put_symbols(out: &mut impl Write, symbols: &[f32]) -> io::Result<()> {
-    for symbol in symbols {
-        cases_text::put_float(out, *symbol)?;
-    }
-    Ok(())
 }
 
 fn put_offer(
@@ -68,7 +62,7 @@ fn put_offer(
         cases_text::put_count(out, *number)?;
     }
     let window = 192 * offer;
-    put_symbols(out, &symbols[window..window + 192])
+    cases_text::put_floats(out, &symbols[window..window + 192])
 }
 
 fn put_offers(

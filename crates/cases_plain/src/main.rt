@@ -43,6 +43,7 @@ fn answer_line(
     }
 }
 
+// What a line leaves goes to the next. A loop in `cases_text` that is handed both as a closure and a value would be no plainer.
 fn replay(out: &mut impl Write, text: &[u8], samples: &mut [i16]) -> io::Result<()> {
     let mut count: usize = 0;
     for line in Lines::of(text) {

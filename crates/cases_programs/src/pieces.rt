@@ -23,6 +23,7 @@ pub(crate) fn bytes_of(digits: &[u8]) -> [u8; 97] {
     bytes
 }
 
+// `cases_figures` has the same of samples: one of both in `cases_text` would need a promise longer than itself.
 fn put_byte(recording: &mut [u8], at: usize, byte: u8) -> usize {
     if at < recording.len() {
         recording[at] = byte;

@@ -19,7 +19,7 @@ pub(crate) fn symbol_before(p: usize, place: usize) -> usize
     }
 }
 
-// A value of its own in each place: none can move unseen.
+// A value of its own in each place: none can move unseen. `cases_sender_refusals` has the like: the two share no crate of made-up records.
 fn own_values() -> [f32; 1920] {
     let mut ring = [0.0f32; 1920];
     let mut own: f32 = 0.0;

@@ -67,10 +67,7 @@ fn window_places(rate: u32) -> usize
 
 pub(crate) fn put_window(out: &mut impl Write, m: SoftModulator) -> io::Result<()> {
     cases_text::put_count(out, m.filter_cursor as u64)?;
-    for value in &m.filter_win[..window_places(m.rate)] {
-        cases_text::put_float(out, *value)?;
-    }
-    Ok(())
+    cases_text::put_floats(out, &m.filter_win[..window_places(m.rate)])
 }
 
 fn put_flag(out: &mut impl Write, flag: bool) -> io::Result<()> {

@@ -1,4 +1,6 @@
 // The calls of a session, each with the operands of its line.
+ghost use Rattle.std.specs.Prelude.{◌≤◌};
+
 use crate::answers;
 use given_symbols::Traffic;
 use modulator::{DelaySteps, ModulatorFrame, SampleCount, SoftModulator};
@@ -8,21 +10,15 @@ fn count(line: &[u8], k: usize) -> usize {
     cases_text::decimal(cases_text::word(line, k)) as usize
 }
 
-// The words after the first as symbols: a missing one is 0.
-fn symbols(line: &[u8]) -> [f32; 192] {
-    let mut symbols = [0.0f32; 192];
-    for (i, symbol) in symbols.iter_mut().enumerate() {
-        *symbol = cases_text::float(cases_text::word(line, i + 1));
+// The words from one on as floats: a missing one is 0.
+fn floats<const N: usize>(line: &[u8], from: usize) -> [f32; N]
+    requires { from ≤ 2 }
+{
+    let mut floats = [0.0f32; N];
+    for (i, float) in floats.iter_mut().enumerate() {
+        *float = cases_text::float(cases_text::word(line, from + i));
     }
-    symbols
-}
-
-fn window(line: &[u8]) -> [f32; 81] {
-    let mut window = [0.0f32; 81];
-    for (i, value) in window.iter_mut().enumerate() {
-        *value = cases_text::float(cases_text::word(line, i + 2));
-    }
-    window
+    floats
 }
 
 pub(crate) fn provided(
@@ -31,7 +27,7 @@ pub(crate) fn provided(
     frame: ModulatorFrame,
     line: &[u8],
 ) -> io::Result<SoftModulator> {
-    let symbols = symbols(line);
+    let symbols = floats::<192>(line, 1);
     let left = m.provide_next_frame(frame, &symbols);
     let answer = left.answer;
     if let Err(why) = answer {
@@ -97,8 +93,7 @@ pub(crate) fn ran(out: &mut impl Write, m: SoftModulator) -> io::Result<SoftModu
 
 pub(crate) fn windowed(m: SoftModulator, line: &[u8]) -> SoftModulator {
     let mut next = m;
-    let laid = window(line);
-    next.filter_win = laid;
+    next.filter_win = floats::<81>(line, 2);
     next.filter_cursor = count(line, 1);
     next
 }

@@ -5,7 +5,7 @@ use modulator::{ModulatorAction, SampleCount};
 use protocol::{Place, Refusal};
 use std::io::{self, Write};
 
-#[derive(Clone, Copy)]
+#[derive(Clone, Copy, PartialEq, Eq)]
 pub(crate) struct Answer {
     pub words: usize,
     pub number: u64,
@@ -94,23 +94,6 @@ pub(crate) fn of_action(answer: Result<ModulatorAction, Refusal>, kept: bool) ->
         Ok(ModulatorAction::GetNextFrame) => plain(GET_A_FRAME, 0),
         Ok(ModulatorAction::Nothing) => plain(NOTHING, 0),
     }
-}
-
-fn same_place(a: Place, b: Place) -> bool {
-    match (a, b) {
-        (Place::Nothing, Place::Nothing) => true,
-        (Place::Symbol(at), Place::Symbol(other)) => at == other,
-        (Place::Line(line), Place::Line(other)) => line == other,
-        _ => false,
-    }
-}
-
-pub(crate) fn same(a: Answer, b: Answer) -> bool {
-    a.words == b.words
-        && a.number == b.number
-        && same_place(a.place, b.place)
-        && a.changed == b.changed
-        && a.room == b.room
 }
 
 fn put_words(out: &mut impl Write, words: usize) -> io::Result<()> {

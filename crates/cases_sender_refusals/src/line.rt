@@ -9,8 +9,7 @@ fn alike(answer: Answer, before: SoftModulator, parts: &[u8], call: usize) -> u6
     let mut alike: u64 = 0;
     for place in 0..81 {
         let left = calls::called(before, parts, call, place);
-        let other = left.answer;
-        alike = alike.wrapping_add(answer::same(answer, other) as u64);
+        alike = alike.wrapping_add((left.answer == answer) as u64);
     }
     alike
 }

@@ -50,7 +50,7 @@ fn store() -> [i16; 4000] {
     store
 }
 
-// The same for the window, from 1.
+// The same for the window, from 1. `cases_receiver_refusals` has the like: the two share no crate of made-up records.
 fn ramp() -> [f32; 81] {
     let mut window = [0.0f32; 81];
     let mut value: f32 = 1.0;

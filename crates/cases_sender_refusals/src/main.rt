@@ -15,6 +15,7 @@ use cases_text::Lines;
 use modulator::SoftModulator;
 use std::io::{self, BufWriter, Write};
 
+// What a line leaves goes to the next. A loop in `cases_text` that is handed both as a closure and a value would be no plainer.
 fn replay(out: &mut impl Write, text: &[u8]) -> io::Result<()> {
     let begun = SoftModulator::new(48000);
     let mut m = begun.modulator;
@@ -24,6 +25,7 @@ fn replay(out: &mut impl Write, text: &[u8]) -> io::Result<()> {
     Ok(())
 }
 
+// A crate has a `main` of its own.
 fn main(rt: HostRuntime) -> io::Result<()> {
     let mut out = BufWriter::new(rt.alloc(), io::writer(&rt))?;
     let text = cases_text::read_text(&rt, rt.alloc(), 65_536)?;

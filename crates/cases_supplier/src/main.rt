@@ -99,6 +99,7 @@ fn answer_line(
 }
 
 // Room for four lines, for what is sent of them, and for the longest padding before it.
+// What a line leaves goes to the next. A loop in `cases_text` that is handed both as a closure and a value would be no plainer.
 fn replay(out: &mut impl Write, list: &[u8]) -> io::Result<()> {
     let mut text = [0u8; 400];
     let mut recording = [0i16; 12_400];
@@ -113,6 +114,7 @@ fn replay(out: &mut impl Write, list: &[u8]) -> io::Result<()> {
     Ok(())
 }
 
+// A crate has a `main` of its own.
 fn main(rt: HostRuntime) -> io::Result<()> {
     let mut out = BufWriter::new(rt.alloc(), io::writer(&rt))?;
     let list = cases_text::read_text(&rt, rt.alloc(), 196_608)?;

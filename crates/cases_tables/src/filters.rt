@@ -75,6 +75,7 @@ fn answer_line(out: &mut impl Write, window: Window, line: &[u8]) -> io::Result<
     Ok(next)
 }
 
+// What a line leaves goes to the next. A loop in `cases_text` that is handed both as a closure and a value would be no plainer.
 pub(crate) fn replay(out: &mut impl Write, text: &[u8]) -> io::Result<()> {
     let mut window = fresh(10);
     for line in Lines::of(text) {

@@ -29,9 +29,7 @@ fn put_burst(out: &mut impl Write, name: &[u8], burst: SyncBurst) -> io::Result<
 
 fn put_frame(out: &mut impl Write, name: &[u8], symbols: [f32; 192]) -> io::Result<()> {
     out.write_all(name)?;
-    for symbol in &symbols {
-        cases_text::put_float(out, *symbol)?;
-    }
+    cases_text::put_floats(out, &symbols)?;
     cases_text::end_line(out)
 }
 

@@ -1,5 +1,7 @@
 // What a line of words names, and what is after a name.
-ghost use Rattle.cases_text.specs.Behind.{PlaceBehindSays, NamesSays, CountBehindSays, FloatBehindSays};
+ghost use Rattle.std.specs.Prelude.{◌≡◌, is_some, IfSome};
+ghost use Rattle.cases_text.specs.Places.{word_of};
+ghost use Rattle.cases_text.specs.Behind.{behind_of, named, PlaceBehindSays, NamesSays, CountBehindSays, FloatBehindSays};
 
 use crate::places::{find, next};
 use crate::{decimal, float, word};
@@ -29,25 +31,30 @@ pub fn names(words: &[u8], name: &[u8]) -> bool
     0 < place_behind(words, name)
 }
 
-// The number after a name, or the caller's own where no word is the name.
-pub fn count_behind(words: &[u8], name: &[u8], own: u64) -> u64
-    ensures { CountBehindSays words.now name.now own result }
+// The word after a name.
+fn word_behind<'a>(words: &'a [u8], name: &[u8]) -> Option<&'a [u8]>
+    ensures found { is_some result ≡ named words.now name.now }
+    ensures value { IfSome result (λ w. w.now ≡ word_of words.now (behind_of words.now name.now)) }
 {
     let place = place_behind(words, name);
     if 0 < place {
-        decimal(word(words, place))
+        Some(word(words, place))
     } else {
-        own
+        None
     }
 }
 
+// The number after a name, or the caller's own where no word is the name.
+#[tactic(auto, unfolding(crate::specs::Behind::count_behind_lem))]
+pub fn count_behind(words: &[u8], name: &[u8], own: u64) -> u64
+    ensures { CountBehindSays words.now name.now own result }
+{
+    word_behind(words, name).map_or(own, decimal)
+}
+
+#[tactic(auto, unfolding(crate::specs::Behind::float_behind_lem))]
 pub fn float_behind(words: &[u8], name: &[u8], own: f32) -> f32
     ensures { FloatBehindSays words.now name.now own result }
 {
-    let place = place_behind(words, name);
-    if 0 < place {
-        float(word(words, place))
-    } else {
-        own
-    }
+    word_behind(words, name).map_or(own, float)
 }

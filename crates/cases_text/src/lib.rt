@@ -11,4 +11,4 @@ pub use behind::{count_behind, float_behind, names, place_behind};
 pub use lines::{Lines, read_text};
 pub use places::{begins, cell, word};
 pub use reading::{decimal, float, hexadecimal, same_float, sample};
-pub use writing::{end_line, put_count, put_float, put_front, put_signed};
+pub use writing::{end_line, put_count, put_float, put_floats, put_front, put_signed};

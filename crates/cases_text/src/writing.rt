@@ -2,7 +2,7 @@
 ghost use Rattle.std.specs.Prelude.{◌≤◌, [], ◌∷◌, OnOk, length, take};
 ghost use Rattle.std.specs.Fmt.{decimal, signed_decimal};
 ghost use Rattle.std.specs.Io.KnownBytes.{Appends};
-ghost use Rattle.cases_text.specs.Written.{float_text};
+ghost use Rattle.cases_text.specs.Written.{float_text, float_texts};
 
 use std::io::{self, Write};
 
@@ -28,6 +28,15 @@ pub fn put_float<W: Write>(out: &mut W, x: f32) -> io::Result<()>
         let pattern = f32::to_bits(x);
         write!(out, " {pattern:08x}")
     }
+}
+
+pub fn put_floats<W: Write>(out: &mut W, xs: &[f32]) -> io::Result<()>
+    ensures { OnOk result (Appends (W.contents out.old) (W.contents out.new) (float_texts xs.now)) }
+{
+    for x in xs {
+        put_float(out, *x)?;
+    }
+    Ok(())
 }
 
 pub fn put_signed<W: Write>(out: &mut W, z: i16) -> io::Result<()>
