@@ -10,14 +10,18 @@ fn put_refused(out: &mut impl Write, why: Refusal) -> io::Result<()> {
 }
 
 // Of a call that tells nothing more: the word for it.
-pub fn put_done(out: &mut impl Write, answer: Result<(), Refusal>, word: &[u8]) -> io::Result<()> {
+pub(crate) fn put_done(
+    out: &mut impl Write,
+    answer: Result<(), Refusal>,
+    word: &[u8],
+) -> io::Result<()> {
     match answer {
         Err(why) => put_refused(out, why),
         Ok(()) => out.write_all(word),
     }
 }
 
-pub fn put_carrier(out: &mut impl Write, answer: Result<bool, Refusal>) -> io::Result<()> {
+pub(crate) fn put_carrier(out: &mut impl Write, answer: Result<bool, Refusal>) -> io::Result<()> {
     match answer {
         Err(why) => put_refused(out, why),
         Ok(true) => out.write_all(b" yes"),
@@ -48,7 +52,7 @@ fn put_offer(out: &mut impl Write, offer: Offer, room: [f32; 200]) -> io::Result
 }
 
 // And how many samples went in, before what an offer reports.
-pub fn put_fed(out: &mut impl Write, told: Fed, room: [f32; 200]) -> io::Result<()> {
+pub(crate) fn put_fed(out: &mut impl Write, told: Fed, room: [f32; 200]) -> io::Result<()> {
     let answer = told.answer;
     let fed = told.fed as u64;
     match answer {
@@ -80,7 +84,7 @@ fn put_line(out: &mut impl Write, line: Option<Line>) -> io::Result<()> {
     Ok(())
 }
 
-pub fn put_listed(
+pub(crate) fn put_listed(
     out: &mut impl Write,
     answer: Result<[Option<Line>; 8], Refusal>,
 ) -> io::Result<()> {

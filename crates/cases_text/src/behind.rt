@@ -32,7 +32,7 @@ pub fn names(words: &[u8], name: &[u8]) -> bool
 }
 
 // The word after a name.
-fn word_behind<'a>(words: &'a [u8], name: &[u8]) -> Option<&'a [u8]>
+fn word_after<'a>(words: &'a [u8], name: &[u8]) -> Option<&'a [u8]>
     ensures found { is_some result ≡ named words.now name.now }
     ensures value { IfSome result (λ w. w.now ≡ word_of words.now (behind_of words.now name.now)) }
 {
@@ -49,12 +49,12 @@ fn word_behind<'a>(words: &'a [u8], name: &[u8]) -> Option<&'a [u8]>
 pub fn count_behind(words: &[u8], name: &[u8], own: u64) -> u64
     ensures { CountBehindSays words.now name.now own result }
 {
-    word_behind(words, name).map_or(own, decimal)
+    word_after(words, name).map_or(own, decimal)
 }
 
 #[tactic(auto, unfolding(crate::specs::Behind::float_behind_lem))]
 pub fn float_behind(words: &[u8], name: &[u8], own: f32) -> f32
     ensures { FloatBehindSays words.now name.now own result }
 {
-    word_behind(words, name).map_or(own, float)
+    word_after(words, name).map_or(own, float)
 }

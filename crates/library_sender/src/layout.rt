@@ -33,7 +33,7 @@ fn read_report(n: &[u64; 13]) -> Option<SampleCount>
     }
 }
 
-pub fn read_record(store: &[i16; 4000], window: &[f32; 81], n: &[u64; 13]) -> SoftModulator
+pub(crate) fn read_record(store: &[i16; 4000], window: &[f32; 81], n: &[u64; 13]) -> SoftModulator
     requires { numbers_code n.now ≡ 0 }
     ensures { result ≡ sender_in store.now window.now n.now }
 {

@@ -11,4 +11,4 @@ loop-place-init c = search rules
 
 pub loop-place-preserved : goal.loop-place-preserved
 unfolding judged_below
-loop-place-preserved c = rw (add-one, c.and-found.ensures, verdict_and c.loop-place.found c.judge.result, c.loop-place.invariant, c.judge.ensures)
+loop-place-preserved c = rw (add-one, c.and-found.ensures, verdict_and _ _, c.loop-place.invariant, c.judge.ensures)
