@@ -10,7 +10,7 @@ pub fn tap_sums(table: &[f32], row: &[f32]) -> [f32; 48]
     ensures { TapSumsSays table.now row.now result }
 {
     let mut sums = [0.0f32; 48];
-    if row.len().saturating_sub(47) < table.len() {
+    if numbers::saturating_sub(row.len(), 47) < table.len() {
         return sums;
     }
     for (i, tap) in table.iter().enumerate() {

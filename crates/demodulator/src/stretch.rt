@@ -79,7 +79,7 @@ fn count_quiet(left: usize, wait: Option<Waiting>) -> usize
     let most = left.min(MOST);
     match wait {
         None => most,
-        Some(w) => (w.left as usize).saturating_sub(1).min(most),
+        Some(w) => numbers::saturating_sub(w.left as usize, 1).min(most),
     }
 }
 

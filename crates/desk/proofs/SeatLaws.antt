@@ -1,7 +1,10 @@
--- An open, the carrier query and a close, by their tests. Assumes nothing.
+-- An open, the gate, the carrier query and a close, by their tests. Assumes nothing.
 use mathlib.Core.Path.{◌≡◌, refl, sym, ap, ◌∙◌, subst}
 use mathlib.Core.Bool.{Bool, true, false, not, cond}
-use Prim.Native.Nat.{ℕ}
+use mathlib.Core.List.{List}
+use Prim.Native.Nat.{ℕ, ◌<◌}
+use native.Mathlib.Omega.{arith}
+use borrow.Author.Tests.{ltb-false}
 use lib.Dec.{T, ltb}
 use Rattle.demodulator.specs.declared.SoftDemodulator.{SoftDemodulator}
 use Rattle.shaping.specs.Rate.{rate_fit, samples_in_lem}
@@ -10,7 +13,7 @@ use Rattle.demodulator.specs.Fit.{record_fit_lem, unfit_number}
 use Rattle.demodulator.specs.Calls.{Paper, refusal, done, carrier, is_refusal, timer_held, detected}
 use Rattle.desk.specs.declared.Desk.{Desk}
 use Rattle.desk.specs.Desk.{receiver_at, is_open, started, shut_at}
-use Rattle.desk.specs.Passage.{Entered, turned, goes, entered, no_such_seat, seat_is_open}
+use Rattle.desk.specs.Passage.{Entered, turned, goes, entered, no_such_seat, seat_is_open, seat_closed}
 use Rattle.desk.specs.Calls.{open_answer, open_leaves, SeatLeft, closed_by, seat_shut, seat_fit}
 
 -- ---- an open, by its tests
@@ -31,6 +34,26 @@ module _ (d : Desk) (s rate : ℕ) (low : ltb 7 s ≡ false) where
     ap (λ (b : Bool). Told b (is_open d.opened s) (rate_fit rate)) low ∙ ap (λ (b : Bool). Told false b (rate_fit rate)) e ∙ ap (λ (b : Bool). Told false false b) g,
     ap (λ (b : Bool). Next b (is_open d.opened s) (rate_fit rate)) low ∙ ap (λ (b : Bool). Next false b (rate_fit rate)) e ∙ ap (λ (b : Bool). Next false false b) g,
   )
+
+-- ---- the gate
+Going : Entered → Type 0
+Going (turned why) = ⊥
+Going goes = Unit {0}
+
+module _ (flags : List Bool) (s : ℕ) where
+  let_in : (far is : Bool) → cond far (turned no_such_seat) (cond is goes (turned seat_closed)) ≡ goes → (far ≡ false) × (is ≡ true)
+  unfolding Going
+  let_in true is e = absurd (subst Going (sym e) tt)
+  let_in false true e = (refl, refl)
+  let_in false false e = absurd (subst Going (sym e) tt)
+
+  pub goes_below : entered flags s ≡ goes → s < 8
+  unfolding entered
+  goes_below e = let low = ltb-false 7 s (let_in (ltb 7 s) (is_open flags s) e).0 in omega (arith, low)
+
+  pub goes_open : entered flags s ≡ goes → is_open flags s ≡ true
+  unfolding entered
+  goes_open e = (let_in (ltb 7 s) (is_open flags s) e).1
 
 pub never_both : {b : Bool} → b ≡ true → b ≡ false → ⊥
 never_both p q = subst T q (subst T (sym p) tt)

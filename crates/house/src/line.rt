@@ -64,7 +64,8 @@ fn symbols_of(line: [u8; 97]) -> [f32; 192]
     symbols
 }
 
-// A bad line has no symbols.
+// A bad line has no symbols. Where a caller asks only whether there are some, they are not worked out.
+#[inline]
 #[tactic(auto, unfolding(crate::specs::Line::read_line))]
 pub fn line_symbols(line: [u8; 97]) -> Option<[f32; 192]>
     ensures { LineSymbolsSays line result }

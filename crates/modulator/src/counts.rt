@@ -53,6 +53,6 @@ impl SampleCount {
     pub(crate) fn saturating_sub(self, other: SampleCount) -> SampleCount
         ensures { result.0 ≡ self.0 - other.0 }
     {
-        SampleCount(self.0.saturating_sub(other.0))
+        SampleCount(numbers::saturating_sub(self.0, other.0))
     }
 }

@@ -10,12 +10,19 @@ use super::{After, OutputBuffer, Pending, Progress, SampleCount, SoftModulator};
 use protocol::Refusal;
 use shaping::PerSymbol;
 
+// `usize::min`, the port's own.
+fn fewer(a: usize, b: usize) -> usize
+    ensures { result ≡ min a b }
+{
+    if b < a { b } else { a }
+}
+
 // Zeros for as much of the padding as the room holds.
 fn write_padding(padding: SampleCount, room: &mut [i16]) -> usize
     ensures count { result ≡ min (length room.old) padding.0 }
     ensures zeros { room.new ≡ written (λ (i : ℕ). pos 0) result room.old }
 {
-    let end = usize::min(room.len(), padding.0);
+    let end = fewer(room.len(), padding.0);
     room[..end].fill(0);
     end
 }
@@ -26,7 +33,7 @@ fn copy_frame(store: &[i16; 4000], read: usize, len: usize, room: &mut [i16]) ->
     ensures count { result ≡ min (length room.old) (len - read) }
     ensures samples { room.new ≡ written (λ (i : ℕ). get_or store.now (read + i) (pos 0)) result room.old }
 {
-    let end = usize::min(room.len(), len - read);
+    let end = fewer(room.len(), len - read);
     room[..end].copy_from_slice(&store[read..read + end]);
     end
 }

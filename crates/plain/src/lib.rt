@@ -20,7 +20,7 @@ mod pursuit;
 const LONGEST: usize = 65_536;
 
 // A reply is `true` for accepted. Offer i has five numbers from place 5i on, its kind by the order of trial, its sample, where it was taken, its age and its mark, and 192 symbols from place
-// 192i on. What is past the list stays as it was.
+// 192i on. What is past the list stays as it was. The answer is how many offers the list has: the last of them is unanswered exactly where there are more of them than replies.
 pub fn list_offers(
     rate: u32,
     recording: &[i16],

@@ -51,7 +51,7 @@ impl Ring {
         ensures keeps { self.new.p ≡ self.old.p }
         ensures enters { line_at self.new.values self.new.cursor ≡ after self.old.p (pulses self.old.p (listed symbols.now)) (self.old.p * length symbols.now) (line_at self.old.values self.old.cursor) }
     {
-        let passed = symbols.len().saturating_sub(9);
+        let passed = numbers::saturating_sub(symbols.len(), 9);
         let places = 8 * self.p.samples() + 1;
         self.cursor = (self.cursor + self.p.samples() * passed) % places;
         for symbol in &symbols[passed..] {

@@ -40,7 +40,8 @@ fn number_in_whole(offer: Offer, start: usize) -> Offer
 }
 
 // The first offer due at sample `sample` of the recording or after it. A fresh receiver hears the part after the last pause that ends before that
-// sample, and is answered by the receive program's rule.
+// sample, and is answered by the receive program's rule. None: no offer is due from the sample on. An offer is numbered in the recording, and its
+// symbols are in the caller's room.
 pub fn open(
     rate: u32,
     recording: &[i16],

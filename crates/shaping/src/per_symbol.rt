@@ -24,13 +24,16 @@ impl PerSymbol {
     ghost use Rattle.shaping.specs.Rate.{PerSymbolOfSays, SamplesSays};
 
     // None at a rate that is none of the two.
+    #[tactic(auto, using(crate::proofs::RateFacts::rate_known))]
     pub fn of(rate: u32) -> Option<PerSymbol>
         ensures { PerSymbolOfSays rate result }
     {
-        match rate {
-            48000 => Some(PerSymbol { samples: 10 }),
-            24000 => Some(PerSymbol { samples: 5 }),
-            _ => None,
+        if crate::is_rate(rate) {
+            Some(PerSymbol {
+                samples: crate::samples_in(rate),
+            })
+        } else {
+            None
         }
     }
 

@@ -12,6 +12,6 @@ use Rattle.modulator.proofs.output.write_padding.Goals as goal
 
 pub returns : goal.returns
 returns c =
-    let end = c.min-end.result in
-    let filled : c.fill.new.self ≡ firsts (λ (_ : ℕ). pos 0) end = c.fill.ensures.after (λ y h. h) ∙ rw (length-take-le end c.args.room.now (omega (arith, c.min-end.ensures))) (sym (firsts_replicate (pos 0) end)) in
-    record { count = c.min-end.ensures; zeros = ap (λ (l : List ℤ). l ++ drop end c.args.room.now) filled }
+    let end = c.fewer-end.result in
+    let filled : c.fill.new.self ≡ firsts (λ (_ : ℕ). pos 0) end = c.fill.ensures.after (λ y h. h) ∙ rw (length-take-le end c.args.room.now (omega (arith, c.fewer-end.ensures))) (sym (firsts_replicate (pos 0) end)) in
+    record { count = c.fewer-end.ensures; zeros = ap (λ (l : List ℤ). l ++ drop end c.args.room.now) filled }
